@@ -1,0 +1,18 @@
+//! The files of a folder.
+
+use crate::{Bytes, List};
+
+/// A file's place in a folder.
+#[derive(Drop)]
+pub enum Slot {
+    /// There is no such file.
+    Absent,
+    /// The file's bytes.
+    Held(Bytes),
+}
+
+/// The seventeen files of a folder, in the order of their numbers.
+#[derive(Drop)]
+pub struct Files {
+    pub slots: List<Slot>,
+}

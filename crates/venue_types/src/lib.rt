@@ -1,0 +1,31 @@
+//! The types that the crates of the venue server share.
+#![tactic(auto)]
+
+mod bytes;
+mod feature_id;
+mod features;
+mod files;
+mod finding;
+mod kind;
+mod link;
+mod list;
+mod memory;
+mod point;
+mod settings;
+mod text;
+
+pub use bytes::Bytes;
+pub use feature_id::FeatureId;
+pub use features::{
+    AmenityRow, AnchorRow, BuildingRow, DetailRow, Features, FixtureRow, FootprintRow, KioskRow,
+    Label, LevelRow, OccupantRow, OpeningRow, PlainRow, Ref, RelationshipRow, UnitRow, VenueRow,
+};
+pub use files::{Files, Slot};
+pub use finding::{Finding, Note, Report};
+pub use kind::{Class, Kind};
+pub use link::{Link, LinkFacts, Node, Potential, Touches};
+pub use list::List;
+pub use memory::OutOfMemory;
+pub use point::{Line, Part, Point, Ring, Shape, Spot};
+pub use settings::{Extras, Profile, Settings};
+pub use text::Text;

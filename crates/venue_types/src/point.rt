@@ -1,0 +1,42 @@
+//! Places on the ground, and the figures made of them.
+
+use crate::List;
+
+/// A position: longitude and latitude in whole nanodegrees (10^-9 degree).
+#[derive(Clone, Copy, Debug, PartialEq, Eq)]
+pub struct Point {
+    pub x: i64,
+    pub y: i64,
+}
+
+/// A place at twice its position, so that the middle of two positions is whole too.
+#[derive(Clone, Copy, Debug, PartialEq, Eq)]
+pub struct Spot {
+    pub x: i64,
+    pub y: i64,
+}
+
+/// A closed line, whose last point equals its first (RFC 7946, section 3.1.6).
+#[derive(Drop)]
+pub struct Ring {
+    pub points: List<Point>,
+}
+
+/// A polygon: its border, and the borders of its holes.
+#[derive(Drop)]
+pub struct Part {
+    pub outer: Ring,
+    pub holes: List<Ring>,
+}
+
+/// One or more polygons (RFC 7946, sections 3.1.6 and 3.1.7).
+#[derive(Drop)]
+pub struct Shape {
+    pub parts: List<Part>,
+}
+
+/// A line from point to point (RFC 7946, section 3.1.4).
+#[derive(Drop)]
+pub struct Line {
+    pub points: List<Point>,
+}
