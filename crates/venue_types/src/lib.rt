@@ -12,6 +12,8 @@ mod list;
 mod memory;
 mod point;
 mod settings;
+#[cfg(test)]
+mod tests;
 mod text;
 
 pub use bytes::Bytes;

@@ -1,0 +1,23 @@
+//! The outside of the program: folders, streams and doors as traits, each with a meaning and a count of faults, and what
+//! implements them in memory and for real.
+#![tactic(auto)]
+
+mod doors;
+mod folders;
+mod memory;
+mod memory_folders;
+mod memory_stream;
+mod outside;
+mod quiet;
+mod stream;
+#[cfg(test)]
+mod tests;
+
+pub use doors::Doors;
+pub use folders::{Folders, ReadFault};
+pub use memory::OutOfMemory;
+pub use memory_folders::{MemoryFile, MemoryFolders};
+pub use memory_stream::MemoryStream;
+pub use outside::{Console, DirFolders};
+pub use quiet::{QuietDoors, QuietFolders};
+pub use stream::{Failed, Stream};

@@ -1,0 +1,112 @@
+//! Folders in memory.
+
+ghost use Rattle.std.specs.Prelude.{◌≡◌, ℕ, ◌+◌, ◌^◌, ◌<◌, List, Some, IfOk, IsOk, IsErrOf};
+ghost use Rattle.std.specs.Option.{option_map};
+ghost use Rattle.venue_ports.specs.Files.{file_at, has_names, ReadsFile};
+ghost use Rattle.venue_ports.specs.Stored.{stored_file, stored_files};
+
+use crate::folders::{Folders, ReadFault};
+use crate::memory::OutOfMemory;
+use std::alloc::Global;
+
+/// A file with its names.
+#[derive(Drop)]
+pub struct MemoryFile {
+    pub folder: String,
+    pub file: String,
+    pub bytes: Vec<u8>,
+}
+
+/// Folders over a list, of which some reads are to fail.
+#[derive(Drop)]
+pub struct MemoryFolders {
+    files: Vec<MemoryFile>,
+    failing: Vec<u64>,
+    reads: u64,
+    faults: u64,
+}
+
+impl MemoryFolders {
+    ghost use Rattle.venue_ports.specs.InMemory.{memory_files};
+
+    /// The last of two files with equal names counts. The reads with these numbers, from 1, fail. Takes no memory.
+    pub fn new(files: Vec<MemoryFile>, failing: Vec<u64>) -> Result<MemoryFolders, OutOfMemory>
+        ensures succeeds { IsOk result }
+        ensures files { IfOk result (λ f. memory_files f ≡ Some (stored_files files.items)) }
+    {
+        Ok(MemoryFolders {
+            files,
+            failing,
+            reads: 0,
+            faults: 0,
+        })
+    }
+}
+
+// Whether a file has these names.
+fn has_names(stored: &MemoryFile, folder: &str, file: &str) -> bool
+    ensures { result ≡ has_names folder.now file.now (stored_file stored.now) }
+{
+    stored.folder.as_str() == folder && stored.file.as_str() == file
+}
+
+// The bytes of the last file with these names.
+fn last_bytes<'a>(files: &'a [MemoryFile], folder: &str, file: &str) -> Option<&'a [u8]>
+    ensures { option_map (λ x. x.now) result ≡ file_at (stored_files files.now) folder.now file.now }
+{
+    let mut found = None;
+    for stored in files {
+        if has_names(stored, folder, file) {
+            found = Some(stored.bytes.as_slice());
+        }
+    }
+    found
+}
+
+/// What a read of these files gives.
+pub(crate) fn read_memory(
+    alloc: Global,
+    files: &[MemoryFile],
+    folder: &str,
+    file: &str,
+    most: u64,
+) -> Result<Option<Vec<u8>>, ReadFault>
+    requires { most < 2 ^ 32 }
+    ensures bytes { ReadsFile (Some (stored_files files.now)) folder.now file.now most result }
+    ensures cause { IsErrOf result ReadFault.Failed → ⊥ }
+{
+    match last_bytes(files, folder, file) {
+        None => Ok(None),
+        Some(bytes) => {
+            let len = bytes.len().min(most as usize + 1);
+            Ok(Some(Vec::from_slice(alloc, &bytes[..len])?))
+        }
+    }
+}
+
+impl Folders for MemoryFolders {
+    ghost use Rattle.venue_ports.specs.InMemory.{memory_files};
+
+    ghost files = { memory_files };
+
+    ghost faults = { λ f. f.faults };
+
+    fn fault_count(&self) -> u64 {
+        self.faults
+    }
+
+    fn read(
+        &mut self,
+        alloc: Global,
+        folder: &str,
+        file: &str,
+        most: u64,
+    ) -> Result<Option<Vec<u8>>, ReadFault> {
+        self.reads = self.reads.saturating_add(1);
+        if self.failing.contains(&self.reads) {
+            self.faults = self.faults.saturating_add(1);
+            return Err(ReadFault::Failed);
+        }
+        read_memory(alloc, &self.files, folder, file, most)
+    }
+}

@@ -1,0 +1,121 @@
+//! The real directory and the standard streams. They tell no content.
+
+ghost use Rattle.std.specs.Prelude.{◌≡◌, ◌+◌, ◌^◌, ◌<◌, ◌≤◌, None};
+
+use crate::folders::{Folders, ReadFault};
+use crate::stream::{Failed, Stream};
+use std::alloc::Global;
+use std::fs::OpenFile;
+use std::io::{ErrorKind, Read, Write};
+use std::rt::Files;
+use std::{fs, io};
+
+/// The real directory: a file's path is its folder, `/` and its name.
+#[derive(Drop)]
+pub struct DirFolders<R> {
+    rt: R,
+    faults: u64,
+}
+
+impl<R> DirFolders<R> {
+    pub fn new(rt: R) -> DirFolders<R> {
+        DirFolders { rt, faults: 0 }
+    }
+}
+
+// How many bytes a file seems to have, at most so many.
+fn expected<F: OpenFile>(file: &F, most: u64) -> u64
+    ensures { result ≤ most }
+{
+    match file.metadata() {
+        Ok(metadata) => metadata.len().min(most),
+        Err(_) => 0,
+    }
+}
+
+// The bytes of a file, cut after most + 1. Room for them is taken at once, so that they are never copied.
+fn read_cut<R: Files>(rt: &R, alloc: Global, path: &str, most: u64) -> io::Result<Vec<u8>>
+    requires { most < 2 ^ 32 }
+{
+    let file = fs::open(rt, path)?;
+    let mut bytes = Vec::new(alloc);
+    bytes.reserve_exact(expected(&file, most) as usize + 1)?;
+    file.take(most + 1).read_to_end(&mut bytes)?;
+    Ok(bytes)
+}
+
+impl<R: Files> Folders for DirFolders<R> {
+    ghost files = { λ _. None };
+
+    ghost faults = { λ d. d.faults };
+
+    fn fault_count(&self) -> u64 {
+        self.faults
+    }
+
+    fn read(
+        &mut self,
+        alloc: Global,
+        folder: &str,
+        file: &str,
+        most: u64,
+    ) -> Result<Option<Vec<u8>>, ReadFault> {
+        let path = format!(in alloc; "{folder}/{file}")?;
+        match read_cut(&self.rt, alloc, path.as_str(), most) {
+            Ok(bytes) => Ok(Some(bytes)),
+            Err(error) => match error.kind() {
+                ErrorKind::NotFound => Ok(None),
+                ErrorKind::OutOfMemory => Err(ReadFault::OutOfMemory),
+                _ => {
+                    self.faults = self.faults.saturating_add(1);
+                    Err(ReadFault::Failed)
+                }
+            },
+        }
+    }
+}
+
+/// Standard input and output. A write that takes nothing is a failure.
+#[derive(Drop)]
+pub struct Console<R> {
+    rt: R,
+    faults: u64,
+}
+
+impl<R> Console<R> {
+    pub fn new(rt: R) -> Console<R> {
+        Console { rt, faults: 0 }
+    }
+}
+
+impl<R: Input + Print> Stream for Console<R> {
+    ghost left = { λ _. None };
+
+    ghost written = { λ _. None };
+
+    ghost faults = { λ c. c.faults };
+
+    fn fault_count(&self) -> u64 {
+        self.faults
+    }
+
+    fn read(&mut self, buf: &mut [u8]) -> Result<usize, Failed> {
+        match self.rt.reader().read(buf) {
+            Ok(count) => Ok(count),
+            Err(_) => {
+                self.faults = self.faults.saturating_add(1);
+                Err(Failed)
+            }
+        }
+    }
+
+    fn write(&mut self, piece: &[u8]) -> Result<usize, Failed> {
+        match io::writer(&self.rt).write(piece) {
+            Ok(count) if count > 0 => Ok(count),
+            _ => {
+                self.faults = self.faults.saturating_add(1);
+                Err(Failed)
+            }
+        }
+    }
+}

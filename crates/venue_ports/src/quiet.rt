@@ -1,0 +1,123 @@
+//! Folders and doors in memory that never fail.
+
+ghost use Rattle.std.specs.Prelude.{◌≡◌, ℕ, ◌+◌, ◌^◌, ◌-◌, ◌≤◌, List, Some, IfOk, IsOk, Bool, min, length, false, IsTrue};
+ghost use Rattle.venue_ports.specs.Stored.{stored_files};
+
+use crate::doors::Doors;
+use crate::folders::{Folders, ReadFault};
+use crate::memory::OutOfMemory;
+use crate::memory_folders::{MemoryFile, read_memory};
+use crate::memory_stream::MemoryStream;
+use crate::stream::Failed;
+use std::alloc::Global;
+
+/// Folders over a list.
+#[derive(Drop)]
+pub struct QuietFolders {
+    files: Vec<MemoryFile>,
+}
+
+impl QuietFolders {
+    ghost use Rattle.venue_ports.specs.InMemory.{quiet_files};
+
+    /// The last of two files with equal names counts. Takes no memory.
+    pub fn new(files: Vec<MemoryFile>) -> Result<QuietFolders, OutOfMemory>
+        ensures succeeds { IsOk result }
+        ensures files { IfOk result (λ f. quiet_files f ≡ Some (stored_files files.items)) }
+    {
+        Ok(QuietFolders { files })
+    }
+}
+
+impl Folders for QuietFolders {
+    ghost use Rattle.venue_ports.specs.InMemory.{quiet_files};
+
+    ghost files = { quiet_files };
+
+    ghost faults = { λ _. 0 };
+
+    fn fault_count(&self) -> u64 {
+        0
+    }
+
+    fn read(
+        &mut self,
+        alloc: Global,
+        folder: &str,
+        file: &str,
+        most: u64,
+    ) -> Result<Option<Vec<u8>>, ReadFault> {
+        read_memory(alloc, &self.files, folder, file, most)
+    }
+}
+
+/// Doors over a list of streams.
+#[derive(Drop)]
+pub struct QuietDoors {
+    alloc: Global,
+    streams: Vec<MemoryStream>,
+    ready: bool,
+    accepted: u64,
+    binds: u64,
+    bound: [u8; 256],
+    bound_len: usize,
+}
+
+impl QuietDoors {
+    ghost use Rattle.venue_ports.specs.Quiet.{quiet_ready, quiet_accepted, quiet_binds};
+
+    /// Doors that are not ready, with the connections that are to come, the last first.
+    pub fn new(alloc: Global, streams: Vec<MemoryStream>) -> Result<QuietDoors, OutOfMemory>
+        ensures succeeds { IsOk result }
+        ensures ready { IfOk result (λ d. quiet_ready d ≡ false) }
+        ensures accepted { IfOk result (λ d. quiet_accepted d ≡ 0) }
+        ensures binds { IfOk result (λ d. quiet_binds d ≡ Some 0) }
+    {
+        Ok(QuietDoors {
+            alloc,
+            streams,
+            ready: false,
+            accepted: 0,
+            binds: 0,
+            bound: [0; 256],
+            bound_len: 0,
+        })
+    }
+}
+
+impl Doors for QuietDoors {
+    type Conn = MemoryStream;
+
+    ghost use Rattle.venue_ports.specs.Quiet.{quiet_ready, quiet_accepted, quiet_binds, quiet_bound};
+
+    ghost ready = { quiet_ready };
+
+    ghost accepted = { quiet_accepted };
+
+    ghost binds = { quiet_binds };
+
+    ghost bound = { quiet_bound };
+
+    ghost faults = { λ _. 0 };
+
+    fn fault_count(&self) -> u64 {
+        0
+    }
+
+    fn bind(&mut self, address: &str) -> Result<(), Failed> {
+        let bytes = address.as_bytes();
+        self.bound[..bytes.len()].copy_from_slice(bytes);
+        self.bound_len = bytes.len();
+        self.binds = self.binds.saturating_add(1);
+        self.ready = true;
+        Ok(())
+    }
+
+    fn accept(&mut self) -> Result<MemoryStream, Failed> {
+        self.accepted = self.accepted.saturating_add(1);
+        match self.streams.pop() {
+            Some(stream) => Ok(stream),
+            None => Ok(MemoryStream::empty(self.alloc)),
+        }
+    }
+}
