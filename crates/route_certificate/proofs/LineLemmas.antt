@@ -10,7 +10,7 @@ use Rattle.venue_types.proofs.IdentifierLemmas.{identifier_text-high, identifier
 use Rattle.text_forms.specs.Lines.{line, word}
 use Rattle.text_forms.specs.Fronts.{Lacks}
 use Rattle.text_forms.proofs.ListLemmas.{IsUnique}
-use Rattle.text_forms.proofs.LineLemmas.{word_unique, lines_unique, Lacks-word, Lacks-number, Lacks-four}
+use Rattle.text_forms.proofs.LineLemmas.{word_unique, lines_unique, Lacks-word, Lacks-number, Lacks-test}
 use Rattle.route_certificate.specs.declared.table.Row.{Row}
 use Rattle.route_certificate.specs.Forms.{node_body, link_body, from_body, step_body, node_line, link_line, from_line, step_line, FitsId, FitsRow, FitsStep}
 use Rattle.route_certificate.specs.Fronts.{FitsFrom}
@@ -25,7 +25,7 @@ Lacks-identifier stop id low = Lacks-high stop 45 (identifier_text id) low (iden
 -- ---- the bodies of lines lack LF
 
 pub Lacks-node_body : (id : FeatureId) → Lacks 10 (node_body id)
-Lacks-node_body id = Lacks-word (codes "node") (identifier_text id) (Lacks-four _ _ _ _ (omega arith) (omega arith) (omega arith) (omega arith)) (Lacks-identifier 10 id (omega arith))
+Lacks-node_body id = Lacks-word (codes "node") (identifier_text id) (Lacks-test 10 (codes "node") refl) (Lacks-identifier 10 id (omega arith))
 
 pub record Small (row : Row) : Type 0 where
   pub from : row.from < 2 ^ 64
@@ -37,16 +37,16 @@ small_row nodes row few fits = record { from = omega (arith, fits.from); to = om
 
 pub Lacks-link_body : (row : Row) → Small row → Lacks 10 (link_body row)
 Lacks-link_body row small =
-    Lacks-word (codes "link") _ (Lacks-four _ _ _ _ (omega arith) (omega arith) (omega arith) (omega arith))
+    Lacks-word (codes "link") _ (Lacks-test 10 (codes "link") refl)
     (Lacks-word (decimal row.from) _ (Lacks-number row.from small.from)
     (Lacks-word (decimal row.to) _ (Lacks-number row.to small.to)
     (Lacks-word (decimal row.cost) _ (Lacks-number row.cost small.cost) (Lacks-identifier 10 row.via (omega arith)))))
 
 pub Lacks-step_body : (k : ℕ) → k < 2 ^ 64 → Lacks 10 (step_body k)
-Lacks-step_body k fits = Lacks-word (codes "step") (decimal k) (Lacks-four _ _ _ _ (omega arith) (omega arith) (omega arith) (omega arith)) (Lacks-number k fits)
+Lacks-step_body k fits = Lacks-word (codes "step") (decimal k) (Lacks-test 10 (codes "step") refl) (Lacks-number k fits)
 
 pub Lacks-from_body : (k : ℕ) → k < 2 ^ 64 → Lacks 10 (from_body k)
-Lacks-from_body k fits = Lacks-word (codes "from") (decimal k) (Lacks-four _ _ _ _ (omega arith) (omega arith) (omega arith) (omega arith)) (Lacks-number k fits)
+Lacks-from_body k fits = Lacks-word (codes "from") (decimal k) (Lacks-test 10 (codes "from") refl) (Lacks-number k fits)
 
 -- ---- the words of a link
 

@@ -1,5 +1,5 @@
 -- How far a text of a form was read.
-use Rattle.std.specs.Prelude.{◌≡◌, ℕ, ◌^◌, ◌<◌, ◌≤◌, List, ◌∷◌, ◌++◌, length}
+use Rattle.std.specs.Prelude.{◌≡◌, ℕ, ◌^◌, ◌<◌, ◌≤◌, List, ◌++◌, length}
 use Rattle.std.specs.List.{flat_map, AllByRecursion}
 use Rattle.text_forms.specs.Fronts.{HasNone}
 use Rattle.venue_types.specs.declared.feature_id.FeatureId.{FeatureId}
@@ -23,4 +23,4 @@ pub record FitsFrom (nodes n : ℕ) : Type 0 where
 abbrev pub IsEnding : List ℕ → Ending → Type 0
 IsEnding text Whole = text ≡ end_line
 IsEnding text Missing = (more : List ℕ) → text ≡ end_line ++ more → ⊥
-IsEnding text TextBehind = (b : ℕ) × (more : List ℕ) × (text ≡ end_line ++ b ∷ more)
+IsEnding text TextBehind = (behind : List ℕ) × (text ≡ end_line ++ behind) × (0 < length behind)

@@ -19,7 +19,7 @@ pub(crate) fn read_end(text: &[u8]) -> Ending
 {
     match after(text, b"end\n") {
         None => Ending::Missing,
-        Some([]) => Ending::Whole,
+        Some(behind) if behind.is_empty() => Ending::Whole,
         Some(_) => Ending::TextBehind,
     }
 }

@@ -153,6 +153,16 @@ HasNone-line spelling body Fits is lacks rest front after more none cut x tail f
     let same = lines_unique front (body x) more tail cut.first (lacks x fits) (e ∙ ap (λ (t : List ℕ). t ++ tail) (is x)) in
     none x after fits (cut.parts ∙ sym (line_front front after) ∙ ap (λ (t : List ℕ). line t ++ after) same.0 ∙ ap (λ (t : List ℕ). t ++ after) (sym (is x)))
 
+-- where each text of the form begins with a line, and the text does not
+pub other_head : (Text : List ℕ → Type 0) (text head : List ℕ) → Lacks 10 head → ((whole : List ℕ) → Text whole → (tail : List ℕ) × (whole ≡ line head ++ tail))
+    → ((tail : List ℕ) → text ≡ line head ++ tail → ⊥) → IsFaultLine Text text 1
+other_head Text text head lacks begins none =
+    first_faulty Text text (λ is. let whole = begins text is in none whole.0 whole.1)
+    (λ body after more cut is.
+    let whole = begins (line body ++ more) is in
+    let same = lines_unique body head more whole.0 cut.first lacks whole.1 in
+    none after (cut.parts ∙ sym (line_front body after) ∙ ap (λ (t : List ℕ). line t ++ after) same.0))
+
 -- ---- at most one line is the faulty one
 
 pub fault_unique : (Text : List ℕ → Type 0) (text : List ℕ) (m n : ℕ) → IsFaultLine Text text m → IsFaultLine Text text n → m ≡ n

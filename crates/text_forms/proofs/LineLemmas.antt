@@ -1,5 +1,6 @@
 -- Lines and their words are read in one way.
-use Rattle.std.proofs.Common.{◌≡◌, ℕ, ◌^◌, ◌<◌, List, [], ◌∷◌, ◌++◌, sym, subst, ◌∙◌, append_assoc, arith}
+use Rattle.std.proofs.Common.{◌≡◌, ℕ, ◌^◌, ◌<◌, Bool, true, not, ◌&&◌, ◌==◌, List, [], ◌∷◌, ◌++◌, sym, subst, ◌∙◌, append_assoc, arith}
+use Rattle.std.proofs.lemmas.Bool.Decides.{nat_tests}
 use Rattle.std.proofs.lemmas.Fmt.{decimal_injective}
 use Rattle.std.specs.Fmt.{decimal}
 use Rattle.text_forms.specs.Lines.{line, word}
@@ -30,9 +31,17 @@ Lacks-word first rest p q = Lacks-append 10 first (32 ∷ rest) p ((λ e. omega 
 pub Lacks-number : (n : ℕ) → n < 2 ^ 64 → Lacks 10 (decimal n)
 Lacks-number n fits = Lacks-decimal 10 n (omega arith) fits
 
-apart : (b : ℕ) → 10 < b → b ≡ 10 → ⊥
-apart b h e = omega arith
+-- ---- texts that are written out
 
--- a word of four bytes
-pub Lacks-four : (a b c d : ℕ) → 10 < a → 10 < b → 10 < c → 10 < d → Lacks 10 (a ∷ b ∷ c ∷ d ∷ [])
-Lacks-four a b c d p q r s = (apart a p, (apart b q, (apart c r, (apart d s, tt))))
+abbrev pub lacks : ℕ → List ℕ → Bool
+lacks stop [] = true
+lacks stop (b ∷ bs) = not (b == stop) && lacks stop bs
+
+one_lacks : (b stop : ℕ) (others : Bool) → not (b == stop) && others ≡ true → (b ≡ stop → ⊥) × (others ≡ true)
+one_lacks b stop others h = (λ e. grind (arith, nat_tests), grind (arith, nat_tests))
+
+pub Lacks-test : (stop : ℕ) (bs : List ℕ) → lacks stop bs ≡ true → Lacks stop bs
+Lacks-test stop [] h = tt
+Lacks-test stop (b ∷ bs) h =
+    let one = one_lacks b stop (lacks stop bs) h in
+    (one.0, Lacks-test stop bs one.1)

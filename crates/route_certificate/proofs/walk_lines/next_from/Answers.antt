@@ -12,7 +12,7 @@ pub returns-in_err-place-clause-none : goal.returns-in_err-place-clause-none
 unfolding from_line
 returns-in_err-place-clause-none c =
     rw c.from_residual-in_err-place.ensures (λ k more fits e.
-    let same = same_line c.args.text.now c.in_ok-body.body.now c.in_ok-body.rest.now (from_body k) more c.in_ok-body.ensures.found (Lacks-from_body k (omega (arith, fits))) e in
+    let same = same_line c.args.text.now c.in_ok-body.body.now c.in_ok-body.rest.now (from_body k) more c.in_ok-body.ensures.found (Lacks-from_body k (omega (arith, fits.small))) e in
     c.in_err-place.ensures.none k fits same.0)
 
 pub returns-clause-found : goal.returns-clause-found
