@@ -5,3 +5,4 @@ pub mod WalkLemmas
 pub mod WalkFaults
 pub mod WrittenLemmas
 pub mod PriceLemmas
+pub mod FaultNames

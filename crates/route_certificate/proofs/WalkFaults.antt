@@ -101,3 +101,10 @@ text_behind text table from steps rest behind read ends some =
     let as_read = subst (λ (t : List ℕ). IsWalkText t table is.0) (append_assoc (front_of from steps) end_line more' ∙ front_is from steps (end_line ++ more')) is.1 in
     let same = walk_of _ table from steps (end_line ++ more') is.0 (record { parts = refl; start = read.start; steps_fit = read.steps_fit; no_step = no_step_behind more' }) as_read in
     too_long more' (line_some body more) same.rest_is)
+
+counted : (nodes : List FeatureId) → (nodes ≡ [] → ⊥) → 0 < length nodes
+counted [] some = absurd (some refl)
+counted (x ∷ nodes) some = omega arith
+
+pub some_nodes : (table : Table) → (table.nodes ≡ [] → ⊥) → 0 < length table.nodes
+some_nodes table some = counted table.nodes some
