@@ -1,0 +1,18 @@
+//! What follows from the forms alone.
+
+ghost use Rattle.std.specs.Prelude.{◌≡◌, ℕ, List};
+ghost use Rattle.route_certificate.specs.declared.table.Table.{Table};
+ghost use Rattle.route_certificate.specs.declared.table.WalkIn.{WalkIn};
+ghost use Rattle.route_certificate.specs.Forms.{IsTable, IsWalkText};
+
+/// A text is the text of at most one table, and a table has at most one text.
+pub fn table_law()
+    ensures one_table { (text : List ℕ) (a b : Table) → IsTable text a → IsTable text b → a ≡ b }
+    ensures one_text { (a b : List ℕ) (table : Table) → IsTable a table → IsTable b table → a ≡ b }
+{}
+
+/// A text is the text of at most one walk over a table, and a walk has at most one text.
+pub fn walk_law()
+    ensures one_walk { (text : List ℕ) (table : Table) (a b : WalkIn) → IsWalkText text table a → IsWalkText text table b → a ≡ b }
+    ensures one_text { (a b : List ℕ) (table : Table) (walk : WalkIn) → IsWalkText a table walk → IsWalkText b table walk → a ≡ b }
+{}

@@ -1,0 +1,4 @@
+pub mod Lines
+pub mod Fronts
+pub mod Faults
+pub mod Plain

@@ -1,0 +1,10 @@
+//! Text forms made of lines: their words and numbers, what stands at a front, and where a text stops being of a form.
+#![tactic(auto)]
+
+mod cuts;
+mod laws;
+mod numbers;
+
+pub use cuts::{after, cut_at};
+pub use laws::{Form, fault_line_law};
+pub use numbers::{number, number_word, push_number};
