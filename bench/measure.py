@@ -1,0 +1,38 @@
+"""Runs each command some times, in turns, and prints its least time and its peak memory.
+
+usage: measure.py ROUNDS NAME COMMAND [NAME COMMAND ..]   (a COMMAND is one word for the shell)
+The last line is the ratio of the first command's time to the second's.
+"""
+import os
+import subprocess
+import sys
+import time
+
+
+def run(command):
+    begin = time.monotonic()
+    child = subprocess.Popen(["sh", "-c", "exec " + command], stdout=subprocess.DEVNULL)
+    _, status, usage = os.wait4(child.pid, 0)
+    if os.waitstatus_to_exitcode(status) not in (0, 1):
+        sys.exit(f"{command}: status {os.waitstatus_to_exitcode(status)}")
+    return time.monotonic() - begin, usage.ru_maxrss / 1024
+
+
+def main():
+    rounds = int(sys.argv[1])
+    commands = list(zip(sys.argv[2::2], sys.argv[3::2]))
+    times = {name: [] for name, _ in commands}
+    peaks = {name: 0.0 for name, _ in commands}
+    for _ in range(rounds):
+        for name, command in commands:
+            seconds, peak = run(command)
+            times[name].append(seconds)
+            peaks[name] = max(peaks[name], peak)
+    for name, _ in commands:
+        print(f"{name}: {min(times[name]):.3f} s, peak {peaks[name]:.0f} MiB")
+    if len(commands) > 1:
+        first, second = commands[0][0], commands[1][0]
+        print(f"ratio {first} / {second}: {min(times[first]) / min(times[second]):.2f}")
+
+
+main()

@@ -1,0 +1,42 @@
+-- From the answer and what was written to how the run ends.
+use Rattle.std.proofs.Common.{◌≡◌, ℕ, List, ◌++◌, Option, Some, None, Result, Ok, Err, sym, subst, inl, codes}
+use Rattle.std.specs.Prelude.{IfSome, IfOk, string_bytes}
+use Rattle.venue_ports.specs.Files.{StoredFile}
+use Rattle.venue_ports.specs.Causes.{Rose}
+use Rattle.venue_ports.specs.declared.folders.ReadFault.{ReadFault}
+use Rattle.text_forms.specs.Lines.{line}
+use Rattle.venue_cli.specs.declared.answer.Answer.{Answer}
+use Rattle.venue_cli.specs.declared.status.Status.{Status}
+use Rattle.venue_cli.specs.declared.status.Status.TheVariants.{Done, Negative, Wrong, Fault, Memory}
+use Rattle.venue_cli.specs.Steps.{IsPrinted}
+use Rattle.venue_cli.specs.Commands.{Asked, Price, IsBase, IsAsked, words_of}
+use Rattle.venue_cli.specs.Output.{PriceOutput, Output, other_words, answers_price}
+use Rattle.venue_cli.specs.Ends.{Wrote, Run, Ends}
+
+pub price_told : (words : List (List ℕ)) (files : Option (List StoredFile)) (base : List ℕ) (r : Result Answer ReadFault) → IsBase base → words ≡ words_of (Price base)
+    → IfOk r (λ a. IfSome files (λ fs. PriceOutput fs base (string_bytes a.text) a.status)) → IfOk r (λ a. IfSome files (λ fs. Output words fs (string_bytes a.text) a.status))
+price_told words files base (Err e) is-base is told = tt
+price_told words None base (Ok a) is-base is told = tt
+price_told words (Some fs) base (Ok a) is-base is told = answers_price base is-base is told
+
+-- the words ask for nothing
+pub asks_nothing : (words : List (List ℕ)) → ((base : List ℕ) → IsBase base → words ≡ words_of (Price base) → ⊥) → (asked : Asked) → IsAsked asked → words ≡ words_of asked → ⊥
+asks_nothing words no_price (Price base) is-base is = no_price base is-base is
+
+pub other_told : (words : List (List ℕ)) (files : Option (List StoredFile)) (text : List ℕ) → ((asked : Asked) → IsAsked asked → words ≡ words_of asked → ⊥) → text ≡ line (codes "words")
+    → IfSome files (λ fs. Output words fs text Wrong)
+other_told words None text none is = tt
+other_told words (Some fs) text none is = subst (λ (t : List ℕ). Output words fs t Wrong) (sym is) (other_words none)
+
+pub ends_printed : (words : List (List ℕ)) (files : Option (List StoredFile)) (run : Run) (status : Status) (text : List ℕ) → IsPrinted status → Wrote run.written run.written_now text
+    → IfSome files (λ fs. Output words fs text status) → Ends words files run status
+ends_printed words files run Done text plain wrote output = record { text = text; wrote = wrote; output = output }
+ends_printed words files run Negative text plain wrote output = record { text = text; wrote = wrote; output = output }
+ends_printed words files run Wrong text plain wrote output = record { text = text; wrote = wrote; output = output }
+ends_printed words files run Fault text plain wrote output = absurd plain
+ends_printed words files run Memory text plain wrote output = absurd plain
+
+pub ends_cut : (words : List (List ℕ)) (files : Option (List StoredFile)) (run : Run) (status : Status) (text front rest : List ℕ) → Wrote run.written run.written_now front
+    → text ≡ front ++ rest → IfSome files (λ fs. Output words fs text status) → Rose run.console run.console_now → Ends words files run Fault
+ends_cut words files run status text front rest wrote parts output cause =
+    inl (record { text = front; rest = rest; status = status; wrote = wrote; output = subst (λ (t : List ℕ). IfSome files (λ fs. Output words fs t status)) parts output; cause = cause })

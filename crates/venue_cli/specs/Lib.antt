@@ -1,0 +1,6 @@
+pub mod Files
+pub mod Commands
+pub mod Output
+pub mod Steps
+pub mod Ends
+pub mod Codes

@@ -1,0 +1,42 @@
+-- What the program prints, and the status with which it ends, over the files that are told.
+use Rattle.std.specs.Prelude.{◌≡◌, ℕ, List, ◌++◌, codes}
+use Rattle.std.specs.Fmt.{decimal}
+use Rattle.venue_ports.specs.Files.{StoredFile, file_at}
+use Rattle.text_forms.specs.Lines.{line}
+use Rattle.route_certificate.specs.declared.table.Table.{Table}
+use Rattle.route_certificate.specs.declared.table.WalkIn.{WalkIn}
+use Rattle.route_certificate.specs.declared.table.Priced.{Priced}
+use Rattle.route_certificate.specs.declared.table.Priced.TheVariants.{Broken, Cost}
+use Rattle.route_certificate.specs.Forms.{IsTable, IsWalkText}
+use Rattle.route_certificate.specs.Prices.{IsPriced}
+use Rattle.venue_cli.specs.declared.status.Status.{Status}
+use Rattle.venue_cli.specs.declared.status.Status.TheVariants.{Done, Negative, Wrong}
+use Rattle.venue_cli.specs.Commands.{Asked, Price, IsAsked, words_of}
+use Rattle.venue_cli.specs.Files.{Reads, Stops, links_limit, links_name, walk_limit, walk_name}
+
+-- a walk's text over a table
+abbrev pub WalkForm : Table → List ℕ → WalkIn → Type 0
+WalkForm table text walk = IsWalkText text table walk
+
+abbrev pub priced_text : Priced → List ℕ
+priced_text (Cost cost) = line (codes "cost " ++ decimal cost)
+priced_text (Broken place) = line (codes "broken " ++ decimal place)
+
+abbrev pub priced_status : Priced → Status
+priced_status (Cost cost) = Done
+priced_status (Broken place) = Negative
+
+-- `price BASE`: the table is judged before the walk is read
+pub data PriceOutput (files : List StoredFile) (base : List ℕ) : List ℕ → Status → Type 0 where
+  no_table : {text : List ℕ} → Stops IsTable links_limit links_name (file_at files base links_name) text → PriceOutput files base text Wrong
+  no_walk : {text : List ℕ} (table : Table) → Reads IsTable links_limit (file_at files base links_name) table
+      → Stops (WalkForm table) walk_limit walk_name (file_at files base walk_name) text → PriceOutput files base text Wrong
+  priced : (table : Table) (walk : WalkIn) (outcome : Priced) → Reads IsTable links_limit (file_at files base links_name) table
+      → Reads (WalkForm table) walk_limit (file_at files base walk_name) walk → IsPriced table walk outcome
+      → PriceOutput files base (priced_text outcome) (priced_status outcome)
+
+-- the program: the words ask for nothing, or for a command
+pub data Output (words : List (List ℕ)) (files : List StoredFile) : List ℕ → Status → Type 0 where
+  other_words : ((asked : Asked) → IsAsked asked → words ≡ words_of asked → ⊥) → Output words files (line (codes "words")) Wrong
+  answers_price : {text : List ℕ} {status : Status} (base : List ℕ) → IsAsked (Price base) → words ≡ words_of (Price base) → PriceOutput files base text status
+      → Output words files text status

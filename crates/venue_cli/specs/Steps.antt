@@ -1,0 +1,32 @@
+-- What the parts of the program answer.
+use Rattle.std.specs.Prelude.{◌≡◌, ℕ, ◌<◌, ◌≤◌, List, length, Option, Some, None, Result, MatchResult}
+use Rattle.venue_cli.specs.declared.load.Loaded.{Loaded}
+use Rattle.venue_cli.specs.declared.load.Loaded.TheVariants as loaded
+use Rattle.venue_cli.specs.declared.status.Status.{Status}
+use Rattle.venue_cli.specs.declared.status.Status.TheVariants.{Done, Negative, Wrong, Fault, Memory}
+use Rattle.venue_cli.specs.declared.load.Cause.{Cause}
+use Rattle.venue_cli.specs.Files.{Reads, StopsBy}
+
+-- what a file is, against its limit
+abbrev pub IsLoaded : ℕ → Option (List ℕ) → Loaded → Type 0
+IsLoaded limit found loaded.Missing = found ≡ None
+IsLoaded limit found loaded.Large = (bytes : List ℕ) × (found ≡ Some bytes) × (limit < length bytes)
+IsLoaded limit found (loaded.Whole v) = (found ≡ Some v.items) × (length v.items ≤ limit)
+
+-- a file that was read whole is within its limit
+abbrev pub IsSmall : ℕ → Loaded → Type 0
+IsSmall limit loaded.Missing = Unit {0}
+IsSmall limit loaded.Large = Unit {0}
+IsSmall limit (loaded.Whole v) = length v.items ≤ limit
+
+-- a file of the base is read, or stops the command
+abbrev pub IsJudged : {X : Type 0} → (List ℕ → X → Type 0) → ℕ → Option (List ℕ) → Result X Cause → Type 0
+IsJudged Form limit found judged = MatchResult judged (Reads Form limit found) (StopsBy Form limit found)
+
+-- the statuses that come with a printed line
+abbrev pub IsPrinted : Status → Type 0
+IsPrinted Done = Unit {0}
+IsPrinted Negative = Unit {0}
+IsPrinted Wrong = Unit {0}
+IsPrinted Fault = ⊥
+IsPrinted Memory = ⊥

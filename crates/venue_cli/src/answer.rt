@@ -1,0 +1,93 @@
+//! What the program answers, before it is printed.
+
+ghost use Rattle.std.specs.Prelude.{◌≡◌, IfOk, IfSome, string_bytes, map};
+ghost use Rattle.venue_ports.specs.Files.{HasReadCause};
+ghost use Rattle.venue_cli.specs.Files.{stop_text};
+ghost use Rattle.venue_cli.specs.Output.{priced_text, priced_status, PriceOutput, Output};
+ghost use Rattle.venue_cli.specs.Steps.{IsPrinted};
+
+use crate::base::{table_of, walk_of};
+use crate::load::Cause;
+use crate::status::Status;
+use crate::words::price_base;
+use route_certificate::{Priced, price};
+use std::alloc::{AllocError, Global};
+use venue_ports::{Folders, ReadFault};
+
+/// A status, and the text that is printed with it.
+#[derive(Drop)]
+pub(crate) struct Answer {
+    pub status: Status,
+    pub text: String,
+}
+
+// The answer where a file of the base stops the command.
+fn stopped(alloc: Global, file: &str, cause: Cause) -> Result<Answer, AllocError>
+    ensures text { IfOk result (λ answer. string_bytes answer.text ≡ stop_text file.now cause) }
+    ensures status { IfOk result (λ answer. answer.status ≡ Status.Wrong) }
+{
+    let text = match cause {
+        Cause::Missing => format!(in alloc; "missing {file}\n")?,
+        Cause::Large => format!(in alloc; "large {file}\n")?,
+        Cause::Malformed(line) => format!(in alloc; "form {file} {line}\n")?,
+    };
+    Ok(Answer {
+        status: Status::Wrong,
+        text,
+    })
+}
+
+// The answer where the walk is priced.
+fn priced(alloc: Global, outcome: Priced) -> Result<Answer, AllocError>
+    ensures text { IfOk result (λ answer. string_bytes answer.text ≡ priced_text outcome) }
+    ensures status { IfOk result (λ answer. answer.status ≡ priced_status outcome) }
+{
+    match outcome {
+        Priced::Cost(cost) => Ok(Answer {
+            status: Status::Done,
+            text: format!(in alloc; "cost {cost}\n")?,
+        }),
+        Priced::Broken(place) => Ok(Answer {
+            status: Status::Negative,
+            text: format!(in alloc; "broken {place}\n")?,
+        }),
+    }
+}
+
+// The answer to `price BASE`.
+fn price_answer<F: Folders>(alloc: Global, base: &str, folders: &mut F) -> Result<Answer, ReadFault>
+    ensures told { IfOk result (λ answer. IfSome (F.files folders.old) (λ files. PriceOutput files base.now (string_bytes answer.text) answer.status)) }
+    ensures plain { IfOk result (λ answer. IsPrinted answer.status) }
+    ensures same { F.files folders.new ≡ F.files folders.old }
+    ensures cause { HasReadCause (F.faults folders.old) (F.faults folders.new) result }
+{
+    let table = match table_of(alloc, base, folders)? {
+        Ok(table) => table,
+        Err(cause) => return Ok(stopped(alloc, "links.txt", cause)?),
+    };
+    let walk = match walk_of(alloc, base, &table, folders)? {
+        Ok(walk) => walk,
+        Err(cause) => return Ok(stopped(alloc, "walk.txt", cause)?),
+    };
+    Ok(priced(alloc, price(&table, &walk))?)
+}
+
+/// The answer to the words of the command line.
+pub(crate) fn answer_to<F: Folders>(
+    alloc: Global,
+    words: &[String],
+    folders: &mut F,
+) -> Result<Answer, ReadFault>
+    ensures told { IfOk result (λ answer. IfSome (F.files folders.old) (λ files. Output (map string_bytes words.now) files (string_bytes answer.text) answer.status)) }
+    ensures plain { IfOk result (λ answer. IsPrinted answer.status) }
+    ensures same { F.files folders.new ≡ F.files folders.old }
+    ensures cause { HasReadCause (F.faults folders.old) (F.faults folders.new) result }
+{
+    match price_base(words) {
+        Some(base) => price_answer(alloc, base, folders),
+        None => Ok(Answer {
+            status: Status::Wrong,
+            text: String::from_str(alloc, "words\n")?,
+        }),
+    }
+}

@@ -1,0 +1,217 @@
+//! The program over folders and a console in memory.
+
+use crate::{Status, run};
+use std::alloc::Global;
+use std::process::Abort;
+use std::test::Fail;
+use venue_ports::{MemoryFile, MemoryFolders, MemoryStream, QuietDoors};
+
+const TABLE: &str =
+    "imdf-links 1\nnode 00000000-0000-4000-8000-000000000001\nnode 00000000-0000-4000-8000-000000000002\nnode 00000000-0000-4000-8000-000000000003\nlink 0 1 633 00000000-0000-4000-8000-000000000009\nlink 1 2 200 00000000-0000-4000-8000-000000000009\nlink 0 2 900 00000000-0000-4000-8000-000000000009\nend\n";
+
+const NODE: &str = "imdf-links 1\nnode 00000000-0000-4000-8000-000000000001\n";
+
+const LINK: &str =
+    "imdf-links 1\nnode 00000000-0000-4000-8000-000000000001\nlink 0 1 633 00000000-0000-4000-8000-000000000009\nend\n";
+
+const ZERO: &str =
+    "imdf-links 1\nnode 00000000-0000-4000-8000-000000000001\nlink 0 00 633 00000000-0000-4000-8000-000000000009\nend\n";
+
+const WALK: &str = "imdf-walk 1\nfrom 0\nstep 0\nstep 1\nend\n";
+
+// What lies below the base, which read fails, and what is then printed, with which status.
+#[derive(Clone, Copy)]
+struct Case<'a> {
+    links: &'a str,
+    walk: &'a str,
+    failing: u64,
+    text: &'a str,
+    status: Status,
+}
+
+// A case in which every file is there and no read fails; an empty text stands for a file that is not there.
+fn over<'a>(links: &'a str, walk: &'a str, text: &'a str, status: Status) -> Case<'a> {
+    Case {
+        links,
+        walk,
+        failing: 0,
+        text,
+        status,
+    }
+}
+
+// Adds a file of the base, unless its text is empty.
+fn add(alloc: Global, files: &mut Vec<MemoryFile>, name: &str, text: &str) -> Result<(), Fail> {
+    if !text.is_empty() {
+        files.push(MemoryFile {
+            folder: String::from_str(alloc, "base")?,
+            file: String::from_str(alloc, name)?,
+            bytes: Vec::from_slice(alloc, text.as_bytes())?,
+        })?;
+    }
+    Ok(())
+}
+
+// The status with which the words end, over a console with so much room.
+fn ends(
+    rt: &impl Abort,
+    alloc: Global,
+    words: &[&str],
+    case: Case<'_>,
+    console: &mut MemoryStream,
+) -> Result<Status, Fail> {
+    let mut files = Vec::new(alloc);
+    add(alloc, &mut files, "links.txt", case.links)?;
+    add(alloc, &mut files, "walk.txt", case.walk)?;
+    let failing = Vec::from_slice(alloc, &[case.failing])?;
+    let folders = MemoryFolders::new(files, failing).expect(rt, "folders");
+    let doors = QuietDoors::new(alloc, Vec::new(alloc)).expect(rt, "doors");
+    let mut owned = Vec::new(alloc);
+    for word in words {
+        owned.push(String::from_str(alloc, word)?)?;
+    }
+    Ok(run(alloc, owned.as_slice(), folders, doors, console).status)
+}
+
+// A console without input.
+fn console(
+    rt: &impl Abort,
+    alloc: Global,
+    room: usize,
+    failing: u64,
+) -> Result<MemoryStream, Fail> {
+    let writes = Vec::from_slice(alloc, &[failing])?;
+    let made = MemoryStream::new(
+        alloc,
+        Vec::new(alloc),
+        Vec::new(alloc),
+        room,
+        Vec::new(alloc),
+        writes,
+    );
+    Ok(made.expect(rt, "console"))
+}
+
+#[test]
+fn walks_are_priced(rt: HostRuntime) -> Result<(), Fail> {
+    let alloc = rt.alloc();
+    for case in [
+        over(TABLE, WALK, "cost 833\n", Status::Done),
+        over(
+            TABLE,
+            "imdf-walk 1\nfrom 0\nend\n",
+            "cost 0\n",
+            Status::Done,
+        ),
+        over(
+            TABLE,
+            "imdf-walk 1\nfrom 0\nstep 0\nstep 0\nend\n",
+            "broken 2\n",
+            Status::Negative,
+        ),
+        over(
+            TABLE,
+            "imdf-walk 1\nfrom 0\nstep 7\nend\n",
+            "broken 1\n",
+            Status::Negative,
+        ),
+        over(
+            TABLE,
+            "imdf-walk 1\nfrom 3\nend\n",
+            "form walk.txt 2\n",
+            Status::Wrong,
+        ),
+        over(
+            TABLE,
+            "imdf-walk 1\nfrom 0\nstep 4294967296\nend\n",
+            "form walk.txt 3\n",
+            Status::Wrong,
+        ),
+        over(
+            TABLE,
+            "imdf-walk 1\nfrom 0\nstep 0",
+            "form walk.txt 3\n",
+            Status::Wrong,
+        ),
+        over(
+            TABLE,
+            "imdf-walk 1\nfrom 0\nstep 0\n",
+            "form walk.txt 4\n",
+            Status::Wrong,
+        ),
+        over(
+            TABLE,
+            "imdf-walk 1\nfrom 0\nend\nend\n",
+            "form walk.txt 4\n",
+            Status::Wrong,
+        ),
+        over(
+            "imdf-links 1\nend\n",
+            WALK,
+            "form walk.txt 1\n",
+            Status::Wrong,
+        ),
+        over(TABLE, "", "missing walk.txt\n", Status::Wrong),
+        over("", WALK, "missing links.txt\n", Status::Wrong),
+        over(
+            "imdf-links 2\nend\n",
+            WALK,
+            "form links.txt 1\n",
+            Status::Wrong,
+        ),
+        over(NODE, WALK, "form links.txt 3\n", Status::Wrong),
+        over(LINK, WALK, "form links.txt 3\n", Status::Wrong),
+        over(ZERO, WALK, "form links.txt 3\n", Status::Wrong),
+        Case {
+            failing: 1,
+            ..over(TABLE, WALK, "fault folder\n", Status::Fault)
+        },
+        Case {
+            failing: 2,
+            ..over(TABLE, WALK, "fault folder\n", Status::Fault)
+        },
+        Case {
+            failing: 2,
+            ..over("imdf-links 1\n", "", "form links.txt 2\n", Status::Wrong)
+        },
+    ] {
+        let mut console = console(&rt, alloc, 100, 0)?;
+        let status = ends(&rt, alloc, &["price", "base"], case, &mut console)?;
+        assert_eq!(rt;
+            console.written(),
+            case.text.as_bytes(),
+            "for {}",
+            case.text
+        );
+        assert_eq!(rt; status, case.status, "for {}", case.text);
+    }
+    let sound = over(TABLE, WALK, "", Status::Done);
+    for words in [
+        ["price", ""].as_slice(),
+        &["prize", "base"],
+        &["price"],
+        &["price", "base", "x"],
+        &[],
+    ] {
+        let mut console = console(&rt, alloc, 100, 0)?;
+        assert_eq!(rt;
+            ends(&rt, alloc, words, sound, &mut console)?,
+            Status::Wrong
+        );
+        assert_eq!(rt; console.written(), b"words\n".as_slice());
+    }
+    // A console that fails in mid-stream holds a front of the line.
+    let mut short = console(&rt, alloc, 4, 0)?;
+    assert_eq!(rt;
+        ends(&rt, alloc, &["price", "base"], sound, &mut short)?,
+        Status::Fault
+    );
+    assert!(rt; b"cost 833".starts_with(short.written()));
+    let mut closed = console(&rt, alloc, 100, 1)?;
+    assert_eq!(rt;
+        ends(&rt, alloc, &["price", "base"], sound, &mut closed)?,
+        Status::Fault
+    );
+    assert!(rt; closed.written().is_empty());
+    Ok(())
+}
