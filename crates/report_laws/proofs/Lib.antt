@@ -1,0 +1,6 @@
+pub mod Orders
+pub mod Members
+pub mod Passes
+pub mod Unique
+pub mod Phases
+pub mod Sorting
