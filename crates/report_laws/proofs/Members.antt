@@ -1,7 +1,7 @@
 -- What stands in a list of few items, and in one with one item more at its front.
 use Rattle.std.proofs.Common.{◌≡◌, List, [], ◌∷◌, zero, suc, refl, arith, ◌⊎◌, inl, inr}
 use Rattle.std.specs.Prelude.{Contains}
-use Rattle.std.proofs.lemmas.List.Elements.{Contains-append_left, Contains-append_right, Contains-append_cases}
+use Rattle.std.proofs.lemmas.List.Elements.{Contains-append_right, Contains-append_cases}
 
 pub Contains-nil : {X : Type 0} (x : X) → Contains [] x → ⊥
 Contains-nil x h = omega (arith, h.1)

@@ -23,9 +23,13 @@ AreNotes IsNoted notes = Lists note_cmp IsNoted notes
 
 -- one phase after another: a place of the first, or, where the first has no place at all, one of the second
 abbrev pub First : {A : Type 0} → (A → Type 0) → (A → Type 0) → A → Type 0
-First {A} P Q x = P x ⊎ (((y : A) → P y → ⊥) × Q x)
+First {A} P Q x = P x ⊎ (((y : A) → ¬ P y) × Q x)
 
 -- the first 500 findings of the list, and how many it has
 pub record Shortens (findings : List Finding) (report : Report) : Type 0 where
   pub first : report.first ≡ take 500 findings
   pub total : report.total ≡ length findings
+
+-- the first 500 findings of the report, and how many it has
+abbrev pub IsShortReport : (Finding → Type 0) → Report → Type 0
+IsShortReport IsBroken short = (findings : List Finding) × IsReport IsBroken findings × Shortens findings short

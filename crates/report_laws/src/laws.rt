@@ -4,7 +4,7 @@ ghost use Rattle.std.specs.Prelude.{◌≡◌, ◌≢◌, List, []};
 ghost use Rattle.venue_types.specs.declared.finding.Finding.{Finding};
 ghost use Rattle.venue_types.specs.declared.finding.Note.{Note};
 ghost use Rattle.venue_types.specs.declared.finding.Report.{Report};
-ghost use Rattle.report_laws.specs.Reports.{IsReport, AreNotes, First, Shortens};
+ghost use Rattle.report_laws.specs.Reports.{IsReport, AreNotes, First, IsShortReport};
 
 /// A phase of rules: at which places one is broken.
 pub trait Phase {
@@ -23,7 +23,7 @@ pub fn one_report<P: Phase>()
 
 /// Its first findings and their number are fixed.
 pub fn one_short_report<P: Phase>()
-    ensures { (xs ys : List Finding) (short other : Report) → IsReport P.breaks xs → Shortens xs short → IsReport P.breaks ys → Shortens ys other → short ≡ other }
+    ensures { (short other : Report) → IsShortReport P.breaks short → IsShortReport P.breaks other → short ≡ other }
 {}
 
 /// Of one phase after another, the first phase's report is the whole one unless it is empty, and then the second's is.

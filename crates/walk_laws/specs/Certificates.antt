@@ -21,5 +21,5 @@ pub record IsCertificate {L : Type 0} (view : LinkView L) (IsLink : L → Type 0
 -- nodes that have the start and not the end, and with the start of a link its end
 pub record IsCut {L : Type 0} (view : LinkView L) (IsLink : L → Type 0) (a b : ℕ) (reached : List ℕ) : Type 0 where
   pub starts : Contains reached a
-  pub ends : Contains reached b → ⊥
+  pub ends : ¬ Contains reached b
   pub links : (link : L) → IsLink link → Contains reached (view.from link) → Contains reached (view.to link)

@@ -17,7 +17,7 @@ HasWalk {L} view IsLink a b = (walk : List L) × IsWalk view IsLink a b walk
 
 -- no walk leads from a to b
 abbrev pub HasNoWalk : {L : Type 0} → LinkView L → (L → Type 0) → ℕ → ℕ → Type 0
-HasNoWalk {L} view IsLink a b = (walk : List L) → IsWalk view IsLink a b walk → ⊥
+HasNoWalk {L} view IsLink a b = (walk : List L) → ¬ IsWalk view IsLink a b walk
 
 -- no walk from a to b costs less
 abbrev pub CostsAtLeast : {L : Type 0} → LinkView L → (L → Type 0) → ℕ → ℕ → ℕ → Type 0

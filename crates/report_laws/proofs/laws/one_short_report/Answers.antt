@@ -1,4 +1,3 @@
-use Rattle.std.proofs.Common.{◌≡◌}
 use Rattle.report_laws.specs.Order.{finding_cmp}
 use Rattle.report_laws.proofs.Orders.{findings_total}
 use Rattle.report_laws.proofs.Unique.{one_list}
@@ -6,5 +5,5 @@ use Rattle.report_laws.proofs.Phases.{same_short}
 use Rattle.report_laws.proofs.laws.one_short_report.Goals as goal
 
 pub returns : goal.returns
-returns g c xs ys short other one shortens one' shortens' =
-    same_short xs ys short other (one_list finding_cmp findings_total g.P.Phase.breaks xs ys one one') shortens shortens'
+returns g c short other one two =
+    same_short one.0 two.0 short other (one_list finding_cmp findings_total g.P.Phase.breaks one.0 two.0 one.1 two.1) one.2 two.2
