@@ -12,7 +12,7 @@ use Rattle.std.proofs.lemmas.List.Sorted.{Contains-permutation, IsPermutation-sy
 use Rattle.venue_types.specs.declared.finding.Finding.{Finding}
 use Rattle.venue_types.specs.declared.finding.Note.{Note}
 use Rattle.report_laws.specs.Order.{finding_cmp, note_cmp}
-use Rattle.report_laws.specs.Reports.{Lists, IsReport, AreNotes}
+use Rattle.report_laws.specs.Reports.{Lists, IsReport, IsNoteList}
 use Rattle.report_laws.proofs.Orders.{same_finding, findings_total, findings_tied, findings_exact, findings_equal, same_note, notes_total, notes_tied, notes_exact, notes_equal}
 
 listed : {X : Type 0} {cmp : X → X → Ordering} → IsTotalOrder cmp → {same : X → X → Bool} → ((x y : X) → same x y ≡ eq_by_cmp cmp x y)
@@ -32,5 +32,5 @@ pub findings_listed : (gathered sorted once made : List Finding) → made ≡ on
 findings_listed gathered sorted once made is filtered rises moved = rw is (listed findings_total findings_tied findings_exact findings_equal gathered sorted once moved rises filtered)
 
 pub notes_listed : (gathered sorted once made : List Note) → made ≡ once → IsFiltered (DiffersFromLast same_note) [] sorted once → IsSorted note_cmp sorted → IsPermutation gathered sorted
-    → AreNotes (Contains gathered) made
+    → IsNoteList (Contains gathered) made
 notes_listed gathered sorted once made is filtered rises moved = rw is (listed notes_total notes_tied notes_exact notes_equal gathered sorted once moved rises filtered)

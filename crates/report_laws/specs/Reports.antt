@@ -18,8 +18,8 @@ abbrev pub IsReport : (Finding → Type 0) → List Finding → Type 0
 IsReport IsBroken findings = Lists finding_cmp IsBroken findings
 
 -- the notes are the places where something is noted, each once, in their order
-abbrev pub AreNotes : (Note → Type 0) → List Note → Type 0
-AreNotes IsNoted notes = Lists note_cmp IsNoted notes
+abbrev pub IsNoteList : (Note → Type 0) → List Note → Type 0
+IsNoteList IsNoted notes = Lists note_cmp IsNoted notes
 
 -- one phase after another: a place of the first, or, where the first has no place at all, one of the second
 abbrev pub First : {A : Type 0} → (A → Type 0) → (A → Type 0) → A → Type 0

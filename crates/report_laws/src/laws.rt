@@ -4,14 +4,14 @@ ghost use Rattle.std.specs.Prelude.{◌≡◌, ◌≢◌, List, []};
 ghost use Rattle.venue_types.specs.declared.finding.Finding.{Finding};
 ghost use Rattle.venue_types.specs.declared.finding.Note.{Note};
 ghost use Rattle.venue_types.specs.declared.finding.Report.{Report};
-ghost use Rattle.report_laws.specs.Reports.{IsReport, AreNotes, First, IsShortReport};
+ghost use Rattle.report_laws.specs.Reports.{IsReport, IsNoteList, First, IsShortReport};
 
-/// A phase of rules: at which places one is broken.
+/// A phase of rules: at which places one is broken. Any predicate is one.
 pub trait Phase {
     ghost breaks: { Finding → Type 0 };
 }
 
-/// What is worth a note: at which places.
+/// What is worth a note: at which places. Any predicate is one.
 pub trait Noting {
     ghost notes: { Note → Type 0 };
 }
@@ -34,5 +34,5 @@ pub fn phase_after_phase<P: Phase, Q: Phase>()
 
 /// What is worth a note makes one list at most.
 pub fn one_list_of_notes<N: Noting>()
-    ensures { (xs ys : List Note) → AreNotes N.notes xs → AreNotes N.notes ys → xs ≡ ys }
+    ensures { (xs ys : List Note) → IsNoteList N.notes xs → IsNoteList N.notes ys → xs ≡ ys }
 {}

@@ -1,7 +1,7 @@
 //! From what was gathered to the report.
 
 ghost use Rattle.std.specs.Prelude.{Contains};
-ghost use Rattle.report_laws.specs.Reports.{IsReport, AreNotes, Shortens};
+ghost use Rattle.report_laws.specs.Reports.{IsReport, IsNoteList, Shortens};
 
 use venue_types::{Finding, List, Note, Report};
 
@@ -19,7 +19,7 @@ pub fn in_order(gathered: Vec<Finding>) -> List<Finding>
 
 /// The notes that were gathered, in whatever order and however often. It takes no memory, and n log n time.
 pub fn notes_in_order(gathered: Vec<Note>) -> List<Note>
-    ensures { AreNotes (Contains gathered.items) result }
+    ensures { IsNoteList (Contains gathered.items) result }
 {
     let mut notes = gathered;
     notes.sort_unstable();
