@@ -2,7 +2,9 @@
 
 ghost use Rattle.std.specs.Prelude.{ℕ, List, [], ◌∷◌};
 
-use crate::{Form, Spelled, after, cut_at, fault_line_law, front_law, number, number_word, push_number};
+use crate::{
+    Form, Spelled, after, cut_at, fault_line_law, front_law, number, number_word, push_number,
+};
 
 struct Empty;
 
