@@ -5,12 +5,11 @@ use Rattle.std.specs.List.{flat_map}
 use Rattle.venue_types.specs.declared.feature_id.FeatureId.{FeatureId}
 use Rattle.text_forms.specs.Lines.{line}
 use Rattle.text_forms.specs.Faults.{IsLines, IsFaultLine}
-use Rattle.text_forms.specs.Fronts.{IsCut}
 use Rattle.text_forms.proofs.LineLemmas.{Lacks-test, line_front, lines_unique}
 use Rattle.text_forms.proofs.FaultLemmas.{IsLines-one, IsLines-append, IsLines-items, other_head, next_faulty}
 use Rattle.route_certificate.specs.declared.table.Row.{Row}
 use Rattle.route_certificate.specs.declared.table.Table.{Table}
-use Rattle.route_certificate.specs.Forms.{node_line, link_line, node_body, link_body, end_line, table_head, FitsId, FitsRow, FitsTable, IsTable, IsTableText}
+use Rattle.route_certificate.specs.Forms.{node_line, link_line, node_body, link_body, end_line, table_head, FitsId, FitsRow, IsTable, IsTableText}
 use Rattle.route_certificate.proofs.LineLemmas.{node_line_is, link_line_is, Lacks-node_body, Lacks-link_body, small_row}
 use Rattle.route_certificate.proofs.TableLemmas.{TableRead, read_on, table_of, no_node_behind, no_link_behind}
 
@@ -68,7 +67,7 @@ pub text_behind : (text : List ℕ) (nodes : List FeatureId) (links : List Row) 
 text_behind text nodes links rest behind read ends some =
     let front = front_of nodes links ++ end_line in
     let whole : text ≡ front ++ behind =
-      read.parts ∙ sym (front_is nodes links rest) ∙ ap (λ (t : List ℕ). front_of nodes links ++ t) ends ∙ sym (append_assoc (front_of nodes links) end_line behind) in
+    read.parts ∙ sym (front_is nodes links rest) ∙ ap (λ (t : List ℕ). front_of nodes links ++ t) ends ∙ sym (append_assoc (front_of nodes links) end_line behind) in
     next_faulty IsTableText text front behind [] (1 + (length nodes + length links) + 1) whole
     (IsLines-append (1 + (length nodes + length links)) 1 (front_of nodes links) end_line (front_lines text nodes links rest read)
     (IsLines-one (codes "end") (Lacks-test 10 (codes "end") refl)))

@@ -1,11 +1,11 @@
 -- Where a text stops being a walk's over a table.
-use Rattle.std.proofs.Common.{◌≡◌, ℕ, ◌+◌, ◌<◌, ◌^◌, List, [], ◌∷◌, ◌++◌, length, refl, sym, ap, subst, ◌∙◌, append_assoc, arith, codes}
+use Rattle.std.proofs.Common.{◌≡◌, ℕ, ◌+◌, ◌<◌, List, [], ◌∷◌, ◌++◌, length, refl, sym, ap, subst, ◌∙◌, append_assoc, arith, codes}
 use Rattle.std.proofs.lemmas.List.{length-append, append-nil, append_cancel_left}
 use Rattle.std.specs.List.{flat_map}
 use Rattle.venue_types.specs.declared.feature_id.FeatureId.{FeatureId}
 use Rattle.text_forms.specs.Lines.{line}
 use Rattle.text_forms.specs.Faults.{IsLines, IsFaultLine}
-use Rattle.text_forms.specs.Fronts.{HasNone, IsCut}
+use Rattle.text_forms.specs.Fronts.{HasNone}
 use Rattle.text_forms.proofs.LineLemmas.{Lacks-test, line_front, lines_unique}
 use Rattle.text_forms.proofs.FaultLemmas.{IsLines-one, IsLines-append, IsLines-items, first_faulty, other_head, next_faulty, HasNone-line}
 use Rattle.route_certificate.specs.declared.table.Table.{Table}
@@ -90,7 +90,7 @@ pub text_behind : (text : List ℕ) (table : Table) (from : ℕ) (steps rest beh
 text_behind text table from steps rest behind read ends some =
     let front = front_of from steps ++ end_line in
     let whole : text ≡ front ++ behind =
-      read.parts ∙ sym (front_is from steps rest) ∙ ap (λ (t : List ℕ). front_of from steps ++ t) ends ∙ sym (append_assoc (front_of from steps) end_line behind) in
+    read.parts ∙ sym (front_is from steps rest) ∙ ap (λ (t : List ℕ). front_of from steps ++ t) ends ∙ sym (append_assoc (front_of from steps) end_line behind) in
     next_faulty (IsWalkTextOver table) text front behind [] (1 + (1 + length steps) + 1) whole
     (IsLines-append (1 + (1 + length steps)) 1 (front_of from steps) end_line (front_lines text (length table.nodes) from steps rest read)
     (IsLines-one (codes "end") (Lacks-test 10 (codes "end") refl)))

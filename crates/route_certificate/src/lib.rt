@@ -7,6 +7,8 @@ mod pricing;
 mod table;
 mod table_lines;
 mod tables;
+#[cfg(test)]
+mod tests;
 mod walk_lines;
 mod walks;
 mod written;
