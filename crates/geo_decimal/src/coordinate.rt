@@ -1,10 +1,14 @@
 //! The reading of a coordinate.
 
-ghost use Rattle.std.specs.Prelude.{IfOk, IsErrOf, ◌↔◌, ℤ};
+ghost use Rattle.std.specs.Prelude.{◌≡◌, IfOk, IsErrOf, ◌↔◌, ◌≤◌, ℤ};
 ghost use Rattle.geo_decimal.specs.Number.{IsNumber};
-ghost use Rattle.geo_decimal.specs.Value.{IsNano, IsWithin};
+ghost use Rattle.geo_decimal.specs.Value.{IsNano, IsWithin, signed};
 
+use crate::cut::cut;
+use crate::digits::LIMIT;
 use crate::fault::NumberFault;
+use crate::grammar::is_well_formed;
+use crate::size::size;
 
 /// The value of a JSON number in billionths, rounded to the nearest, ties away from zero: of degrees, nanodegrees.
 ///
@@ -14,5 +18,19 @@ pub fn nano(token: &[u8]) -> Result<i64, NumberFault>
     ensures form { IsErrOf result NumberFault.Form ↔ ¬ IsNumber token.now }
     ensures size { IsErrOf result NumberFault.Size ↔ ((n : ℤ) × IsNano token.now n × (¬ IsWithin n)) }
 {
-    Ok(0)
+    let parts = cut(token);
+    if !is_well_formed(&parts) {
+        return Err(NumberFault::Form);
+    }
+    match size(&parts) {
+        Some(size) => Ok(with_sign(parts.minus, size)),
+        None => Err(NumberFault::Size),
+    }
+}
+
+fn with_sign(minus: bool, size: u64) -> i64
+    requires { size ≤ LIMIT }
+    ensures { result ≡ signed minus size }
+{
+    if minus { -(size as i64) } else { size as i64 }
 }

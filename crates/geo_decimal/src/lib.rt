@@ -2,8 +2,15 @@
 #![tactic(auto)]
 
 mod coordinate;
+mod cut;
+mod digits;
 mod fault;
+mod grammar;
 mod laws;
+mod parts;
+mod size;
+#[cfg(test)]
+mod tests;
 
 pub use coordinate::nano;
 pub use fault::NumberFault;

@@ -1,0 +1,58 @@
+//! Whether parts are those of a number (RFC 8259, section 6).
+
+ghost use Rattle.std.specs.Prelude.{IsTrue, ◌↔◌, IfSome};
+ghost use Rattle.std.specs.Option.{option_copied, option_map};
+ghost use Rattle.std.specs.Str.Parse.{AllDigits, IsNumeral};
+ghost use Rattle.geo_decimal.specs.Number.{IsWhole, IsExponent, IsWellFormed};
+ghost use Rattle.geo_decimal.specs.Cutting.{number_of, exponent_of, IsCut, IsCutExponent};
+
+use crate::parts::{Parts, Power};
+
+/// Whether each part is as the grammar asks.
+pub(crate) fn is_well_formed(parts: &Parts<'_>) -> bool
+    requires { IsCut (number_of parts.now) }
+    ensures { IsTrue result ↔ IsWellFormed (number_of parts.now) }
+{
+    is_whole(parts.whole) && is_fraction(parts.fraction) && is_exponent(parts.exponent)
+}
+
+fn is_whole(text: &[u8]) -> bool
+    ensures { IsTrue result ↔ IsWhole text.now }
+{
+    match text {
+        [b'0'] => true,
+        [b'1'..=b'9', rest @ ..] => are_digits(rest),
+        _ => false,
+    }
+}
+
+fn is_fraction(text: Option<&[u8]>) -> bool
+    ensures { IsTrue result ↔ IfSome (option_copied text.entry) (IsNumeral 10) }
+{
+    match text {
+        Some(text) => is_numeral(text),
+        None => true,
+    }
+}
+
+fn is_exponent(power: Option<Power<'_>>) -> bool
+    requires { IfSome (option_map exponent_of power) IsCutExponent }
+    ensures { IsTrue result ↔ IfSome (option_map exponent_of power.entry) IsExponent }
+{
+    match power {
+        Some(power) => is_numeral(power.digits),
+        None => true,
+    }
+}
+
+fn is_numeral(text: &[u8]) -> bool
+    ensures { IsTrue result ↔ IsNumeral 10 text.now }
+{
+    !text.is_empty() && are_digits(text)
+}
+
+fn are_digits(text: &[u8]) -> bool
+    ensures { IsTrue result ↔ AllDigits 10 text.now }
+{
+    text.iter().all(|byte| byte.is_ascii_digit())
+}
