@@ -1,0 +1,4 @@
+pub mod Cuts
+pub mod DigitLists
+pub mod Nearest
+pub mod Values

@@ -58,7 +58,7 @@ fn power(mark: u8, text: &[u8]) -> Power<'_>
     ensures mark { result.mark ≡ mark }
     ensures text { option_to_list result.sign ++ result.digits.now ≡ text.now }
     ensures sign { IfSome result.sign IsSign }
-    ensures unsigned { IfNone result.sign ((slice_index text.now 0 ≢ 45) × (slice_index text.now 0 ≢ 43)) }
+    ensures unsigned { IfNone result.sign ((slice_index result.digits.now 0 ≢ 45) × (slice_index result.digits.now 0 ≢ 43)) }
 {
     match text {
         [sign @ (b'-' | b'+'), digits @ ..] => Power {

@@ -1,8 +1,10 @@
 //! Whether parts are those of a number (RFC 8259, section 6).
 
-ghost use Rattle.std.specs.Prelude.{IsTrue, ◌↔◌, IfSome};
+ghost use Rattle.std.specs.Prelude.{◌≡◌, IsTrue, ◌↔◌, IfSome};
+ghost use Rattle.std.specs.Char.{is_ascii_digit};
+ghost use Rattle.std.specs.List.{list_all};
 ghost use Rattle.std.specs.Option.{option_copied, option_map};
-ghost use Rattle.std.specs.Str.Parse.{AllDigits, IsNumeral};
+ghost use Rattle.std.specs.Str.Parse.{IsNumeral};
 ghost use Rattle.geo_decimal.specs.Number.{IsWhole, IsExponent, IsWellFormed};
 ghost use Rattle.geo_decimal.specs.Cutting.{number_of, exponent_of, IsCut, IsCutExponent};
 
@@ -52,7 +54,7 @@ fn is_numeral(text: &[u8]) -> bool
 }
 
 fn are_digits(text: &[u8]) -> bool
-    ensures { IsTrue result ↔ AllDigits 10 text.now }
+    ensures { result ≡ list_all is_ascii_digit text.now }
 {
     text.iter().all(|byte| byte.is_ascii_digit())
 }
