@@ -1,4 +1,5 @@
 pub mod Cuts
 pub mod DigitLists
 pub mod Nearest
+pub mod Positions
 pub mod Values
