@@ -180,3 +180,8 @@ mark_from_test c h = go (or_cases (c == 101) (c == 69) h)
 
 pub cut_exponent_digits : (e : Exponent) → IsCutExponent e → IsNumeral 10 e.digits → IsExponent e
 cut_exponent_digits e h d = record { mark = mark_from_test e.mark h.mark; sign = h.sign; digits = d }
+
+-- digits that do not begin with 0 are a whole part
+pub whole_from_digits : (w : List ℕ) → 1 ≤ length w → (get_or w 0 0 ≡ 48 → ⊥) → AllDigits 10 w → IsWhole w
+whole_from_digits [] l n h = absurd (omega (arith, l))
+whole_from_digits (c ∷ cs) l n h = let r = digit_from_value c h.0 in let not_zero : c ≡ 48 → ⊥ = n in inr (omega (arith, r.0, not_zero), r.1, h.1)

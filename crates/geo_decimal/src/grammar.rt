@@ -22,9 +22,14 @@ fn is_whole(text: &[u8]) -> bool
     ensures { IsTrue result ↔ IsWhole text.now }
 {
     match text {
-        [b'0'] => true,
-        [b'1'..=b'9', rest @ ..] => are_digits(rest),
-        _ => false,
+        [] => false,
+        [first, rest @ ..] => {
+            if *first == b'0' {
+                rest.is_empty()
+            } else {
+                are_digits(text)
+            }
+        }
     }
 }
 
