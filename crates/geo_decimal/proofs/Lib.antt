@@ -1,5 +1,6 @@
 pub mod Cuts
 pub mod DigitLists
+pub mod DigitValues
 pub mod Nearest
 pub mod Positions
 pub mod Values

@@ -1,9 +1,9 @@
 //! Arithmetic on the digits of a number.
 
-ghost use Rattle.std.specs.Prelude.{◌≡◌, ◌+◌, ◌*◌, ◌^◌, ◌≤◌, ◌++◌, min, take, slice_index_or};
+ghost use Rattle.std.specs.Prelude.{◌≡◌, ◌+◌, ◌*◌, ◌^◌, ◌≤◌, ◌++◌, min, take, slice_index_or, nat_le, if◌then◌else◌};
 ghost use Rattle.std.specs.Option.{SomeIff};
 ghost use Rattle.std.specs.Str.Parse.{AllDigits, digits_value, digits_value_after};
-ghost use Rattle.geo_decimal.specs.Rounding.{rounded_at};
+ghost use Rattle.geo_decimal.specs.Rounding.{front_value, rounded_at};
 
 /// The greatest size of a coordinate: half a turn in nanodegrees.
 pub(crate) const LIMIT: u64 = 180_000_000_000;
@@ -28,15 +28,33 @@ pub(crate) fn rounded(whole: &[u8], fraction: &[u8], kept: usize) -> Option<u64>
     requires fraction { AllDigits 10 fraction.now }
     ensures { let size = rounded_at (whole.now ++ fraction.now) kept in SomeIff result (size ≤ LIMIT) size }
 {
+    match cut_off(whole, fraction, kept) {
+        Some(value) => within_limit(rounded_up(value, digit_at(whole, fraction, kept))),
+        None => None,
+    }
+}
+
+fn cut_off(whole: &[u8], fraction: &[u8], kept: usize) -> Option<u64>
+    requires whole { AllDigits 10 whole.now }
+    requires fraction { AllDigits 10 fraction.now }
+    ensures { let size = front_value (whole.now ++ fraction.now) kept in SomeIff result (size ≤ LIMIT) size }
+{
     let behind = kept.saturating_sub(whole.len());
     let value = with_digits(0, front(whole, kept))?;
     let value = with_digits(value, front(fraction, behind))?;
-    let value = with_zeros(value, behind.saturating_sub(fraction.len()))?;
-    let size = if digit_at(whole, fraction, kept) >= b'5' {
-        value + 1
-    } else {
-        value
-    };
+    with_zeros(value, behind.saturating_sub(fraction.len()))
+}
+
+fn rounded_up(value: u64, next: u8) -> u64
+    requires { value ≤ LIMIT }
+    ensures { result ≡ value + (if nat_le 53 next then 1 else 0) }
+{
+    if next >= b'5' { value + 1 } else { value }
+}
+
+fn within_limit(size: u64) -> Option<u64>
+    ensures { SomeIff result (size ≤ LIMIT) size }
+{
     if size <= LIMIT { Some(size) } else { None }
 }
 
@@ -62,12 +80,12 @@ fn digit_at(whole: &[u8], fraction: &[u8], place: usize) -> u8
     }
 }
 
-fn with_digits(value: u64, digits: &[u8]) -> Option<u64>
+fn with_digits(start: u64, digits: &[u8]) -> Option<u64>
     requires digits { AllDigits 10 digits.now }
-    requires value { value ≤ LIMIT }
-    ensures { let size = digits_value_after 10 value digits.now in SomeIff result (size ≤ LIMIT) size }
+    requires start { start ≤ LIMIT }
+    ensures { let size = digits_value_after 10 start digits.now in SomeIff result (size ≤ LIMIT) size }
 {
-    let mut value = value;
+    let mut value = start;
     for digit in digits {
         value = value * 10 + (*digit - b'0') as u64;
         if value > LIMIT {
@@ -77,12 +95,12 @@ fn with_digits(value: u64, digits: &[u8]) -> Option<u64>
     Some(value)
 }
 
-fn with_zeros(value: u64, zeros: usize) -> Option<u64>
-    requires { value ≤ LIMIT }
-    ensures { let size = value * 10 ^ zeros in SomeIff result (size ≤ LIMIT) size }
+fn with_zeros(start: u64, count: usize) -> Option<u64>
+    requires { start ≤ LIMIT }
+    ensures { let size = start * 10 ^ count in SomeIff result (size ≤ LIMIT) size }
 {
-    let mut value = value;
-    let mut zeros = zeros;
+    let mut value = start;
+    let mut zeros = count;
     while zeros > 0 && value > 0 {
         value *= 10;
         zeros -= 1;
