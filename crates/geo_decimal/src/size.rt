@@ -17,8 +17,17 @@ pub(crate) fn size(parts: &Parts<'_>) -> Option<u64>
     ensures none { let n = number_of parts.now in IfNone result ((q : ℕ) × IsRounded (digits n) (tens_up n) (tens_down n) q × LIMIT < q) }
 {
     match kept_digits(parts.whole.len(), parts.exponent) {
-        Some(kept) => rounded(parts.whole, parts.fraction.unwrap_or(&[]), kept),
+        Some(kept) => rounded(parts.whole, fraction(parts), kept),
         None => Some(0),
+    }
+}
+
+fn fraction<'a>(parts: &Parts<'a>) -> &'a [u8]
+    ensures { result.now ≡ fraction_digits (number_of parts.now) }
+{
+    match parts.fraction {
+        Some(digits) => digits,
+        None => &[],
     }
 }
 
