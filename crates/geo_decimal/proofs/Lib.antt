@@ -1,6 +1,7 @@
 pub mod Cuts
 pub mod DigitLists
 pub mod DigitValues
+pub mod Existence
 pub mod Nearest
 pub mod Positions
 pub mod Roundings

@@ -16,7 +16,7 @@ fraction_all : (f : Option (List ℕ)) → IfSome f (IsNumeral 10) → AllDigits
 fraction_all None h = tt
 fraction_all (Some ds) h = h.1
 
-all_digits : (n : Number) → IsWellFormed n → AllDigits 10 (n.whole ++ fraction_digits n)
+pub all_digits : (n : Number) → IsWellFormed n → AllDigits 10 (n.whole ++ fraction_digits n)
 all_digits n h = both_digits n.whole (fraction_digits n) (whole_digits n.whole h.whole) (fraction_all n.fraction h.fraction)
 
 pub size_found : (n : Number) (kept : ℕ) (f : List ℕ) (r : Option ℕ) → IsWellFormed n → length n.whole + length (fraction_digits n) < 2 ^ 63 → exponent_down n.exponent ≤ length n.whole + 9
