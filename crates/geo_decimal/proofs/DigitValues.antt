@@ -2,7 +2,7 @@
 use Rattle.std.proofs.Common.{◌≡◌, ℕ, zero, suc, ◌+◌, ◌-◌, ◌*◌, ◌^◌, ◌<◌, ◌≤◌, List, [], ◌∷◌, ◌++◌, length, take, drop, get_or, refl, sym, ap, ◌∙◌, subst, arith, length-append}
 use Rattle.std.specs.Char.{digit_value}
 use Rattle.std.specs.Str.Parse.{AllDigits, digits_value, digits_value_after}
-use Rattle.std.proofs.lemmas.Str.Parse.{digit_at, digit_from_value}
+use Rattle.std.proofs.lemmas.Str.Parse.{digit_at}
 use Rattle.std.proofs.Math.Nat.{mul-le-mul_left, one-le-pow, pow-suc}
 use Rattle.std.proofs.Math.Seq.{take-suc}
 use Rattle.std.proofs.lemmas.List.{take-append-drop}
@@ -95,12 +95,12 @@ past_second w f k limit v b x y ev ex eb ey past small =
     let v' = digits_value 10 (take k w) in
     let z = zeros_grow (digits_value_after 10 v' (take (k - length w) f)) (k - length w - length f) in
     let s : digits_value_after 10 v y ≡ digits_value_after 10 v' (take (k - length w) f) =
-        ap (λ n. digits_value_after 10 n y) (ev ∙ ap (digits_value 10) ex) ∙ ap (digits_value_after 10 v') (ey ∙ ap (λ n. take n f) eb) in
+    ap (λ n. digits_value_after 10 n y) (ev ∙ ap (digits_value 10) ex) ∙ ap (digits_value_after 10 v') (ey ∙ ap (λ n. take n f) eb) in
     past (omega (arith, z, s, small, front_parts w f k))
 
 pub front_whole : (w f : List ℕ) (k v b u z : ℕ) (x y : List ℕ) → v ≡ digits_value 10 x → x ≡ take k w → b ≡ k - length w → y ≡ take b f → u ≡ digits_value_after 10 v y → z ≡ b - length f → u * 10 ^ z ≡ front_value (w ++ f) k
 front_whole w f k v b u z x y ev ex eb ey eu ez =
     let v' = digits_value 10 (take k w) in
     let s : u ≡ digits_value_after 10 v' (take (k - length w) f) =
-        eu ∙ ap (λ n. digits_value_after 10 n y) (ev ∙ ap (digits_value 10) ex) ∙ ap (digits_value_after 10 v') (ey ∙ ap (λ n. take n f) eb) in
+    eu ∙ ap (λ n. digits_value_after 10 n y) (ev ∙ ap (digits_value 10) ex) ∙ ap (digits_value_after 10 v') (ey ∙ ap (λ n. take n f) eb) in
     ap (λ n. n * 10 ^ z) s ∙ ap (λ n. digits_value_after 10 v' (take (k - length w) f) * 10 ^ n) (ez ∙ ap (λ n. n - length f) eb) ∙ sym (front_parts w f k)

@@ -1,5 +1,5 @@
 -- Every number has a value.
-use Rattle.std.proofs.Common.{◌≡◌, ℕ, ◌+◌, ◌-◌, ◌<◌, ◌≤◌, ◌⊎◌, inl, inr, List, length, ◌++◌, refl, arith, ℤ}
+use Rattle.std.proofs.Common.{ℕ, ◌+◌, ◌-◌, ◌<◌, ◌≤◌, ◌⊎◌, inl, inr, List, length, ◌++◌, refl, arith, ℤ}
 use Rattle.std.proofs.lemmas.Bool.{cases_lt}
 use Rattle.geo_decimal.specs.Number.{Number, IsNumber, IsWellFormed}
 use Rattle.geo_decimal.specs.Value.{digits, fraction_digits, tens_up, tens_down, IsRounded, signed, IsNano}

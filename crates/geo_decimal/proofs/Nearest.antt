@@ -1,8 +1,8 @@
 -- The two cases of rounding are 'nearest, ties away from zero'.
-use Rattle.std.proofs.Common.{◌≡◌, ℕ, zero, suc, ◌+◌, ◌-◌, ◌*◌, ◌^◌, ◌<◌, ◌≤◌, ◌⊎◌, inl, inr, ◌↔◌, refl, sym, ap, ◌∙◌, subst, arith}
-use Rattle.std.proofs.lemmas.Bool.{cases_lt, cases_order}
+use Rattle.std.proofs.Common.{◌≡◌, ℕ, ◌+◌, ◌-◌, ◌*◌, ◌^◌, ◌<◌, ◌≤◌, ◌⊎◌, inl, inr, ◌↔◌, sym, ap, ◌∙◌, subst, arith}
+use Rattle.std.proofs.lemmas.Bool.{cases_lt}
 use Rattle.std.proofs.lemmas.Nat.{pow-add}
-use Rattle.std.proofs.Math.Nat.{mul-le-mul_right, mul-le-mul_left, le_of_mul-le-mul_right, one-le-pow}
+use Rattle.std.proofs.Math.Nat.{mul-le-mul_right, le_of_mul-le-mul_right, one-le-pow}
 use Rattle.geo_decimal.specs.Value.{IsGreatest, IsRounded}
 use Rattle.geo_decimal.specs.Laws.{distance, IsNearest}
 
@@ -38,16 +38,20 @@ shorten num den u q pos = (to, from)
   where
     across : q * (den * u) ≡ (q * den) * u
     across = omega arith
+
     scaled : distance (q * (den * u)) (num * u) ≡ distance (q * den) num * u
     scaled = ap (λ x. distance x (num * u)) across ∙ distance_scaled (q * den) num u
+
     twice : 2 * distance (q * (den * u)) (num * u) ≡ (2 * distance (q * den) num) * u
     twice = let m : 2 * distance (q * (den * u)) (num * u) ≡ 2 * (distance (q * den) num * u) = ap (λ x. 2 * x) scaled in m ∙ omega arith
+
     to : IsNearest (num * u) (den * u) q → IsNearest num den q
     to h = record {
       close = let b : (2 * distance (q * den) num) * u ≤ den * u = subst (λ x. x ≤ den * u) twice h.close in le_of_mul-le-mul_right b pos;
       tie = λ t. let b : num * u ≤ q * (den * u) = h.tie (twice ∙ ap (λ x. x * u) t) in
           let b' : num * u ≤ (q * den) * u = subst (λ x. num * u ≤ x) across b in le_of_mul-le-mul_right b' pos;
     }
+
     from : IsNearest num den q → IsNearest (num * u) (den * u) q
     from h = record {
       close = let b : (2 * distance (q * den) num) * u ≤ den * u = mul-le-mul_right u h.close in subst (λ x. x ≤ den * u) (sym twice) b;
@@ -79,6 +83,7 @@ half_up d t q pos = (to, from)
             let tied : 2 * distance (q * t) d ≡ t = omega (arith, m, below, h.close) in
             let up : d ≤ q * t = h.tie tied in
             absurd (omega (arith, m, below, up, pos))
+
     from : IsGreatest (λ p. 2 * p * t ≤ 2 * d + t) q → IsNearest d t q
     from h =
         let above : (q + 1 ≤ q → ⊥) = λ l. omega arith in
@@ -100,13 +105,15 @@ rounded_nearest d up down q = go (cases_lt up down)
     go (inl h) =
         let e : 10 ^ down ≡ 10 ^ (down - up) * 10 ^ up = power_apart up down (omega arith) ∙ omega arith in
         let s = shorten d (10 ^ (down - up)) (10 ^ up) q (ten_power up) in
-        let g = half_up d (10 ^ (down - up)) q (ten_power (down - up)) in
-        (λ r. subst (λ x. IsNearest (d * 10 ^ up) x q) (sym e) (s.1 (g.1 (r.nearest h))),
-        λ n. record { exact = λ l. absurd (omega arith); nearest = λ l. g.0 (s.0 (subst (λ x. IsNearest (d * 10 ^ up) x q) e n)) })
+        let g = half_up d (10 ^ (down - up)) q (ten_power (down - up)) in (
+          λ r. subst (λ x. IsNearest (d * 10 ^ up) x q) (sym e) (s.1 (g.1 (r.nearest h))),
+          λ n. record { exact = λ l. absurd (omega arith); nearest = λ l. g.0 (s.0 (subst (λ x. IsNearest (d * 10 ^ up) x q) e n)) },
+        )
     go (inr h) =
         let a : d * 10 ^ up ≡ (d * 10 ^ (up - down)) * 10 ^ down = ap (λ x. d * x) (power_apart down up h) ∙ omega arith in
         let b : 10 ^ down ≡ 1 * 10 ^ down = omega arith in
         let s = shorten (d * 10 ^ (up - down)) 1 (10 ^ down) q (ten_power down) in
-        let w = whole (d * 10 ^ (up - down)) q in
-        (λ r. subst (λ x. IsNearest x (10 ^ down) q) (sym a) (subst (λ x. IsNearest ((d * 10 ^ (up - down)) * 10 ^ down) x q) (sym b) (s.1 (w.1 (r.exact h)))),
-        λ n. record { exact = λ l. w.0 (s.0 (subst (λ x. IsNearest ((d * 10 ^ (up - down)) * 10 ^ down) x q) b (subst (λ x. IsNearest x (10 ^ down) q) a n))); nearest = λ l. absurd (omega arith) })
+        let w = whole (d * 10 ^ (up - down)) q in (
+          λ r. subst (λ x. IsNearest x (10 ^ down) q) (sym a) (subst (λ x. IsNearest ((d * 10 ^ (up - down)) * 10 ^ down) x q) (sym b) (s.1 (w.1 (r.exact h)))),
+          λ n. record { exact = λ l. w.0 (s.0 (subst (λ x. IsNearest ((d * 10 ^ (up - down)) * 10 ^ down) x q) b (subst (λ x. IsNearest x (10 ^ down) q) a n))); nearest = λ l. absurd (omega arith) },
+        )

@@ -1,16 +1,15 @@
 -- Digits that are cut behind some of them and rounded by the next give the value of a number.
-use Rattle.std.proofs.Common.{◌≡◌, ℕ, zero, suc, ◌+◌, ◌-◌, ◌*◌, ◌^◌, ◌<◌, ◌≤◌, ◌⊎◌, inl, inr, Bool, true, false, cond, nat_le, List, [], ◌∷◌, ◌++◌, length, take, drop, get_or, slice_index_or, Option, Some, None, IfSome, IfNone, min, refl, sym, ap, ◌∙◌, subst, arith, length-append, length-drop}
+use Rattle.std.proofs.Common.{◌≡◌, ℕ, zero, suc, ◌+◌, ◌-◌, ◌*◌, ◌^◌, ◌<◌, ◌≤◌, ◌⊎◌, inl, inr, cond, nat_le, List, [], ◌∷◌, ◌++◌, length, take, slice_index_or, Option, Some, None, IfSome, IfNone, min, refl, sym, ap, ◌∙◌, subst, arith}
 use Rattle.std.specs.Option.{SomeIff}
 use Rattle.std.specs.Char.{digit_value}
-use Rattle.std.specs.Str.Parse.{AllDigits, digits_value, digits_value_after}
+use Rattle.std.specs.Str.Parse.{AllDigits, digits_value}
 use Rattle.std.proofs.lemmas.Bool.{cases_lt, le-leb, lt-leb, cases_eq}
 use Rattle.std.proofs.lemmas.Int.Digits.{digits_value-lt}
 use Rattle.std.proofs.lemmas.Nat.{pow-add}
-use Rattle.std.proofs.lemmas.List.{take-append-drop}
 use Rattle.std.proofs.Math.Nat.{mul-le-mul_right, mul-le-mul_left, one-le-pow, pow-suc}
 use Rattle.geo_decimal.specs.Value.{IsGreatest, IsRounded}
 use Rattle.geo_decimal.specs.Rounding.{front_value, rounded_at}
-use Rattle.geo_decimal.proofs.DigitValues.{after_append, after_weight, digit_is}
+use Rattle.geo_decimal.proofs.DigitValues.{after_append, after_weight}
 
 -- ---- the next digit alone decides
 
@@ -92,14 +91,14 @@ inside ds k h l =
     let p = 10 ^ length s.after in
     let t = digit_tens c s.digit in
     let power : 10 ^ (length ds - k) ≡ 10 * p =
-        let e : length ds - k ≡ suc (length s.after) = omega (arith, s.len) in ap (λ n. 10 ^ n) e ∙ pow-suc 10 (length s.after) ∙ omega arith in
+    let e : length ds - k ≡ suc (length s.after) = omega (arith, s.len) in ap (λ n. 10 ^ n) e ∙ pow-suc 10 (length s.after) ∙ omega arith in
     let front : front_value ds k ≡ a =
-        let z : k - length ds ≡ 0 = omega arith in ap (λ n. a * 10 ^ n) z ∙ omega arith in
+    let z : k - length ds ≡ 0 = omega arith in ap (λ n. a * 10 ^ n) z ∙ omega arith in
     let value : digits_value 10 ds ≡ a * (10 * p) + (digit_value c * p + digits_value 10 s.after) =
-        let w = after_weight a (c ∷ s.after) in
-        let v = after_weight (0 * 10 + digit_value c) s.after in
-        let e : a * 10 ^ suc (length s.after) ≡ a * (10 * p) = let q : 10 ^ suc (length s.after) ≡ 10 * p = pow-suc 10 (length s.after) ∙ omega arith in ap (λ n. a * n) q in
-        ap (digits_value 10) s.whole ∙ after_append 0 (take k ds) (c ∷ s.after) ∙ omega (arith, w, v, e) in
+    let w = after_weight a (c ∷ s.after) in
+    let v = after_weight (0 * 10 + digit_value c) s.after in
+    let e : a * 10 ^ suc (length s.after) ≡ a * (10 * p) = let q : 10 ^ suc (length s.after) ≡ 10 * p = pow-suc 10 (length s.after) ∙ omega arith in ap (λ n. a * n) q in
+    ap (digits_value 10) s.whole ∙ after_append 0 (take k ds) (c ∷ s.after) ∙ omega (arith, w, v, e) in
     let small : digits_value 10 s.after < p = digits_value-lt 10 s.after s.digits in
     let decides = next_digit_decides (digits_value 10 ds) a (digit_value c) (digits_value 10 s.after) p (rounded_at ds k) value small (omega (arith, s.digit)) (side c a (front_value ds k) front t.2 (cases_lt c 53)) in
     subst (λ n. IsGreatest (λ m. 2 * m * n ≤ 2 * digits_value 10 ds + n) (rounded_at ds k)) (sym power) decides
@@ -131,7 +130,7 @@ nothing_kept ds up down h far = record {
     go p below (inl l) =
         let small = digits_value-lt 10 ds h in
         let power : 10 ^ (down - up) ≡ 10 ^ suc (length ds) * 10 ^ (down - up - suc (length ds)) =
-            let e : down - up ≡ suc (length ds) + (down - up - suc (length ds)) = omega (arith, far) in ap (λ n. 10 ^ n) e ∙ pow-add 10 (suc (length ds)) (down - up - suc (length ds)) in
+        let e : down - up ≡ suc (length ds) + (down - up - suc (length ds)) = omega (arith, far) in ap (λ n. 10 ^ n) e ∙ pow-add 10 (suc (length ds)) (down - up - suc (length ds)) in
         let one : 1 ≤ 10 ^ (down - up - suc (length ds)) = one-le-pow (down - up - suc (length ds)) 10 (omega arith) in
         let m : 10 ^ suc (length ds) * 1 ≤ 10 ^ suc (length ds) * 10 ^ (down - up - suc (length ds)) = mul-le-mul_left (10 ^ suc (length ds)) one in
         let ten = pow-suc 10 (length ds) in

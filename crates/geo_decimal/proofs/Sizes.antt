@@ -1,5 +1,5 @@
 -- The size of a number from its parts.
-use Rattle.std.proofs.Common.{◌≡◌, ℕ, ◌+◌, ◌-◌, ◌^◌, ◌<◌, ◌≤◌, List, [], ◌∷◌, ◌++◌, length, Option, Some, None, IfSome, unwrap_or, min, Bool, true, false, cond, refl, sym, ap, ◌∙◌, subst, arith, length-append}
+use Rattle.std.proofs.Common.{◌≡◌, ℕ, ◌+◌, ◌-◌, ◌^◌, ◌<◌, ◌≤◌, List, [], ◌∷◌, ◌++◌, length, Option, Some, None, IfSome, unwrap_or, min, Bool, true, false, cond, refl, ap, ◌∙◌, subst, arith, length-append}
 use Rattle.std.specs.Option.{SomeIff}
 use Rattle.std.specs.Str.Parse.{AllDigits, IsNumeral, digits_value}
 use Rattle.geo_decimal.specs.Number.{Exponent, Number, IsWellFormed}

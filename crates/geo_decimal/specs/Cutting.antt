@@ -1,13 +1,13 @@
 -- A token cut at its signs, its first point and its first e, whether it is a number or not.
-use Rattle.std.specs.Prelude.{◌≡◌, ℕ, ◌≢◌, ◌==◌, ◌||◌, Bool, true, false, List, Option, Some, None, IfSome, IfNone, slice_index, length, ◌+◌}
+use Rattle.std.specs.Prelude.{◌≡◌, ℕ, ◌≢◌, ◌==◌, ◌||◌, Bool, true, false, List, IfSome, IfNone, slice_index}
 use Rattle.std.specs.Option.{option_map, option_copied}
 use Rattle.std.specs.List.{AllByRecursion}
-use Rattle.geo_decimal.specs.Number.{Exponent, Number, IsMark, IsSign, spelling}
-use Rattle.geo_decimal.specs.declared.parts.Power.{Power}
+use Rattle.geo_decimal.specs.Number.{Exponent, Number, IsSign, spelling}
+use Rattle.geo_decimal.specs.declared.parts.Exponent.{Exponent as ExponentPart}
 use Rattle.geo_decimal.specs.declared.parts.Parts.{Parts}
 
-abbrev pub exponent_of : Power → Exponent
-exponent_of p = record { mark = p.mark; sign = p.sign; digits = p.digits.now }
+abbrev pub exponent_of : ExponentPart → Exponent
+exponent_of e = record { mark = e.mark; sign = e.sign; digits = e.digits.now }
 
 -- what the parts are parts of
 abbrev pub number_of : Parts → Number

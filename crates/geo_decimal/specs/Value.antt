@@ -1,5 +1,5 @@
 -- The value of a number, times 10^9 and rounded to the nearest whole number, ties away from zero.
-use Rattle.std.specs.Prelude.{◌≡◌, ℕ, ◌+◌, ◌-◌, ◌*◌, ◌^◌, ◌<◌, ◌≤◌, ◌==◌, Bool, false, cond, List, [], ◌++◌, length, Option, Some, None, unwrap_or, if◌then◌else◌, ℤ, pos, neg_ℤ, ◌≤ℤ◌}
+use Rattle.std.specs.Prelude.{◌≡◌, ℕ, ◌+◌, ◌-◌, ◌*◌, ◌^◌, ◌<◌, ◌≤◌, ◌==◌, Bool, false, List, [], ◌++◌, length, Option, Some, None, unwrap_or, if◌then◌else◌, ℤ, pos, neg_ℤ, ◌≤ℤ◌}
 use Rattle.std.specs.Str.Parse.{digits_value}
 use Rattle.geo_decimal.specs.Number.{Exponent, Number, Spells}
 
@@ -37,7 +37,7 @@ pub record IsGreatest (P : ℕ → Type 0) (q : ℕ) : Type 0 where
   pub has : P q
   pub greatest : (p : ℕ) → P p → p ≤ q
 
--- q is d * 10^(up - down): exactly where that is whole, else the greatest whole q with q - 1/2 at or below it
+-- q is d * 10^(up - down), where the exponent is at least 0; else the greatest whole q such that q - 1/2 is at or below that
 pub record IsRounded (d up down q : ℕ) : Type 0 where
   pub exact : down ≤ up → q ≡ d * 10 ^ (up - down)
   pub nearest : up < down → IsGreatest (λ p. 2 * p * 10 ^ (down - up) ≤ 2 * d + 10 ^ (down - up)) q

@@ -4,11 +4,9 @@ ghost use Rattle.std.specs.Prelude.{◌≡◌, IfOk, IsErrOf, ◌↔◌, ◌≤�
 ghost use Rattle.geo_decimal.specs.Number.{IsNumber};
 ghost use Rattle.geo_decimal.specs.Value.{IsNano, IsWithin, signed};
 
-use crate::cut::cut;
 use crate::digits::LIMIT;
 use crate::fault::NumberFault;
-use crate::grammar::is_well_formed;
-use crate::size::size;
+use crate::parts::Parts;
 
 /// The value of a JSON number in billionths, rounded to the nearest, ties away from zero: of degrees, nanodegrees.
 ///
@@ -18,11 +16,11 @@ pub fn nano(token: &[u8]) -> Result<i64, NumberFault>
     ensures form { IsErrOf result NumberFault.Form ↔ ¬ IsNumber token.now }
     ensures size { IsErrOf result NumberFault.Size ↔ ((n : ℤ) × IsNano token.now n × (¬ IsWithin n)) }
 {
-    let parts = cut(token);
-    if !is_well_formed(&parts) {
+    let parts = Parts::cut(token);
+    if !parts.is_well_formed() {
         return Err(NumberFault::Form);
     }
-    match size(&parts) {
+    match parts.size() {
         Some(size) => Ok(with_sign(parts.minus, size)),
         None => Err(NumberFault::Size),
     }

@@ -28,10 +28,8 @@ pub(crate) fn rounded(whole: &[u8], fraction: &[u8], kept: usize) -> Option<u64>
     requires fraction { AllDigits 10 fraction.now }
     ensures { let size = rounded_at (whole.now ++ fraction.now) kept in SomeIff result (size ≤ LIMIT) size }
 {
-    match cut_off(whole, fraction, kept) {
-        Some(value) => within_limit(rounded_up(value, digit_at(whole, fraction, kept))),
-        None => None,
-    }
+    let value = cut_off(whole, fraction, kept)?;
+    within_limit(rounded_up(value, digit_at(whole, fraction, kept)))
 }
 
 fn cut_off(whole: &[u8], fraction: &[u8], kept: usize) -> Option<u64>

@@ -1,4 +1,4 @@
-//! Why a token gives no coordinate.
+//! The refusals of a token.
 
 /// Why a token gives no coordinate.
 #[derive(Clone, Copy, Debug, PartialEq, Eq)]

@@ -8,14 +8,16 @@ ghost use Rattle.std.specs.Str.Parse.{IsNumeral};
 ghost use Rattle.geo_decimal.specs.Number.{IsWhole, IsExponent, IsWellFormed};
 ghost use Rattle.geo_decimal.specs.Cutting.{number_of, exponent_of, IsCut, IsCutExponent};
 
-use crate::parts::{Parts, Power};
+use crate::parts::{Exponent, Parts};
 
-/// Whether each part is as the grammar asks.
-pub(crate) fn is_well_formed(parts: &Parts<'_>) -> bool
-    requires { IsCut (number_of parts.now) }
-    ensures { IsTrue result ↔ IsWellFormed (number_of parts.now) }
-{
-    is_whole(parts.whole) && is_fraction(parts.fraction) && is_exponent(parts.exponent)
+impl Parts<'_> {
+    /// Whether each part is as the grammar asks.
+    pub(crate) fn is_well_formed(&self) -> bool
+        requires { IsCut (number_of self.now) }
+        ensures { IsTrue result ↔ IsWellFormed (number_of self.now) }
+    {
+        is_whole(self.whole) && is_fraction(self.fraction) && is_exponent(self.exponent)
+    }
 }
 
 fn is_whole(text: &[u8]) -> bool
@@ -42,12 +44,12 @@ fn is_fraction(text: Option<&[u8]>) -> bool
     }
 }
 
-fn is_exponent(power: Option<Power<'_>>) -> bool
-    requires { IfSome (option_map exponent_of power) IsCutExponent }
-    ensures { IsTrue result ↔ IfSome (option_map exponent_of power.entry) IsExponent }
+fn is_exponent(exponent: Option<Exponent<'_>>) -> bool
+    requires { IfSome (option_map exponent_of exponent) IsCutExponent }
+    ensures { IsTrue result ↔ IfSome (option_map exponent_of exponent.entry) IsExponent }
 {
-    match power {
-        Some(power) => is_numeral(power.digits),
+    match exponent {
+        Some(exponent) => is_numeral(exponent.digits),
         None => true,
     }
 }

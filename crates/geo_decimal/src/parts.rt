@@ -2,7 +2,7 @@
 
 /// An exponent: the byte of its `e`, that of its sign, and what follows.
 #[derive(Clone, Copy)]
-pub(crate) struct Power<'a> {
+pub(crate) struct Exponent<'a> {
     pub mark: u8,
     pub sign: Option<u8>,
     pub digits: &'a [u8],
@@ -14,5 +14,5 @@ pub(crate) struct Parts<'a> {
     pub minus: bool,
     pub whole: &'a [u8],
     pub fraction: Option<&'a [u8]>,
-    pub exponent: Option<Power<'a>>,
+    pub exponent: Option<Exponent<'a>>,
 }

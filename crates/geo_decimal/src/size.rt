@@ -7,41 +7,43 @@ ghost use Rattle.geo_decimal.specs.Value.{digits, fraction_digits, exponent_up, 
 ghost use Rattle.geo_decimal.specs.Cutting.{number_of, exponent_of};
 
 use crate::digits::{LIMIT, capped_value, rounded};
-use crate::parts::{Parts, Power};
+use crate::parts::{Exponent, Parts};
 
-/// The number without its sign, in billionths and rounded, if it is not past the limit.
-pub(crate) fn size(parts: &Parts<'_>) -> Option<u64>
-    requires well_formed { IsWellFormed (number_of parts.now) }
-    requires short { length parts.now.whole.now + length (fraction_digits (number_of parts.now)) < 2 ^ 63 }
-    ensures found { let n = number_of parts.now in IfSome result (λ q. IsRounded (digits n) (tens_up n) (tens_down n) q × q ≤ LIMIT) }
-    ensures none { let n = number_of parts.now in IfNone result ((q : ℕ) × IsRounded (digits n) (tens_up n) (tens_down n) q × LIMIT < q) }
-{
-    match kept_digits(parts.whole.len(), parts.exponent) {
-        Some(kept) => rounded(parts.whole, fraction(parts), kept),
-        None => Some(0),
+impl<'a> Parts<'a> {
+    /// The number without its sign, in billionths and rounded, if it is not past the limit.
+    pub(crate) fn size(&self) -> Option<u64>
+        requires well_formed { IsWellFormed (number_of self.now) }
+        requires short { length self.now.whole.now + length (fraction_digits (number_of self.now)) < 2 ^ 63 }
+        ensures found { let n = number_of self.now in IfSome result (λ q. IsRounded (digits n) (tens_up n) (tens_down n) q × q ≤ LIMIT) }
+        ensures none { let n = number_of self.now in IfNone result ((q : ℕ) × IsRounded (digits n) (tens_up n) (tens_down n) q × LIMIT < q) }
+    {
+        match kept_digits(self.whole.len(), self.exponent) {
+            Some(kept) => rounded(self.whole, self.fraction_digits(), kept),
+            None => Some(0),
+        }
     }
-}
 
-fn fraction<'a>(parts: &Parts<'a>) -> &'a [u8]
-    ensures { result.now ≡ fraction_digits (number_of parts.now) }
-{
-    match parts.fraction {
-        Some(digits) => digits,
-        None => &[],
+    fn fraction_digits(&self) -> &'a [u8]
+        ensures { result.now ≡ fraction_digits (number_of self.now) }
+    {
+        match self.fraction {
+            Some(digits) => digits,
+            None => &[],
+        }
     }
 }
 
 /// How many digits, from the first on, stand at or above the billionths. `None` where a place is left even before the first.
-fn kept_digits(whole_len: usize, exponent: Option<Power<'_>>) -> Option<usize>
+fn kept_digits(whole_len: usize, exponent: Option<Exponent<'_>>) -> Option<usize>
     requires exponent { IfSome (option_map exponent_of exponent) IsExponent }
     requires whole_len { whole_len < 2 ^ 63 }
     ensures { let up = exponent_up (option_map exponent_of exponent.entry) in let down = exponent_down (option_map exponent_of exponent.entry) in MatchOption result (whole_len + 9 < down) (λ kept. (down ≤ whole_len + 9) × (kept ≡ min (whole_len + 9 + up - down) usize.MAX)) }
 {
     let before = whole_len + 9;
     match exponent {
-        Some(power) => {
-            let tens = capped_value(power.digits);
-            if power.sign == Some(b'-') {
+        Some(exponent) => {
+            let tens = capped_value(exponent.digits);
+            if exponent.sign == Some(b'-') {
                 before.checked_sub(tens)
             } else {
                 Some(before.saturating_add(tens))

@@ -8,9 +8,9 @@ returns-in-Some-clause-front c = none_before is_mark c.args.text.now c.in-Some.a
 
 pub returns-in-Some-clause-exponent : goal.returns-in-Some-clause-exponent
 returns-in-Some-clause-exponent c = record {
-  mark = let at = passes_at is_mark c.args.text.now c.in-Some.at c.in-Some.ensures in subst (λ m. is_mark m ≡ true) (sym c.power.ensures.mark) at.1;
-  sign = c.power.ensures.sign;
-  unsigned = c.power.ensures.unsigned;
+  mark = let at = passes_at is_mark c.args.text.now c.in-Some.at c.in-Some.ensures in subst (λ m. is_mark m ≡ true) (sym c.cut_sign.ensures.mark) at.1;
+  sign = c.cut_sign.ensures.sign;
+  unsigned = c.cut_sign.ensures.unsigned;
 }
 
 pub returns-in-None-clause-front : goal.returns-in-None-clause-front

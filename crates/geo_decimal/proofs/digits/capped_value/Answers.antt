@@ -1,4 +1,4 @@
-use Rattle.std.proofs.Common.{◌≡◌, arith}
+use Rattle.std.proofs.Common.{arith}
 use Rattle.std.proofs.lemmas.Str.Parse.{digit_at}
 use Rattle.geo_decimal.proofs.DigitValues.{after_more}
 use Rattle.geo_decimal.proofs.digits.capped_value.Goals as goal

@@ -1,4 +1,4 @@
-use Rattle.std.proofs.Common.{◌≡◌, ◌+◌, arith}
+use Rattle.std.proofs.Common.{◌+◌, arith}
 use Rattle.std.proofs.lemmas.Str.Parse.{digit_at}
 use Rattle.geo_decimal.proofs.DigitValues.{after_more, after_front}
 use Rattle.geo_decimal.proofs.digits.with_digits.Goals as goal

@@ -1,4 +1,4 @@
-use Rattle.std.proofs.Common.{◌≡◌, ◌∙◌, ◌-◌, ◌*◌, arith}
+use Rattle.std.proofs.Common.{◌∙◌, ◌-◌, ◌*◌, arith}
 use Rattle.geo_decimal.proofs.DigitValues.{zeros_grow, zeros_less}
 use Rattle.geo_decimal.proofs.digits.with_zeros.Goals as goal
 

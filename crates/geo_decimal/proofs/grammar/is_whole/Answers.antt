@@ -1,4 +1,4 @@
-use Rattle.std.proofs.Common.{sym, ◌∙◌, arith}
+use Rattle.std.proofs.Common.{sym, ◌∙◌}
 use Rattle.geo_decimal.proofs.Cuts.{whole_from_digits, whole_digits}
 use Rattle.geo_decimal.proofs.DigitLists.{digits_from_test, digits_to_test}
 use Rattle.geo_decimal.proofs.grammar.is_whole.Goals as goal
