@@ -2,15 +2,15 @@
 use Rattle.std.proofs.Common.{ℕ, ◌+◌, ◌-◌, ◌<◌, ◌≤◌, ◌⊎◌, inl, inr, List, length, ◌++◌, refl, arith, ℤ}
 use Rattle.std.proofs.lemmas.Bool.{cases_lt}
 use Rattle.geo_decimal.specs.Number.{Number, IsNumber, IsWellFormed}
-use Rattle.geo_decimal.specs.Value.{digits, fraction_digits, tens_up, tens_down, IsRounded, signed, IsNano}
+use Rattle.geo_decimal.specs.Value.{fraction_digits, tens_up, tens_down, IsSize, signed, IsNano}
 use Rattle.geo_decimal.specs.Rounding.{rounded_at}
 use Rattle.geo_decimal.proofs.Roundings.{kept_rounded, nothing_kept}
 use Rattle.geo_decimal.proofs.Sizes.{all_digits}
 
-some_size : (n : Number) → IsWellFormed n → (q : ℕ) × IsRounded (digits n) (tens_up n) (tens_down n) q
+some_size : (n : Number) → IsWellFormed n → (q : ℕ) × IsSize n q
 some_size n h = go (cases_lt (length (n.whole ++ fraction_digits n) + tens_up n) (tens_down n))
   where
-    go : (length (n.whole ++ fraction_digits n) + tens_up n < tens_down n) ⊎ (tens_down n ≤ length (n.whole ++ fraction_digits n) + tens_up n) → (q : ℕ) × IsRounded (digits n) (tens_up n) (tens_down n) q
+    go : (length (n.whole ++ fraction_digits n) + tens_up n < tens_down n) ⊎ (tens_down n ≤ length (n.whole ++ fraction_digits n) + tens_up n) → (q : ℕ) × IsSize n q
     go (inl far) = (0, nothing_kept (n.whole ++ fraction_digits n) (tens_up n) (tens_down n) (all_digits n h) far)
     go (inr near) =
         let kept = length (n.whole ++ fraction_digits n) + tens_up n - tens_down n in

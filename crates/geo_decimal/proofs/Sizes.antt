@@ -3,7 +3,7 @@ use Rattle.std.proofs.Common.{◌≡◌, ℕ, ◌+◌, ◌-◌, ◌^◌, ◌<◌
 use Rattle.std.specs.Option.{SomeIff}
 use Rattle.std.specs.Str.Parse.{AllDigits, IsNumeral, digits_value}
 use Rattle.geo_decimal.specs.Number.{Exponent, Number, IsWellFormed}
-use Rattle.geo_decimal.specs.Value.{digits, fraction_digits, exponent_up, exponent_down, is_minus, tens_up, tens_down, IsRounded}
+use Rattle.geo_decimal.specs.Value.{digits, fraction_digits, exponent_up, exponent_down, is_minus, tens_up, tens_down, IsSize}
 use Rattle.geo_decimal.specs.Rounding.{rounded_at}
 use Rattle.geo_decimal.proofs.Cuts.{whole_digits}
 use Rattle.geo_decimal.proofs.Roundings.{Found, NotFound, rounded_capped, nothing_kept}
@@ -38,7 +38,7 @@ up_with_down (Some e) h = by_sign (is_minus e.sign) (digits_value 10 e.digits) h
     by_sign true v h = refl
     by_sign false v h = absurd (omega (arith, h))
 
-pub size_none : (n : Number) → IsWellFormed n → length n.whole + 9 < exponent_down n.exponent → IsRounded (digits n) (tens_up n) (tens_down n) 0
+pub size_none : (n : Number) → IsWellFormed n → length n.whole + 9 < exponent_down n.exponent → IsSize n 0
 size_none n h far =
     let up = up_with_down n.exponent (omega (arith, far)) in
     nothing_kept (n.whole ++ fraction_digits n) (tens_up n) (tens_down n) (all_digits n h) (omega (arith, far, up, length-append n.whole (fraction_digits n)))

@@ -4,7 +4,7 @@ use Rattle.std.proofs.lemmas.Bool.{cases_lt}
 use Rattle.std.proofs.lemmas.Int.{ints}
 use Rattle.geo_decimal.specs.Number.{Number, Spells, spelling, IsNumber, IsWellFormed}
 use Rattle.geo_decimal.specs.Cutting.{IsCut}
-use Rattle.geo_decimal.specs.Value.{digits, tens_up, tens_down, IsRounded, signed, IsNano, IsWithin}
+use Rattle.geo_decimal.specs.Value.{IsRounded, IsSize, signed, IsNano, IsWithin}
 use Rattle.geo_decimal.proofs.Cuts.{cut_once, well_formed_cut}
 
 pub rounded_once : (d up down p q : ℕ) → IsRounded d up down p → IsRounded d up down q → p ≡ q
@@ -21,7 +21,7 @@ spelled_once token m n a b = cut_once m n (well_formed_cut m a.well_formed) (wel
 pub one_value : (token : List ℕ) (m n : ℤ) → IsNano token m → IsNano token n → m ≡ n
 one_value token m n a b =
     let same = spelled_once token a.number b.number a.spelled b.spelled in
-    let r : IsRounded (digits a.number) (tens_up a.number) (tens_down a.number) b.size = subst (λ k. IsRounded (digits k) (tens_up k) (tens_down k) b.size) (sym same) b.rounded in
+    let r : IsSize a.number b.size = subst (λ k. IsSize k b.size) (sym same) b.rounded in
     let size : a.size ≡ b.size = rounded_once _ _ _ a.size b.size a.rounded r in
     a.value ∙ ap (λ k. signed k.minus a.size) same ∙ ap (signed b.number.minus) size ∙ sym b.value
 
@@ -46,11 +46,11 @@ pub only_within : (token : List ℕ) (m : ℤ) → IsNano token m → IsWithin m
 only_within token m a within (n, b, past) = past (subst IsWithin (one_value token m n a b) within)
 
 -- what the parts of a token and its size give
-pub value_of_parts : (token : List ℕ) (n : Number) (q : ℕ) (v : ℤ) → spelling n ≡ token → IsWellFormed n → IsRounded (digits n) (tens_up n) (tens_down n) q → v ≡ signed n.minus q → IsNano token v
+pub value_of_parts : (token : List ℕ) (n : Number) (q : ℕ) (v : ℤ) → spelling n ≡ token → IsWellFormed n → IsSize n q → v ≡ signed n.minus q → IsNano token v
 value_of_parts token n q v text fits rounded value = record { number = n; spelled = record { text = sym text; well_formed = fits }; size = q; rounded = rounded; value = value }
 
-pub none_within : (token : List ℕ) (n : Number) (q : ℕ) (v : ℤ) → spelling n ≡ token → IsWellFormed n → IsRounded (digits n) (tens_up n) (tens_down n) q → q ≤ 180000000000 → v ≡ signed n.minus q → ((m : ℤ) × IsNano token m × (IsWithin m → ⊥)) → ⊥
+pub none_within : (token : List ℕ) (n : Number) (q : ℕ) (v : ℤ) → spelling n ≡ token → IsWellFormed n → IsSize n q → q ≤ 180000000000 → v ≡ signed n.minus q → ((m : ℤ) × IsNano token m × (IsWithin m → ⊥)) → ⊥
 none_within token n q v text fits rounded small value = only_within token v (value_of_parts token n q v text fits rounded value) (subst IsWithin (sym value) (within_by_size n.minus q small))
 
-pub some_past : (token : List ℕ) (n : Number) → spelling n ≡ token → IsWellFormed n → ((q : ℕ) × IsRounded (digits n) (tens_up n) (tens_down n) q × (180000000000 < q)) → (v : ℤ) × IsNano token v × (IsWithin v → ⊥)
+pub some_past : (token : List ℕ) (n : Number) → spelling n ≡ token → IsWellFormed n → ((q : ℕ) × IsSize n q × (180000000000 < q)) → (v : ℤ) × IsNano token v × (IsWithin v → ⊥)
 some_past token n text fits (q, rounded, past) = (signed n.minus q, value_of_parts token n q (signed n.minus q) text fits rounded refl, past_by_size n.minus q past)

@@ -42,6 +42,10 @@ pub record IsRounded (d up down q : ℕ) : Type 0 where
   pub exact : down ≤ up → q ≡ d * 10 ^ (up - down)
   pub nearest : up < down → IsGreatest (λ p. 2 * p * 10 ^ (down - up) ≤ 2 * d + 10 ^ (down - up)) q
 
+-- q is the number without its sign, times 10^9 and rounded
+abbrev pub IsSize : Number → ℕ → Type 0
+IsSize n q = IsRounded (digits n) (tens_up n) (tens_down n) q
+
 abbrev pub signed : Bool → ℕ → ℤ
 signed minus size = if minus then neg_ℤ (pos size) else pos size
 
@@ -50,7 +54,7 @@ pub record IsNano (token : List ℕ) (n : ℤ) : Type 0 where
   pub number : Number
   pub spelled : Spells token number
   pub size : ℕ
-  pub rounded : IsRounded (digits number) (tens_up number) (tens_down number) size
+  pub rounded : IsSize number size
   pub value : n ≡ signed number.minus size
 
 -- half a turn either way, in nanodegrees

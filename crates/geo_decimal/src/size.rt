@@ -3,7 +3,7 @@
 ghost use Rattle.std.specs.Prelude.{◌≡◌, ℕ, ◌+◌, ◌-◌, ◌^◌, ◌<◌, ◌≤◌, min, length, IfSome, IfNone, MatchOption};
 ghost use Rattle.std.specs.Option.{option_map};
 ghost use Rattle.geo_decimal.specs.Number.{IsExponent, IsWellFormed};
-ghost use Rattle.geo_decimal.specs.Value.{digits, fraction_digits, exponent_up, exponent_down, tens_up, tens_down, IsRounded};
+ghost use Rattle.geo_decimal.specs.Value.{fraction_digits, exponent_up, exponent_down, IsSize};
 ghost use Rattle.geo_decimal.specs.Cutting.{number_of, exponent_of};
 
 use crate::digits::{LIMIT, capped_value, rounded};
@@ -14,8 +14,8 @@ impl<'a> Parts<'a> {
     pub(crate) fn size(&self) -> Option<u64>
         requires well_formed { IsWellFormed (number_of self.now) }
         requires short { length self.now.whole.now + length (fraction_digits (number_of self.now)) < 2 ^ 63 }
-        ensures found { let n = number_of self.now in IfSome result (λ q. IsRounded (digits n) (tens_up n) (tens_down n) q × q ≤ LIMIT) }
-        ensures none { let n = number_of self.now in IfNone result ((q : ℕ) × IsRounded (digits n) (tens_up n) (tens_down n) q × LIMIT < q) }
+        ensures found { IfSome result (λ q. IsSize (number_of self.now) q × q ≤ LIMIT) }
+        ensures none { IfNone result ((q : ℕ) × IsSize (number_of self.now) q × LIMIT < q) }
     {
         match kept_digits(self.whole.len(), self.exponent) {
             Some(kept) => rounded(self.whole, self.fraction_digits(), kept),
@@ -37,7 +37,10 @@ impl<'a> Parts<'a> {
 fn kept_digits(whole_len: usize, exponent: Option<Exponent<'_>>) -> Option<usize>
     requires exponent { IfSome (option_map exponent_of exponent) IsExponent }
     requires whole_len { whole_len < 2 ^ 63 }
-    ensures { let up = exponent_up (option_map exponent_of exponent.entry) in let down = exponent_down (option_map exponent_of exponent.entry) in MatchOption result (whole_len + 9 < down) (λ kept. (down ≤ whole_len + 9) × (kept ≡ min (whole_len + 9 + up - down) usize.MAX)) }
+    ensures { let up = exponent_up (option_map exponent_of exponent.entry) in
+        let down = exponent_down (option_map exponent_of exponent.entry) in
+        let kept = whole_len + 9 + up - down in
+        MatchOption result (whole_len + 9 < down) (λ k. (down ≤ whole_len + 9) × (k ≡ min kept usize.MAX)) }
 {
     let before = whole_len + 9;
     match exponent {
