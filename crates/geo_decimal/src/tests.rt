@@ -1,3 +1,5 @@
+//! The reading of tokens. The expected values were worked out with the module `decimal` of Python.
+
 use super::*;
 use NumberFault::{Form, Size};
 use std::test::Fail;
