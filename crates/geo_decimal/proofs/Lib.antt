@@ -1,0 +1,9 @@
+pub mod Cuts
+pub mod DigitLists
+pub mod DigitValues
+pub mod Existence
+pub mod Nearest
+pub mod Positions
+pub mod Roundings
+pub mod Sizes
+pub mod Values

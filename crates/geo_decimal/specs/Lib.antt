@@ -1,0 +1,5 @@
+pub mod Cutting
+pub mod Laws
+pub mod Number
+pub mod Rounding
+pub mod Value

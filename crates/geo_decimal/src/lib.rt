@@ -1,0 +1,17 @@
+//! Reads a number of JSON text (RFC 8259, section 6) as a whole number of billionths, exactly and without floating point.
+#![tactic(auto)]
+
+mod coordinate;
+mod cut;
+mod digits;
+mod fault;
+mod grammar;
+mod laws;
+mod parts;
+mod size;
+#[cfg(test)]
+mod tests;
+
+pub use coordinate::nano;
+pub use fault::NumberFault;
+pub use laws::{has_one_value, has_value, rounded_is_nearest};
