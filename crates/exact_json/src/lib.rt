@@ -1,0 +1,15 @@
+//! A JSON text (RFC 8259) as a tree whose numbers stay tokens.
+#![tactic(auto)]
+
+mod fault;
+mod kinds;
+mod number;
+mod reading;
+mod scan;
+mod text;
+mod tree;
+mod whole;
+
+pub use fault::JsonFault;
+pub use tree::{Items, JsonText, Members, Pair, Tree};
+pub use whole::read;
