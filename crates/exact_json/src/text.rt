@@ -1,6 +1,6 @@
 //! Strings (RFC 8259, section 7), from behind the opening quote on.
 
-ghost use Rattle.std.specs.Prelude.{◌≡◌, ◌+◌, ◌≤◌, ◌<◌, ◌++◌, length, option_map, IfOk, IfSome, OnOk, encode_utf8};
+ghost use Rattle.std.specs.Prelude.{◌≡◌, ◌≢◌, ◌+◌, ◌≤◌, ◌<◌, ◌++◌, length, option_map, IfOk, IfSome, OnOk, encode_utf8};
 ghost use Rattle.std.specs.List.{prefix_len};
 ghost use Rattle.std.specs.Char.{digit_value};
 ghost use Rattle.exact_json.specs.Strings.{code_unit, short_escape, low_next, is_low, unit_escape, after_high, escape, text_at, is_plain};
@@ -62,6 +62,7 @@ fn code_unit(text: &[u8]) -> Option<u32>
 #[tactic(auto, unfolding(crate::specs::Strings::short_escape))]
 fn short_escape(x: u8) -> Option<u8>
     ensures value { result ≡ short_escape x }
+    ensures some { IfSome result (λ _. x ≢ 32) }
 {
     match x {
         b'"' | b'\\' | b'/' => Some(x),
@@ -77,7 +78,7 @@ fn short_escape(x: u8) -> Option<u8>
 // The low surrogate whose escape stands in front, if one does.
 fn low_next(text: &[u8]) -> Option<u32>
     ensures value { result ≡ low_next text.now }
-    ensures bounds { IfSome result (λ u. (u < 57344) × (56320 ≤ u)) }
+    ensures bounds { IfSome result (λ u. (u < 57344) × (56320 ≤ u) × (6 ≤ length text.now)) }
 {
     if (byte_at(text, 0) == b'\\') & (byte_at(text, 1) == b'u') {
         let low = code_unit(after(text, 2))?;
@@ -139,7 +140,9 @@ pub(crate) fn pass_text(text: &[u8]) -> Option<&[u8]>
             b'"' => return Some(after(stop, 1)),
             b'\\' => {
                 let code = after(stop, 1);
-                let (_, count) = escape(code)?;
+                let Some((_, count)) = escape(code) else {
+                    return None;
+                };
                 rest = after(code, count);
             }
             _ => return None,

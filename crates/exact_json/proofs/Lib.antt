@@ -1,0 +1,7 @@
+mod Trees
+mod Texts
+mod Numbers
+mod Lists
+mod Passes
+mod Scans
+mod Fronts
