@@ -202,11 +202,11 @@ scalar_value d b j z h = by_bool (head b == 34)
 -- ---- elements
 
 -- what spells each of them
-pub predicates : {E : Type 0} → (E → List ℕ → Type 0) → List E → List (List ℕ → Type 0)
+unfoldable pub predicates : {E : Type 0} → (E → List ℕ → Type 0) → List E → List (List ℕ → Type 0)
 predicates P [] = []
 predicates P (e ∷ es) = P e ∷ predicates P es
 
-pub Each : {E : Type 0} → (E → Type 0) → List E → Type 0
+unfoldable pub Each : {E : Type 0} → (E → Type 0) → List E → Type 0
 Each D [] = Unit {0}
 Each D (e ∷ es) = D e × Each D es
 
@@ -227,7 +227,7 @@ module _ {E : Type 0} (close : ℕ) (p : Parse E) (P : E → List ℕ → Type 0
   MoreFront : List ℕ → List E → List ℕ → Type 0
   MoreFront b es z = (inside : List ℕ) × (b ≡ inside ++ close ∷ z) × MoreElements (predicates P es) (44 ∷ inside) × Each D es
 
-  closed_front : (b first m : List ℕ) (e : E) (es : List E) (z : List ℕ) → b ≡ first ++ m → Padded (P e) first → D e → cond (head m == close) (Some (e ∷ [], drop 1 m)) None ≡ Some (es, z) → MoreFront b es z
+  closed_front : (b first m : List ℕ) (e : E) (es : List E) (z : List ℕ) → b ≡ first ++ m → Padded (P e) first → D e → cond {A = Option (List E × List ℕ)} (head m == close) (Some (e ∷ [], drop 1 m)) None ≡ Some (es, z) → MoreFront b es z
   unfolding MoreFront predicates Each
   closed_front b first m e es z at pad deep h =
       let c = tested (head m == close) (Some (e ∷ [], drop 1 m)) (es, z) h in
@@ -301,7 +301,7 @@ unfolding predicates
 spellings_of [] = refl
 spellings_of (j ∷ js) = ap (λ l. Spells j ∷ l) (spellings_of js)
 
-pub SpellsPair : List ℕ × Json → List ℕ → Type 0
+unfoldable pub SpellsPair : List ℕ × Json → List ℕ → Type 0
 SpellsPair p = IsPair p.0 (Spells p.1)
 
 pub pair_spellings_of : (ps : List (List ℕ × Json)) → predicates SpellsPair ps ≡ pair_spellings (members_of ps)

@@ -5,3 +5,5 @@ mod Lists
 mod Passes
 mod Scans
 mod Fronts
+mod Laws
+mod Document
