@@ -368,7 +368,7 @@ object_value d sound b j z h is =
     subst (λ k. (s : List ℕ) × (b ≡ s ++ z) × Spells k s × (depth k ≤ suc d)) m.2
     (123 ∷ f.0 ++ 125 ∷ [], bracketed b f.0 z 123 125 h (λ w. omega (arith, w)) f.1, (f.0, refl, subst (λ Ps. Elements Ps f.0) (pair_spellings_of m.0) f.2), omega (arith, members_within d m.0 f.3))
 
-not_same : (x c : ℕ) → (x == c) ≡ false → x ≢ c
+pub not_same : (x c : ℕ) → (x == c) ≡ false → x ≢ c
 not_same x c h e = false≢true (sym h ∙ eq_test x c e)
   where
     eq_test : (x c : ℕ) → x ≡ c → (x == c) ≡ true

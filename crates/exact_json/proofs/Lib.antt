@@ -7,3 +7,6 @@ mod Scans
 mod Fronts
 mod Laws
 mod Document
+mod Sizes
+mod Escapes
+mod Utf8
