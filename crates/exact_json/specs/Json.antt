@@ -1,5 +1,5 @@
 -- A JSON value: null, a truth value, a number as its token, a text, a list of values, or a list of pairs of a name and a value.
-use Rattle.std.specs.Prelude.{ℕ, suc, max, List, [], ◌∷◌, Bool, cond, Option, Some, None, unwrap_or, ◌≤◌, length}
+use Rattle.std.specs.Prelude.{ℕ, suc, max, List, [], ◌∷◌, Bool, cond, Option, Some, None, option_map, unwrap_or, ◌≤◌, length}
 use Rattle.std.specs.Str.{bytes_eq, IsUtf8}
 
 mutual
@@ -65,6 +65,35 @@ member (number t) name = null
 member (text s) name = null
 member (items js) name = null
 member (object ms) name = unwrap_or (last_member name ms) null
+
+-- the truth value that it is
+abbrev pub truth : Json → Option Bool
+truth (boolean b) = Some b
+truth _ = None
+
+-- the token of the number that it is
+abbrev pub token : Json → Option (List ℕ)
+token (number t) = Some t
+token _ = None
+
+-- the bytes of the text that it is
+abbrev pub text_bytes : Json → Option (List ℕ)
+text_bytes (text s) = Some s
+text_bytes _ = None
+
+-- the items of the list that it is
+abbrev pub list_items : Json → Option Items
+list_items (items js) = Some js
+list_items _ = None
+
+-- the values of the list that it is, in order
+abbrev pub list_values : Json → Option (List Json)
+list_values j = option_map items_list (list_items j)
+
+-- the members of the object that it is
+abbrev pub object_members : Json → Option Members
+object_members (object ms) = Some ms
+object_members _ = None
 
 -- no list or object in it has more than n items
 abbrev mutual

@@ -6,6 +6,9 @@ use Rattle.exact_json.specs.declared.tree.JsonText.TheVariants.{Plain, Made}
 use Rattle.exact_json.specs.declared.tree.Tree.{Tree, fold-Tree}
 use Rattle.exact_json.specs.declared.tree.Tree.TheOpen.{Tree-F}
 use Rattle.exact_json.specs.declared.tree.Pair.{Pair}
+use Rattle.exact_json.specs.declared.tree.Items.{Items as ListItems, out-Items}
+use Rattle.exact_json.specs.declared.tree.Members.{out-Members}
+use Rattle.exact_json.specs.declared.tree.Members.{Members as ObjectMembers}
 
 -- its bytes
 abbrev pub text_view : JsonText → List ℕ
@@ -41,3 +44,11 @@ items_view ts = items_of (map tree_view ts)
 
 abbrev pub members_view : List Pair → Members
 members_view ps = members_of (map pair_view ps)
+
+-- the items that a list's `Items` stand for
+abbrev pub list_view : ListItems → Items
+list_view v = items_view (out-Items v).list.items
+
+-- the members that an object's `Members` stand for
+abbrev pub object_view : ObjectMembers → Members
+object_view m = members_view (out-Members m).pairs.items
