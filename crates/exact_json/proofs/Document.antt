@@ -11,7 +11,7 @@ use Rattle.exact_json.specs.declared.fault.JsonFault.TheVariants.{Text, Deep, Ou
 use Rattle.exact_json.specs.Scanning.{Reads, Ends, rest_of, past}
 use Rattle.exact_json.proofs.Fronts.{skipped, spelled}
 use Rattle.std.specs.Str.{IsUtf8}
-use Rattle.exact_json.proofs.Laws.{skip_over, skip_value, begins, space_ends, again}
+use Rattle.exact_json.proofs.Agreement.{skip_over, skip_value, begins, space_ends, again}
 
 first_or : Option (Json × List ℕ) → Json
 first_or None = null
@@ -96,3 +96,10 @@ if_ok (Err e) f h = h
 pub no_bytes : (b : List ℕ) → length b ≡ 0 → b ≡ []
 no_bytes [] h = refl
 no_bytes (x ∷ b) h = absurd (omega (arith, h))
+
+pub one_value : (b : List ℕ) (j k : Json) → IsJson b j → IsJson b k → j ≡ k
+unfolding first_or
+one_value b j k h g =
+    let u = whole b (skip (bare b)) j h refl in
+    let v = whole b (skip (bare b)) k g refl in
+    ap (λ o. first_or o) (sym (u.2 (depth j + depth k) (omega arith)) ∙ v.2 (depth j + depth k) (omega arith))

@@ -1,6 +1,6 @@
 -- What was read of a value is spelled so in front of the text.
-use Rattle.std.proofs.Common.{◌≡◌, ◌≢◌, ℕ, zero, suc, ◌+◌, ◌-◌, ◌<◌, ◌≤◌, max, Bool, true, false, cond, ◌&&◌, ◌||◌, ◌==◌, ◌∙◌, List, [], ◌∷◌, ◌++◌, take, drop, length, Option, Some, None, is_some, option_and_then, option_map, nat_eq, refl, sym, ap, ap₂, subst, arith, append_assoc, length-append, take-append-drop}
-use Rattle.std.proofs.lemmas.Bool.{false≢true, eqb-true, and_parts, cases_Bool}
+use Rattle.std.proofs.Common.{◌≡◌, ◌≢◌, ℕ, zero, suc, ◌+◌, ◌-◌, ◌<◌, ◌≤◌, max, Bool, true, false, cond, ◌&&◌, ◌||◌, ◌==◌, ◌∙◌, List, [], ◌∷◌, ◌++◌, take, drop, length, Option, Some, None, is_some, option_and_then, option_map, nat_eq, inl, inr, ◌⊎◌, refl, sym, ap, ap₂, subst, arith, append_assoc, length-append, take-append-drop}
+use Rattle.std.proofs.lemmas.Bool.{false≢true, eqb-true, and_parts, or_cases, cases_Bool}
 use Rattle.std.proofs.lemmas.List.{append-nil}
 use Rattle.std.specs.List.{prefix_len, starts_with}
 use Rattle.std.specs.Str.{bytes_eq}
@@ -13,6 +13,7 @@ use Rattle.exact_json.specs.Grammar.{IsSpace, Padded, MoreElements, Elements, Is
 use Rattle.exact_json.specs.Reading.{Parse, parse_map, skip, literal, more_step, more_elements, elements_at, number_at, name_at, pair_at, token_at, scalar_at, list_of, object_of, value}
 use Rattle.exact_json.proofs.Numbers.{number_alone}
 use Rattle.exact_json.proofs.Texts.{by_bool, then_some, string_front, head_cons, none_some}
+use Rattle.exact_json.proofs.Quiet.{IsQuiet, AllQuiet, quiet_below, quiet_letter, quiet_append, quiet_digits}
 use Rattle.exact_json.proofs.Lists.{value_list, value_object, value_scalar, list_too_deep, object_too_deep}
 
 -- ---- white space
@@ -61,32 +62,36 @@ some_same a b e = cc
 
 -- ---- numbers
 
+-- what follows quiet bytes
 abbrev Suffix : List ℕ → List ℕ → Type 0
-Suffix t r = (f : List ℕ) × (t ≡ f ++ r)
+Suffix t r = (f : List ℕ) × (t ≡ f ++ r) × AllQuiet f
 
 abbrev Suffixes : List ℕ → Option (List ℕ) → Type 0
 Suffixes t o = (r : List ℕ) → o ≡ Some r → Suffix t r
 
-suffix_drop : (n : ℕ) (t : List ℕ) → Suffix t (drop n t)
-suffix_drop n t = (take n t, sym (take-append-drop n t))
+suffix_one : (t : List ℕ) (c : ℕ) → (head t == c) ≡ true → c ≢ 32 → IsQuiet c → Suffix t (drop 1 t)
+suffix_one t c h ne quiet = (c ∷ [], head_cons t c (eqb-true (head t) c h) ne, (quiet, tt))
 
-suffix_one : (t : List ℕ) → Suffix t (drop 1 t)
-suffix_one [] = ([], refl)
-suffix_one (x ∷ xs) = (x ∷ [], refl)
+suffix_either : (t : List ℕ) (c d : ℕ) → ((head t == c) || (head t == d)) ≡ true → c ≢ 32 → d ≢ 32 → IsQuiet c → IsQuiet d → Suffix t (drop 1 t)
+suffix_either t c d h nc nd qc qd = by_case (or_cases (head t == c) (head t == d) h)
+  where
+    by_case : ((head t == c) ≡ true) ⊎ ((head t == d) ≡ true) → Suffix t (drop 1 t)
+    by_case (inl e) = suffix_one t c e nc qc
+    by_case (inr e) = suffix_one t d e nd qd
 
 onto : (t u : List ℕ) (o : Option (List ℕ)) → Suffix t u → Suffixes u o → Suffixes t o
-onto t u o s f r h = let q = f r h in (s.0 ++ q.0, s.1 ∙ ap (λ l. s.0 ++ l) q.1 ∙ sym (append_assoc s.0 q.0 r))
+onto t u o s f r h = let q = f r h in (s.0 ++ q.0, s.1 ∙ ap (λ l. s.0 ++ l) q.1 ∙ sym (append_assoc s.0 q.0 r), quiet_append s.0 q.0 s.2 q.2)
 
-either_suffix : (t : List ℕ) (c : Bool) (x y : Option (List ℕ)) → Suffixes t x → Suffixes t y → Suffixes t (cond c x y)
-either_suffix t true x y f g = f
+either_suffix : (t : List ℕ) (c : Bool) (x y : Option (List ℕ)) → (c ≡ true → Suffixes t x) → Suffixes t y → Suffixes t (cond c x y)
+either_suffix t true x y f g = f refl
 either_suffix t false x y f g = g
 
-either_rest : (t : List ℕ) (c : Bool) (x y : List ℕ) → Suffix t x → Suffix t y → Suffix t (cond c x y)
-either_rest t true x y f g = f
+either_rest : (t : List ℕ) (c : Bool) (x y : List ℕ) → (c ≡ true → Suffix t x) → Suffix t y → Suffix t (cond c x y)
+either_rest t true x y f g = f refl
 either_rest t false x y f g = g
 
 itself : (t : List ℕ) → Suffix t t
-itself t = ([], refl)
+itself t = ([], refl, tt)
 
 some_suffix : (t u : List ℕ) → Suffix t u → Suffixes t (Some u)
 some_suffix t u s r h = subst (Suffix t) (some_same u r h) s
@@ -99,27 +104,41 @@ then_suffix t f None g s = no_suffix t
 then_suffix t f (Some u) g s = onto t u (f u) (s u refl) (g u)
 
 digits_suffix : (t : List ℕ) → Suffixes t (after_digits t)
-digits_suffix t = either_suffix t (prefix_len is_ascii_digit t == 0) None (Some (drop (prefix_len is_ascii_digit t) t)) (no_suffix t) (some_suffix t _ (suffix_drop (prefix_len is_ascii_digit t) t))
+digits_suffix t =
+    let n = prefix_len is_ascii_digit t in
+    either_suffix t (n == 0) None (Some (drop n t)) (λ e. no_suffix t) (some_suffix t (drop n t) (take n t, sym (take-append-drop n t), quiet_digits t))
+
+quiet_minus : IsQuiet 45
+quiet_minus = quiet_below 45 (omega arith) (λ e. omega (arith, e))
 
 whole_suffix : (t : List ℕ) → Suffixes t (after_whole t)
-whole_suffix t = either_suffix t (head t == 48) (Some (drop 1 t)) (after_digits t) (some_suffix t _ (suffix_one t)) (digits_suffix t)
+whole_suffix t = either_suffix t (head t == 48) (Some (drop 1 t)) (after_digits t) (λ e. some_suffix t _ (suffix_one t 48 e (λ w. omega (arith, w)) (quiet_below 48 (omega arith) (λ w. omega (arith, w))))) (digits_suffix t)
 
 fraction_suffix : (t : List ℕ) → Suffixes t (after_fraction t)
-fraction_suffix t = either_suffix t (head t == 46) (after_digits (drop 1 t)) (Some t) (onto t (drop 1 t) _ (suffix_one t) (digits_suffix (drop 1 t))) (some_suffix t t (itself t))
+fraction_suffix t =
+    either_suffix t (head t == 46) (after_digits (drop 1 t)) (Some t)
+    (λ e. onto t (drop 1 t) _ (suffix_one t 46 e (λ w. omega (arith, w)) (quiet_below 46 (omega arith) (λ w. omega (arith, w)))) (digits_suffix (drop 1 t))) (some_suffix t t (itself t))
 
 sign_suffix : (t : List ℕ) → Suffix t (after_sign t)
-sign_suffix t = either_rest t ((head t == 45) || (head t == 43)) (drop 1 t) t (suffix_one t) (itself t)
+sign_suffix t =
+    either_rest t ((head t == 45) || (head t == 43)) (drop 1 t) t
+    (λ e. suffix_either t 45 43 e (λ w. omega (arith, w)) (λ w. omega (arith, w)) quiet_minus (quiet_below 43 (omega arith) (λ w. omega (arith, w)))) (itself t)
 
 exponent_suffix : (t : List ℕ) → Suffixes t (after_exponent t)
 exponent_suffix t =
     either_suffix t ((head t == 101) || (head t == 69)) (after_digits (after_sign (drop 1 t))) (Some t)
-    (onto t (drop 1 t) _ (suffix_one t) (onto (drop 1 t) (after_sign (drop 1 t)) _ (sign_suffix (drop 1 t)) (digits_suffix (after_sign (drop 1 t))))) (some_suffix t t (itself t))
+    (λ e. onto t (drop 1 t) _ (suffix_either t 101 69 e (λ w. omega (arith, w)) (λ w. omega (arith, w)) (quiet_letter 101 (omega arith) (omega arith)) (quiet_below 69 (omega arith) (λ w. omega (arith, w))))
+      (onto (drop 1 t) (after_sign (drop 1 t)) _ (sign_suffix (drop 1 t)) (digits_suffix (after_sign (drop 1 t))))) (some_suffix t t (itself t))
 
 number_suffix : (t : List ℕ) → Suffixes t (after_number t)
 unfolding after_number
 number_suffix t =
     then_suffix t after_exponent _ exponent_suffix (then_suffix t after_fraction _ fraction_suffix
-    (onto t (after_minus t) (after_whole (after_minus t)) (either_rest t (head t == 45) (drop 1 t) t (suffix_one t) (itself t)) (whole_suffix (after_minus t))))
+    (onto t (after_minus t) (after_whole (after_minus t)) (either_rest t (head t == 45) (drop 1 t) t (λ e. suffix_one t 45 e (λ w. omega (arith, w)) quiet_minus) (itself t)) (whole_suffix (after_minus t))))
+
+-- a number has no quote and no bracket
+pub quiet_number : (t : List ℕ) → IsNumber t → AllQuiet t
+quiet_number t h = let s = number_suffix t [] h in subst AllQuiet (sym (s.1 ∙ append-nil s.0)) s.2
 
 pub take_front : (t rest : List ℕ) → take (length (t ++ rest) - length rest) (t ++ rest) ≡ t
 take_front t rest = let n : length (t ++ rest) - length rest ≡ length t = omega (arith, length-append t rest) in ap (λ k. take k (t ++ rest)) n ∙ take_whole t rest

@@ -4,9 +4,11 @@ mod Numbers
 mod Lists
 mod Passes
 mod Scans
+mod Quiet
 mod Fronts
-mod Laws
+mod Agreement
 mod Document
 mod Sizes
 mod Escapes
 mod Utf8
+mod Walks

@@ -76,7 +76,7 @@ escape_cut = escape_forms Cut
 Utf8Below : ℕ → Type 0
 Utf8Below n = (b s r : List ℕ) → length b < n → text_at 0 b ≡ Some (s, r) → IsUtf8 b → IsUtf8 s
 
-by_option : {A B : Type 0} (o : Option A) → (o ≡ None → B) → ((x : A) → o ≡ Some x → B) → B
+pub by_option : {A B : Type 0} (o : Option A) → (o ≡ None → B) → ((x : A) → o ≡ Some x → B) → B
 by_option None f g = f refl
 by_option (Some x) f g = g x refl
 

@@ -6,3 +6,4 @@ pub mod Strings
 pub mod Grammar
 pub mod Reading
 pub mod Scanning
+pub mod Nesting

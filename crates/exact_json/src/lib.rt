@@ -3,9 +3,12 @@
 
 mod fault;
 mod kinds;
+pub mod laws;
 mod number;
 mod reading;
 mod scan;
+#[cfg(test)]
+mod tests;
 mod text;
 mod tree;
 mod whole;
