@@ -24,8 +24,8 @@ fn deep_fault(alloc: Global, start: &[u8]) -> JsonFault
     ensures deep { result ≡ JsonFault.Deep → (j : Json) × Starts start.now j × (64 < depth j) }
 {
     match scan(alloc, start) {
-        Ok(rest) => {
-            if skip_spaces(rest).is_empty() {
+        Ok(behind) => {
+            if skip_spaces(behind).is_empty() {
                 JsonFault::Deep
             } else {
                 JsonFault::Text
