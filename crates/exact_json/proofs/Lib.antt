@@ -1,0 +1,14 @@
+mod Trees
+mod Texts
+mod Numbers
+mod Lists
+mod Passes
+mod Scans
+mod Quiet
+mod Fronts
+mod Agreement
+mod Document
+mod Sizes
+mod Escapes
+mod Utf8
+mod Walks

@@ -1,0 +1,205 @@
+use Rattle.std.proofs.Common.{◌≡◌, ◌≢◌, ℕ, suc, ◌+◌, ◌-◌, ◌<◌, ◌≤◌, [], ◌∷◌, ◌++◌, drop, length, map, Some, None, Err, sym, ap, ◌∙◌, subst, arith, rules}
+use Rattle.std.proofs.lemmas.Result.{err_from_is_err_and}
+use Rattle.exact_json.specs.View.{tree_view, pair_view, text_view}
+use Rattle.exact_json.specs.Number.{head}
+use Rattle.exact_json.specs.Reading.{parse_map, skip, more_elements, elements_at, name_at, pair_at, value, Gives}
+use Rattle.exact_json.proofs.Lists.{joined, joined_nil, map_pushed, comma_turn, last_turn, bad_turn, lost_turn, no_elements, some_elements, list_too_deep, object_too_deep, pair_named, pair_unnamed, carry, carry_up, carry_miss, list_is, object_is, no_list, no_object, scalar_is}
+use Rattle.exact_json.proofs.reading.+read.Goals as goal
+
+-- ---- a value
+
+pub read_value-returns-then-depth-eq0-clause-value : goal.read_value-returns-then-depth-eq0-clause-value
+read_value-returns-then-depth-eq0-clause-value t c =
+    let h : head c.args.text.now ≡ 91 = grind arith in
+    let z : c.args.depth ≡ 0 = omega arith in
+    ap (λ d. value d c.args.text.now) z ∙ list_too_deep c.args.text.now h
+
+pub read_value-returns-then-depth-eq0-2-clause-value : goal.read_value-returns-then-depth-eq0-2-clause-value
+read_value-returns-then-depth-eq0-2-clause-value t c =
+    let h : head c.args.text.now ≡ 123 = grind arith in
+    let z : c.args.depth ≡ 0 = omega arith in
+    ap (λ d. value d c.args.text.now) z ∙ object_too_deep c.args.text.now h
+
+pub read_value-returns-in_ok-list-in-91-clause-value : goal.read_value-returns-in_ok-list-in-91-clause-value
+read_value-returns-in_ok-list-in-91-clause-value t c =
+    let b = c.args.text.now in
+    let h : head b ≡ 91 = grind arith in
+    let found = c.in_ok-list-in-91 in
+    let least = λ (d : ℕ) (le : c.args.depth ≤ d). list_is (c.args.depth - 1) b c.after.result.now found.rest.now (map tree_view found.list.items) h c.after.ensures.value found.ensures.value d (omega arith) in
+    λ d le. least d le ∙ ap (λ j. Some (j, found.rest.now)) (sym c.array.ensures)
+
+pub read_value-returns-in_ok-pairs-in-123-clause-value : goal.read_value-returns-in_ok-pairs-in-123-clause-value
+read_value-returns-in_ok-pairs-in-123-clause-value t c =
+    let b = c.args.text.now in
+    let h : head b ≡ 123 = grind arith in
+    let found = c.in_ok-pairs-in-123 in
+    let least = λ (d : ℕ) (le : c.args.depth ≤ d). object_is (c.args.depth - 1) b c.after-in-123.result.now found.rest.now (map pair_view found.pairs.items) h c.after-in-123.ensures.value found.ensures.value d (omega arith) in
+    λ d le. least d le ∙ ap (λ j. Some (j, found.rest.now)) (sym c.record.ensures)
+
+pub read_value-returns-in_err-list-in-91-clause-value : goal.read_value-returns-in_err-list-in-91-clause-value
+read_value-returns-in_err-list-in-91-clause-value t c =
+    let b = c.args.text.now in
+    let h : head b ≡ 91 = grind arith in
+    let e = c.in_err-list-in-91.field-0.0 in
+    let p = err_from_is_err_and c.from_residual.result c.from_residual.ensures.1 in
+    let same : p.0 ≡ e = first_of (search (rules, p.2), grind (arith, p.2)) in
+    let next : suc (c.args.depth - 1) ≡ c.args.depth = omega arith in
+    rw (p.1, same) (carry_up (c.args.depth - 1) c.args.depth (λ d. elements_at 93 (value d) c.after.result.now) (λ d. value d b) next (λ d le none. no_list b c.after.result.now h c.after.ensures.value d none) e c.in_err-list-in-91.ensures.value)
+
+pub read_value-returns-in_err-pairs-in-123-clause-value : goal.read_value-returns-in_err-pairs-in-123-clause-value
+read_value-returns-in_err-pairs-in-123-clause-value t c =
+    let b = c.args.text.now in
+    let h : head b ≡ 123 = grind arith in
+    let e = c.in_err-pairs-in-123.field-0.0 in
+    let p = err_from_is_err_and c.from_residual-in_err-pairs-in-123.result c.from_residual-in_err-pairs-in-123.ensures.1 in
+    let same : p.0 ≡ e = first_of (search (rules, p.2), grind (arith, p.2)) in
+    let next : suc (c.args.depth - 1) ≡ c.args.depth = omega arith in
+    rw (p.1, same) (carry_up (c.args.depth - 1) c.args.depth (λ d. elements_at 125 (pair_at (value d)) c.after-in-123.result.now) (λ d. value d b) next (λ d le none. no_object b c.after-in-123.result.now h c.after-in-123.ensures.value d none) e c.in_err-pairs-in-123.ensures.value)
+
+pub read_value-returns-in_default-clause-value : goal.read_value-returns-in_default-clause-value
+read_value-returns-in_default-clause-value t c =
+    let h : head c.args.text.now ≢ 91 = grind arith in
+    let g : head c.args.text.now ≢ 123 = grind arith in
+    scalar_is _ c.args.depth c.args.text.now c.read_scalar.result h g c.read_scalar.ensures.value
+
+-- ---- read_items
+
+pub read_items-returns-then-byte_at-eq93-clause-value : goal.read_items-returns-then-byte_at-eq93-clause-value
+read_items-returns-then-byte_at-eq93-clause-value t c =
+    let s = c.skip_spaces-rest.result.now in
+    let h : head s ≡ 93 = grind arith in
+    λ d le. no_elements 93 (value d) c.args.text.now s c.after.result.now c.skip_spaces-rest.ensures.value h c.after.ensures.value ∙ ap (λ l. Some (map tree_view l, c.after.result.now)) (sym c.new-list.ensures.items)
+
+pub read_items-loop-list-init : goal.read_items-loop-list-init
+read_items-loop-list-init t c =
+    let s = c.skip_spaces-rest.result.now in
+    let h : head s ≢ 93 = grind arith in
+    (suc (length s), omega arith,
+      (λ d le. some_elements 93 (value d) c.args.text.now s c.skip_spaces-rest.ensures.value h ∙ joined_nil (more_elements 93 (value d) (suc (length s)) s) ∙ ap (λ l. joined (map tree_view l) (more_elements 93 (value d) (suc (length s)) s)) (sym c.new-list.ensures.items)),
+      c.skip_spaces-rest.ensures.within)
+
+pub read_items-loop-list-preserved : goal.read_items-loop-list-preserved
+read_items-loop-list-preserved t c =
+    let l = c.loop-list in
+    let n = l.invariant.0 in
+    let s = c.skip_spaces.result.now in
+    let m = c.skip_spaces-mark.result.now in
+    let tree = c.in_ok-tree.tree in
+    let rest = c.after-rest.result.now in
+    let h : head m ≡ 44 = grind arith in
+    let grown : c.push.new.self.items ≡ l.list.items ++ tree ∷ [] = search rules in
+    let seen : map tree_view l.list.items ++ tree_view tree ∷ [] ≡ map tree_view c.push.new.self.items = map_pushed tree_view l.list.items tree ∙ ap (map tree_view) (sym grown) in
+    let inside = c.in_ok-tree.ensures.within in
+    (n - 1, omega (arith, l.invariant.1, inside),
+      (λ d le. l.invariant.2 d le
+          ∙ comma_turn 93 (value d) n l.rest.now s m (map tree_view l.list.items) (map tree_view c.push.new.self.items) (tree_view tree) c.in_ok-tree.behind.now rest (omega (arith, l.invariant.1)) c.skip_spaces.ensures.value (c.in_ok-tree.ensures.value d le) c.skip_spaces-mark.ensures.value h c.after-rest.ensures.value seen),
+      omega (arith, l.invariant.3, inside))
+
+pub read_items-returns-in-93-clause-value : goal.read_items-returns-in-93-clause-value
+read_items-returns-in-93-clause-value t c =
+    let l = c.loop-list in
+    let n = l.invariant.0 in
+    let s = c.skip_spaces.result.now in
+    let m = c.skip_spaces-mark.result.now in
+    let tree = c.in_ok-tree.tree in
+    let rest = c.after-in-93.result.now in
+    let h : head m ≡ 93 = grind arith in
+    let grown : c.push.new.self.items ≡ l.list.items ++ tree ∷ [] = search rules in
+    let seen : map tree_view l.list.items ++ tree_view tree ∷ [] ≡ map tree_view c.push.new.self.items = map_pushed tree_view l.list.items tree ∙ ap (map tree_view) (sym grown) in
+    λ d le. l.invariant.2 d le
+        ∙ last_turn 93 (value d) n l.rest.now s m (map tree_view l.list.items) (map tree_view c.push.new.self.items) (tree_view tree) c.in_ok-tree.behind.now rest (λ e. omega (arith, e)) (omega (arith, l.invariant.1)) c.skip_spaces.ensures.value (c.in_ok-tree.ensures.value d le) c.skip_spaces-mark.ensures.value h c.after-in-93.ensures.value seen
+
+pub read_items-returns-in_default-clause-value : goal.read_items-returns-in_default-clause-value
+read_items-returns-in_default-clause-value t c =
+    let l = c.loop-list in
+    let n = l.invariant.0 in
+    let s = c.skip_spaces.result.now in
+    let m = c.skip_spaces-mark.result.now in
+    let tree = c.in_ok-tree.tree in
+    let nc : head m ≢ 44 = grind arith in
+    let nb : head m ≢ 93 = grind arith in
+    λ d le. l.invariant.2 d le
+        ∙ bad_turn 93 (value d) n l.rest.now s m (map tree_view l.list.items) (tree_view tree) c.in_ok-tree.behind.now (omega (arith, l.invariant.1)) c.skip_spaces.ensures.value (c.in_ok-tree.ensures.value d le) c.skip_spaces-mark.ensures.value nc nb
+
+pub read_items-returns-in_err-tree-clause-value : goal.read_items-returns-in_err-tree-clause-value
+read_items-returns-in_err-tree-clause-value t c =
+    let l = c.loop-list in
+    let n = l.invariant.0 in
+    let s = c.skip_spaces.result.now in
+    let e = c.in_err-tree.field-0.0 in
+    let p = err_from_is_err_and c.from_residual.result c.from_residual.ensures.1 in
+    let same : p.0 ≡ e = first_of (search (rules, p.2), grind (arith, p.2)) in
+    let q = λ (d : ℕ). elements_at 93 (value d) c.args.text.now in
+    let fails = λ (d : ℕ) (le : c.args.depth ≤ d) (none : (value d) s ≡ None). l.invariant.2 d le ∙ lost_turn 93 (value d) n l.rest.now s (map tree_view l.list.items) (omega (arith, l.invariant.1)) c.skip_spaces.ensures.value none in
+    rw (p.1, same) (carry c.args.depth (λ d. (value d) s) q fails e c.in_err-tree.ensures.value)
+
+-- ---- read_members
+
+pub read_members-returns-then-byte_at-eq125-clause-value : goal.read_members-returns-then-byte_at-eq125-clause-value
+read_members-returns-then-byte_at-eq125-clause-value t c =
+    let s = c.skip_spaces-rest.result.now in
+    let h : head s ≡ 125 = grind arith in
+    λ d le. no_elements 125 (pair_at (value d)) c.args.text.now s c.after.result.now c.skip_spaces-rest.ensures.value h c.after.ensures.value ∙ ap (λ l. Some (map pair_view l, c.after.result.now)) (sym c.new-pairs.ensures.items)
+
+pub read_members-loop-pairs-init : goal.read_members-loop-pairs-init
+read_members-loop-pairs-init t c =
+    let s = c.skip_spaces-rest.result.now in
+    let h : head s ≢ 125 = grind arith in
+    (suc (length s), omega arith,
+      (λ d le. some_elements 125 (pair_at (value d)) c.args.text.now s c.skip_spaces-rest.ensures.value h ∙ joined_nil (more_elements 125 (pair_at (value d)) (suc (length s)) s) ∙ ap (λ l. joined (map pair_view l) (more_elements 125 (pair_at (value d)) (suc (length s)) s)) (sym c.new-pairs.ensures.items)),
+      c.skip_spaces-rest.ensures.within)
+
+pub read_members-loop-pairs-preserved : goal.read_members-loop-pairs-preserved
+read_members-loop-pairs-preserved t c =
+    let l = c.loop-pairs in
+    let n = l.invariant.0 in
+    let s = c.skip_spaces.result.now in
+    let m = c.skip_spaces-mark.result.now in
+    let pair = c.in_ok-pair.pair in
+    let rest = c.after-rest.result.now in
+    let h : head m ≡ 44 = grind arith in
+    let grown : c.push.new.self.items ≡ l.pairs.items ++ pair ∷ [] = search rules in
+    let seen : map pair_view l.pairs.items ++ pair_view pair ∷ [] ≡ map pair_view c.push.new.self.items = map_pushed pair_view l.pairs.items pair ∙ ap (map pair_view) (sym grown) in
+    let inside = c.in_ok-pair.ensures.within in
+    (n - 1, omega (arith, l.invariant.1, inside),
+      (λ d le. l.invariant.2 d le
+          ∙ comma_turn 125 (pair_at (value d)) n l.rest.now s m (map pair_view l.pairs.items) (map pair_view c.push.new.self.items) (pair_view pair) c.in_ok-pair.behind.now rest (omega (arith, l.invariant.1)) c.skip_spaces.ensures.value (c.in_ok-pair.ensures.value d le) c.skip_spaces-mark.ensures.value h c.after-rest.ensures.value seen),
+      omega (arith, l.invariant.3, inside))
+
+pub read_members-returns-in-125-clause-value : goal.read_members-returns-in-125-clause-value
+read_members-returns-in-125-clause-value t c =
+    let l = c.loop-pairs in
+    let n = l.invariant.0 in
+    let s = c.skip_spaces.result.now in
+    let m = c.skip_spaces-mark.result.now in
+    let pair = c.in_ok-pair.pair in
+    let rest = c.after-in-125.result.now in
+    let h : head m ≡ 125 = grind arith in
+    let grown : c.push.new.self.items ≡ l.pairs.items ++ pair ∷ [] = search rules in
+    let seen : map pair_view l.pairs.items ++ pair_view pair ∷ [] ≡ map pair_view c.push.new.self.items = map_pushed pair_view l.pairs.items pair ∙ ap (map pair_view) (sym grown) in
+    λ d le. l.invariant.2 d le
+        ∙ last_turn 125 (pair_at (value d)) n l.rest.now s m (map pair_view l.pairs.items) (map pair_view c.push.new.self.items) (pair_view pair) c.in_ok-pair.behind.now rest (λ e. omega (arith, e)) (omega (arith, l.invariant.1)) c.skip_spaces.ensures.value (c.in_ok-pair.ensures.value d le) c.skip_spaces-mark.ensures.value h c.after-in-125.ensures.value seen
+
+pub read_members-returns-in_default-clause-value : goal.read_members-returns-in_default-clause-value
+read_members-returns-in_default-clause-value t c =
+    let l = c.loop-pairs in
+    let n = l.invariant.0 in
+    let s = c.skip_spaces.result.now in
+    let m = c.skip_spaces-mark.result.now in
+    let pair = c.in_ok-pair.pair in
+    let nc : head m ≢ 44 = grind arith in
+    let nb : head m ≢ 125 = grind arith in
+    λ d le. l.invariant.2 d le
+        ∙ bad_turn 125 (pair_at (value d)) n l.rest.now s m (map pair_view l.pairs.items) (pair_view pair) c.in_ok-pair.behind.now (omega (arith, l.invariant.1)) c.skip_spaces.ensures.value (c.in_ok-pair.ensures.value d le) c.skip_spaces-mark.ensures.value nc nb
+
+pub read_members-returns-in_err-pair-clause-value : goal.read_members-returns-in_err-pair-clause-value
+read_members-returns-in_err-pair-clause-value t c =
+    let l = c.loop-pairs in
+    let n = l.invariant.0 in
+    let s = c.skip_spaces.result.now in
+    let e = c.in_err-pair.field-0.0 in
+    let p = err_from_is_err_and c.from_residual.result c.from_residual.ensures.1 in
+    let same : p.0 ≡ e = first_of (search (rules, p.2), grind (arith, p.2)) in
+    let q = λ (d : ℕ). elements_at 125 (pair_at (value d)) c.args.text.now in
+    let fails = λ (d : ℕ) (le : c.args.depth ≤ d) (none : (pair_at (value d)) s ≡ None). l.invariant.2 d le ∙ lost_turn 125 (pair_at (value d)) n l.rest.now s (map pair_view l.pairs.items) (omega (arith, l.invariant.1)) c.skip_spaces.ensures.value none in
+    rw (p.1, same) (carry c.args.depth (λ d. (pair_at (value d)) s) q fails e c.in_err-pair.ensures.value)

@@ -1,0 +1,18 @@
+//! Laws of JSON texts, as functions that do nothing: what they ensure holds of all texts.
+
+ghost use Rattle.std.specs.Prelude.{◌≡◌, ℕ, List};
+ghost use Rattle.exact_json.specs.Json.{Json, depth};
+ghost use Rattle.exact_json.specs.Grammar.{IsJson, bare};
+ghost use Rattle.exact_json.specs.Nesting.{nesting};
+
+/// A text has at most one value.
+pub fn one_value()
+    ensures { (b : List ℕ) → (j k : Json) → IsJson b j → IsJson b k → j ≡ k }
+{
+}
+
+/// A value is as deep as its text nests.
+pub fn depth_is_nesting()
+    ensures { (b : List ℕ) → (j : Json) → IsJson b j → depth j ≡ nesting (bare b) }
+{
+}

@@ -1,0 +1,18 @@
+//! A JSON text (RFC 8259) as a tree whose numbers stay tokens.
+#![tactic(auto)]
+
+mod fault;
+mod kinds;
+pub mod laws;
+mod number;
+mod reading;
+mod scan;
+#[cfg(test)]
+mod tests;
+mod text;
+mod tree;
+mod whole;
+
+pub use fault::JsonFault;
+pub use tree::{Items, JsonText, Members, Pair, Tree};
+pub use whole::read;

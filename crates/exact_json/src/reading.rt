@@ -1,0 +1,210 @@
+//! A value in front of a text, and what follows it.
+
+ghost use Rattle.std.specs.Prelude.{◌≡◌, ◌≤◌, ◌<◌, length, map, IfOk, IfSome, option_map};
+ghost use Rattle.exact_json.specs.Number.{ends_value};
+ghost use Rattle.exact_json.specs.View.{tree_view, text_view, pair_view};
+ghost use Rattle.exact_json.specs.Reading.{Gives, Finds, skip, elements_at, value, scalar_at, token_at, number_at, name_at, pair_at, literal};
+
+use crate::fault::JsonFault;
+use crate::number::{after, after_number, byte_at};
+use crate::text::read_text;
+use crate::tree::{JsonText, Pair, Tree, array, record};
+use std::alloc::Global;
+
+pub(crate) fn skip_spaces(text: &[u8]) -> &[u8]
+    ensures value { result.now ≡ skip text.now }
+    ensures within { length result.now ≤ length text.now }
+{
+    let mut i = 0;
+    while i < text.len()
+        && (text[i] == b' ' || text[i] == b'\t' || text[i] == b'\n' || text[i] == b'\r')
+    {
+        i += 1;
+    }
+    after(text, i)
+}
+
+fn ends_value(c: u8) -> bool
+    ensures { result ≡ ends_value c }
+{
+    let space = (c == b' ') | (c == b'\t') | (c == b'\n') | (c == b'\r');
+    space | (c == b',') | (c == b']') | (c == b'}')
+}
+
+#[tactic(auto, unfolding(crate::specs::Reading::number_at))]
+fn read_number(text: &[u8]) -> Option<(&[u8], &[u8])>
+    ensures value { option_map (λ r. (r.0.now, r.1.now)) result ≡ number_at text.now }
+    ensures within { IfSome result (λ r. length r.1.now ≤ length text.now) }
+{
+    let rest = after_number(text)?;
+    if ends_value(byte_at(rest, 0)) {
+        Some((text.split_at(text.len() - rest.len()).0, rest))
+    } else {
+        None
+    }
+}
+
+fn read_literal<'a>(text: &'a [u8], name: &[u8], tree: Tree<'a>) -> Option<(Tree<'a>, &'a [u8])>
+    ensures value { option_map (λ r. (tree_view r.0, r.1.now)) result
+        ≡ literal name.now (tree_view tree.entry) text.now }
+    ensures within { IfSome result (λ r. length r.1.now ≤ length text.now) }
+{
+    if text.starts_with(name) {
+        Some((tree, after(text, name.len())))
+    } else {
+        None
+    }
+}
+
+// A literal or a number in front.
+pub(crate) fn read_token(text: &[u8]) -> Option<(Tree<'_>, &[u8])>
+    ensures value { option_map (λ r. (tree_view r.0, r.1.now)) result ≡ token_at text.now }
+    ensures within { IfSome result (λ r. length r.1.now ≤ length text.now) }
+{
+    match byte_at(text, 0) {
+        b'n' => read_literal(text, b"null", Tree::Null),
+        b't' => read_literal(text, b"true", Tree::Bool(true)),
+        b'f' => read_literal(text, b"false", Tree::Bool(false)),
+        _ => match read_number(text) {
+            Some((token, rest)) => Some((Tree::Number(token), rest)),
+            None => None,
+        },
+    }
+}
+
+// A value that is no list and no object.
+fn read_scalar<'a>(alloc: Global, text: &'a [u8]) -> Result<(Tree<'a>, &'a [u8]), JsonFault>
+    ensures value { Finds (λ r. (tree_view r.0, r.1.now)) (scalar_at text.now) result }
+    ensures within { IfOk result (λ r. length r.1.now ≤ length text.now) }
+{
+    if byte_at(text, 0) == b'"' {
+        let (string, rest) = read_text(alloc, after(text, 1))?;
+        return Ok((Tree::Text(string), rest));
+    }
+    match read_token(text) {
+        Some((tree, rest)) => Ok((tree, rest)),
+        None => Err(JsonFault::Text),
+    }
+}
+
+// A name and its colon.
+#[tactic(auto, unfolding(crate::specs::Reading::name_at))]
+fn read_name<'a>(
+    alloc: Global,
+    text: &'a [u8],
+) -> Result<(JsonText<'a>, &'a [u8]), JsonFault>
+    ensures value { Finds (λ r. (text_view r.0, r.1.now)) (name_at text.now) result }
+    ensures within { IfOk result (λ r. length r.1.now ≤ length text.now) }
+{
+    if byte_at(text, 0) != b'"' {
+        return Err(JsonFault::Text);
+    }
+    let (name, rest) = read_text(alloc, after(text, 1))?;
+    let mark = skip_spaces(rest);
+    if byte_at(mark, 0) == b':' {
+        Ok((name, after(mark, 1)))
+    } else {
+        Err(JsonFault::Text)
+    }
+}
+
+// One value, with lists and objects nested no deeper than `depth`.
+#[cycle(read)]
+pub(crate) fn read_value<'a>(
+    alloc: Global,
+    text: &'a [u8],
+    depth: usize,
+) -> Result<(Tree<'a>, &'a [u8]), JsonFault>
+    ensures value { Gives (λ r. (tree_view r.0, r.1.now)) depth (λ d. value d text.now) result }
+    ensures within { IfOk result (λ r. length r.1.now ≤ length text.now) }
+{
+    match byte_at(text, 0) {
+        b'[' => {
+            if depth == 0 {
+                return Err(JsonFault::Deep);
+            }
+            let (list, rest) = read_items(alloc, after(text, 1), depth - 1)?;
+            Ok((array(list), rest))
+        }
+        b'{' => {
+            if depth == 0 {
+                return Err(JsonFault::Deep);
+            }
+            let (pairs, rest) = read_members(alloc, after(text, 1), depth - 1)?;
+            Ok((record(pairs), rest))
+        }
+        _ => read_scalar(alloc, text),
+    }
+}
+
+// The items behind an opening bracket, and what follows the closing one.
+#[cycle(read)]
+fn read_items<'a>(
+    alloc: Global,
+    text: &'a [u8],
+    depth: usize,
+) -> Result<(Vec<Tree<'a>>, &'a [u8]), JsonFault>
+    ensures value { Gives (λ r. (map tree_view r.0.items, r.1.now)) depth
+        (λ d. elements_at 93 (value d) text.now) result }
+    ensures within { IfOk result (λ r. length r.1.now ≤ length text.now) }
+{
+    let mut list = Vec::new(alloc);
+    let mut rest = skip_spaces(text);
+    if byte_at(rest, 0) == b']' {
+        return Ok((list, after(rest, 1)));
+    }
+    loop {
+        let (tree, behind) = read_value(alloc, skip_spaces(rest), depth)?;
+        list.push(tree)?;
+        let mark = skip_spaces(behind);
+        match byte_at(mark, 0) {
+            b',' => rest = after(mark, 1),
+            b']' => return Ok((list, after(mark, 1))),
+            _ => return Err(JsonFault::Text),
+        }
+    }
+}
+
+// A name, its colon and a value.
+#[cycle(read)]
+fn read_pair<'a>(
+    alloc: Global,
+    text: &'a [u8],
+    depth: usize,
+) -> Result<(Pair<'a>, &'a [u8]), JsonFault>
+    ensures value { Gives (λ r. (pair_view r.0, r.1.now)) depth
+        (λ d. pair_at (value d) text.now) result }
+    ensures within { IfOk result (λ r. length r.1.now ≤ length text.now) }
+{
+    let (name, rest) = read_name(alloc, text)?;
+    let (value, behind) = read_value(alloc, skip_spaces(rest), depth)?;
+    Ok((Pair { name, value }, behind))
+}
+
+// The pairs behind an opening bracket, and what follows the closing one.
+#[cycle(read)]
+fn read_members<'a>(
+    alloc: Global,
+    text: &'a [u8],
+    depth: usize,
+) -> Result<(Vec<Pair<'a>>, &'a [u8]), JsonFault>
+    ensures value { Gives (λ r. (map pair_view r.0.items, r.1.now)) depth
+        (λ d. elements_at 125 (pair_at (value d)) text.now) result }
+    ensures within { IfOk result (λ r. length r.1.now ≤ length text.now) }
+{
+    let mut pairs = Vec::new(alloc);
+    let mut rest = skip_spaces(text);
+    if byte_at(rest, 0) == b'}' {
+        return Ok((pairs, after(rest, 1)));
+    }
+    loop {
+        let (pair, behind) = read_pair(alloc, skip_spaces(rest), depth)?;
+        pairs.push(pair)?;
+        let mark = skip_spaces(behind);
+        match byte_at(mark, 0) {
+            b',' => rest = after(mark, 1),
+            b'}' => return Ok((pairs, after(mark, 1))),
+            _ => return Err(JsonFault::Text),
+        }
+    }
+}

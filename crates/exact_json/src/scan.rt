@@ -1,0 +1,124 @@
+//! Passing over a value without recursion and without building anything, however deep it nests.
+
+ghost use Rattle.std.specs.Prelude.{◌≡◌, ◌≤◌, length, IfSome, option_map};
+ghost use Rattle.exact_json.specs.Kinds.{KindAt};
+ghost use Rattle.exact_json.specs.Number.{head};
+ghost use Rattle.exact_json.specs.Reading.{scalar_at, name_at};
+ghost use Rattle.exact_json.specs.Scanning.{Scans, rest_of, element_value};
+
+use crate::fault::JsonFault;
+use crate::kinds::{Kind, Kinds};
+use crate::number::{after, byte_at};
+use crate::reading::{read_token, skip_spaces};
+use crate::text::pass_text;
+use std::alloc::Global;
+
+fn pass_scalar(text: &[u8]) -> Option<&[u8]>
+    ensures value { option_map (λ r. r.now) result ≡ rest_of (scalar_at text.now) }
+    ensures within { IfSome result (λ r. length r.now ≤ length text.now) }
+{
+    if byte_at(text, 0) == b'"' {
+        pass_text(after(text, 1))
+    } else {
+        match read_token(text) {
+            Some((_, rest)) => Some(rest),
+            None => None,
+        }
+    }
+}
+
+#[tactic(auto, unfolding(crate::specs::Reading::name_at))]
+fn pass_name(text: &[u8]) -> Option<&[u8]>
+    ensures value { option_map (λ r. r.now) result ≡ rest_of (name_at text.now) }
+    ensures within { IfSome result (λ r. length r.now ≤ length text.now) }
+{
+    if byte_at(text, 0) != b'"' {
+        return None;
+    }
+    let rest = pass_text(after(text, 1))?;
+    let mark = skip_spaces(rest);
+    if byte_at(mark, 0) == b':' {
+        Some(after(mark, 1))
+    } else {
+        None
+    }
+}
+
+// The kind of the bracket in front, if one opens there.
+fn kind_at(text: &[u8]) -> Option<Kind>
+    ensures { KindAt (head text.now) result }
+{
+    match byte_at(text, 0) {
+        b'[' => Some(Kind::List),
+        b'{' => Some(Kind::Object),
+        _ => None,
+    }
+}
+
+// The value of the element in front.
+fn element_value(text: &[u8], kind: Kind) -> Option<&[u8]>
+    ensures value { option_map (λ r. r.now) result ≡ element_value kind text.now }
+    ensures within { IfSome result (λ r. length r.now ≤ length text.now) }
+{
+    let start = skip_spaces(text);
+    match kind {
+        Kind::List => Some(start),
+        Kind::Object => {
+            let rest = pass_name(start)?;
+            Some(skip_spaces(rest))
+        }
+    }
+}
+
+/// What follows the value in front. It takes memory for the kinds of the brackets that are open.
+pub(crate) fn scan<'a>(alloc: Global, text: &'a [u8]) -> Result<&'a [u8], JsonFault>
+    ensures { Scans text.now result }
+{
+    let mut kinds = Kinds::new(alloc);
+    let mut expects = true;
+    let mut rest = text;
+    loop {
+        if expects {
+            match kind_at(rest) {
+                Some(kind) => {
+                    let inside = skip_spaces(after(rest, 1));
+                    if byte_at(inside, 0) == kind.closing() {
+                        rest = after(inside, 1);
+                        expects = false;
+                    } else {
+                        let Some(start) = element_value(inside, kind) else {
+                            return Err(JsonFault::Text);
+                        };
+                        kinds.open(kind)?;
+                        rest = start;
+                    }
+                }
+                None => {
+                    let Some(behind) = pass_scalar(rest) else {
+                        return Err(JsonFault::Text);
+                    };
+                    rest = behind;
+                    expects = false;
+                }
+            }
+        } else {
+            let Some(kind) = kinds.innermost() else {
+                return Ok(rest);
+            };
+            let mark = skip_spaces(rest);
+            let byte = byte_at(mark, 0);
+            if byte == b',' {
+                let Some(start) = element_value(after(mark, 1), kind) else {
+                    return Err(JsonFault::Text);
+                };
+                rest = start;
+                expects = true;
+            } else if byte == kind.closing() {
+                rest = after(mark, 1);
+                kinds.close();
+            } else {
+                return Err(JsonFault::Text);
+            }
+        }
+    }
+}

@@ -1,0 +1,202 @@
+//! Strings (RFC 8259, section 7), from behind the opening quote on.
+
+ghost use Rattle.std.specs.Prelude.{◌≡◌, ◌≢◌, ◌+◌, ◌≤◌, ◌<◌, ◌++◌, length, option_map, IfOk, IfSome, OnOk, encode_utf8};
+ghost use Rattle.std.specs.List.{prefix_len};
+ghost use Rattle.std.specs.Char.{digit_value};
+ghost use Rattle.exact_json.specs.Strings.{code_unit, short_escape, low_next, is_low, unit_escape, after_high, escape, text_at, is_plain};
+ghost use Rattle.exact_json.specs.Reading.{Finds};
+ghost use Rattle.exact_json.specs.View.{text_view};
+ghost use Rattle.exact_json.specs.Scanning.{rest_of};
+
+use crate::fault::JsonFault;
+use crate::number::{after, byte_at};
+use crate::tree::JsonText;
+use std::alloc::{AllocError, Global};
+
+// What is written for half of a surrogate pair alone.
+const REPLACEMENT: char = '\u{fffd}';
+
+// How many bytes in front stand for themselves.
+fn plain_len(text: &[u8]) -> usize
+    ensures value { result ≡ prefix_len is_plain text.now }
+    ensures within { result ≤ length text.now }
+{
+    let mut i = 0;
+    while i < text.len() && text[i] != b'"' && text[i] != b'\\' && text[i] >= 0x20 {
+        i += 1;
+    }
+    i
+}
+
+fn digit(c: u8) -> u32
+    ensures value { result ≡ digit_value c }
+    ensures bound { result ≤ 36 }
+{
+    match c {
+        b'0'..=b'9' => (c - b'0') as u32,
+        b'A'..=b'Z' => (c - b'A') as u32 + 10,
+        b'a'..=b'z' => (c - b'a') as u32 + 10,
+        _ => 36,
+    }
+}
+
+// The code unit of four hexadecimal digits in front.
+#[tactic(auto, unfolding(crate::specs::Strings::code_unit))]
+fn code_unit(text: &[u8]) -> Option<u32>
+    ensures value { result ≡ code_unit text.now }
+    ensures bounds { IfSome result (λ u. (u < 65536) × (4 ≤ length text.now)) }
+{
+    match text {
+        [a, b, c, d, ..] => {
+            let (a, b, c, d) = (digit(*a), digit(*b), digit(*c), digit(*d));
+            if (a < 16) & (b < 16) & (c < 16) & (d < 16) {
+                Some(a * 4096 + b * 256 + c * 16 + d)
+            } else {
+                None
+            }
+        }
+        _ => None,
+    }
+}
+
+#[tactic(auto, unfolding(crate::specs::Strings::short_escape))]
+fn short_escape(x: u8) -> Option<u8>
+    ensures value { result ≡ short_escape x }
+    ensures some { IfSome result (λ _. x ≢ 32) }
+{
+    match x {
+        b'"' | b'\\' | b'/' => Some(x),
+        b'b' => Some(8),
+        b'f' => Some(12),
+        b'n' => Some(b'\n'),
+        b'r' => Some(b'\r'),
+        b't' => Some(b'\t'),
+        _ => None,
+    }
+}
+
+// The low surrogate whose escape stands in front, if one does.
+fn low_next(text: &[u8]) -> Option<u32>
+    ensures value { result ≡ low_next text.now }
+    ensures bounds { IfSome result (λ u. (u < 57344) × (56320 ≤ u) × (6 ≤ length text.now)) }
+{
+    if (byte_at(text, 0) == b'\\') & (byte_at(text, 1) == b'u') {
+        let low = code_unit(after(text, 2))?;
+        if (0xdc00 <= low) & (low < 0xe000) {
+            Some(low)
+        } else {
+            None
+        }
+    } else {
+        None
+    }
+}
+
+// The character of a code unit whose digits stand in front, and in how many bytes behind the backslash it is spelled.
+fn unit_escape(text: &[u8], unit: u32) -> (char, usize)
+    requires { (unit < 65536) × (4 ≤ length text.now) }
+    ensures value { result ≡ unit_escape text.now unit }
+    ensures within { (1 ≤ result.1) × (result.1 ≤ length text.now + 1) }
+{
+    if (0xd800 <= unit) & (unit < 0xdc00) {
+        match low_next(after(text, 4)) {
+            Some(low) => {
+                let code = 0x10000 + (unit - 0xd800) * 1024 + (low - 0xdc00);
+                (char::from_u32(code).unwrap_or(REPLACEMENT), 11)
+            }
+            None => (REPLACEMENT, 5),
+        }
+    } else {
+        (char::from_u32(unit).unwrap_or(REPLACEMENT), 5)
+    }
+}
+
+// The character that the text behind a backslash stands for, and in how many bytes.
+#[tactic(auto, unfolding(crate::specs::Strings::escape))]
+fn escape(text: &[u8]) -> Option<(char, usize)>
+    ensures value { result ≡ escape text.now }
+    ensures within { IfSome result (λ e. (1 ≤ e.1) × (e.1 ≤ length text.now)) }
+{
+    let first = byte_at(text, 0);
+    if first == b'u' {
+        let digits = after(text, 1);
+        let unit = code_unit(digits)?;
+        Some(unit_escape(digits, unit))
+    } else {
+        let c = short_escape(first)?;
+        Some((c as char, 1))
+    }
+}
+
+/// What follows the closing quote.
+pub(crate) fn pass_text(text: &[u8]) -> Option<&[u8]>
+    ensures value { option_map (λ r. r.now) result ≡ rest_of (text_at 0 text.now) }
+    ensures within { IfSome result (λ r. length r.now ≤ length text.now) }
+{
+    let mut rest = text;
+    loop {
+        let stop = after(rest, plain_len(rest));
+        match byte_at(stop, 0) {
+            b'"' => return Some(after(stop, 1)),
+            b'\\' => {
+                let code = after(stop, 1);
+                let Some((_, count)) = escape(code) else {
+                    return None;
+                };
+                rest = after(code, count);
+            }
+            _ => return None,
+        }
+    }
+}
+
+fn append(made: &mut Vec<u8>, c: char) -> Result<(), AllocError>
+    ensures { OnOk result (made.new.items ≡ made.old.items ++ encode_utf8 c) }
+{
+    let mut buffer = [0; 4];
+    made.extend_from_slice(c.encode_utf8(&mut buffer).as_bytes())
+}
+
+// The text up to the closing quote, with its escapes replaced, and what follows that.
+fn unescape<'a>(alloc: Global, text: &'a [u8]) -> Result<(Vec<u8>, &'a [u8]), JsonFault>
+    ensures value { Finds (λ r. (r.0.items, r.1.now)) (text_at 0 text.now) result }
+    ensures within { IfOk result (λ r. length r.1.now ≤ length text.now) }
+{
+    let mut made = Vec::new(alloc);
+    let mut rest = text;
+    loop {
+        let count = plain_len(rest);
+        made.extend_from_slice(rest.split_at(count).0)?;
+        let stop = after(rest, count);
+        match byte_at(stop, 0) {
+            b'"' => return Ok((made, after(stop, 1))),
+            b'\\' => {
+                let code = after(stop, 1);
+                let Some((c, len)) = escape(code) else {
+                    return Err(JsonFault::Text);
+                };
+                append(&mut made, c)?;
+                rest = after(code, len);
+            }
+            _ => return Err(JsonFault::Text),
+        }
+    }
+}
+
+/// The text up to the closing quote, and what follows that. A text without escapes is not copied.
+pub(crate) fn read_text<'a>(
+    alloc: Global,
+    text: &'a [u8],
+) -> Result<(JsonText<'a>, &'a [u8]), JsonFault>
+    ensures value { Finds (λ r. (text_view r.0, r.1.now)) (text_at 0 text.now) result }
+    ensures within { IfOk result (λ r. length r.1.now ≤ length text.now) }
+{
+    let count = plain_len(text);
+    let stop = after(text, count);
+    if byte_at(stop, 0) == b'"' {
+        Ok((JsonText::Plain(text.split_at(count).0), after(stop, 1)))
+    } else {
+        let (made, rest) = unescape(alloc, text)?;
+        Ok((JsonText::Made(made), rest))
+    }
+}
