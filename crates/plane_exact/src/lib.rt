@@ -1,0 +1,11 @@
+//! Predicates on positions, segments and shapes of the plane, and lengths, all exact in whole numbers.
+#![tactic(auto)]
+
+
+
+mod number;
+mod segment;
+
+
+
+pub use segment::{crosses, near_edge, side};
