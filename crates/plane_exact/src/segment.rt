@@ -1,13 +1,16 @@
 //! Sides, crossings and distances of segments.
 
-ghost use Rattle.std.specs.Prelude.{◌≡◌, pos, ◌≤◌, ◌↔◌, IsTrue};
-ghost use Rattle.plane_exact.specs.Plane.{IsClose, side};
+ghost use Rattle.std.specs.Prelude.{◌≡◌, ◌*◌, ◌*ℤ◌, ◌≤ℤ◌, pos, ◌≤◌, ◌↔◌, IsTrue};
+ghost use Rattle.plane_exact.specs.Plane.{IsClose, side, square, squared_distance};
 ghost use Rattle.plane_exact.specs.Segment.{Crosses, HaveOppositeSigns, IsNearEdge};
 
-use crate::number::{cross_product, scalar_product, square_between, wide_square};
+use crate::number::{
+    cross_product, scalar_product, scaled_tolerance, square_between, tolerance_square, wide_square,
+};
 use venue_types::Point;
 
 /// On which side of the line from `a` to `b` the position `p` lies: above 0 to its left, below 0 to its right, 0 on it.
+/// In square nanodegrees, twice the area of the triangle `abp`.
 pub fn side(a: Point, b: Point, p: Point) -> i128
     requires end { IsClose a b }
     requires position { IsClose a p }
@@ -19,20 +22,25 @@ pub fn side(a: Point, b: Point, p: Point) -> i128
 /// Whether the segments `ab` and `cd` cross in a point that is no end of either.
 pub fn crosses(a: Point, b: Point, c: Point, d: Point) -> bool
     requires first { IsClose a b }
+    requires second { IsClose c d }
     requires to_start { IsClose a c }
     requires to_end { IsClose a d }
-    requires second { IsClose c d }
-    requires from_second { IsClose c b }
+    requires from_end { IsClose b c }
     ensures { IsTrue result ↔ Crosses a b c d }
 {
-    have_opposite_signs(cross_product(a, b, c), cross_product(a, b, d))
-        && have_opposite_signs(cross_product(c, d, a), cross_product(c, d, b))
+    separates(a, b, c, d) && separates(c, d, a, b)
 }
 
-fn have_opposite_signs(m: i64, n: i64) -> bool
-    ensures { IsTrue result ↔ HaveOppositeSigns m n }
+/// Whether `c` and `d` lie on the two sides of the line through `a` and `b`.
+fn separates(a: Point, b: Point, c: Point, d: Point) -> bool
+    requires end { IsClose a b }
+    requires first { IsClose a c }
+    requires second { IsClose a d }
+    ensures { IsTrue result ↔ HaveOppositeSigns (side a b c) (side a b d) }
 {
-    (m < 0 && 0 < n) || (0 < m && n < 0)
+    let m = cross_product(a, b, c);
+    let n = cross_product(a, b, d);
+    if m < 0 { 0 < n } else { 0 < m && n < 0 }
 }
 
 /// Whether the distance of `p` to the segment `ab` is at most `t` nanodegrees.
@@ -43,14 +51,31 @@ pub fn near_edge(p: Point, a: Point, b: Point, t: u32) -> bool
     requires tolerance { t ≤ 1000000 }
     ensures { IsTrue result ↔ IsNearEdge p a b t }
 {
-    let limit = t as i64 * t as i64;
     let along = scalar_product(a, b, p);
     if along <= 0 {
-        return square_between(a, p) <= limit;
+        is_near_point(p, a, t)
+    } else if square_between(a, b) <= along {
+        is_near_point(p, b, t)
+    } else {
+        is_near_line(p, a, b, t)
     }
-    let length = square_between(a, b);
-    if length <= along {
-        return square_between(b, p) <= limit;
-    }
-    wide_square(cross_product(a, b, p)) <= limit as i128 * length as i128
+}
+
+/// Whether the distance of `p` to `a` is at most `t`.
+fn is_near_point(p: Point, a: Point, t: u32) -> bool
+    requires close { IsClose a p }
+    requires tolerance { t ≤ 1000000 }
+    ensures { IsTrue result ↔ squared_distance a p ≤ℤ pos (t * t) }
+{
+    square_between(a, p) <= tolerance_square(t)
+}
+
+/// Whether the distance of `p` to the line through `a` and `b` is at most `t`, where `a` and `b` differ.
+fn is_near_line(p: Point, a: Point, b: Point, t: u32) -> bool
+    requires edge { IsClose a b }
+    requires close { IsClose a p }
+    requires tolerance { t ≤ 1000000 }
+    ensures { IsTrue result ↔ square (side a b p) ≤ℤ (pos (t * t) *ℤ squared_distance a b) }
+{
+    wide_square(cross_product(a, b, p)) <= scaled_tolerance(t, square_between(a, b))
 }
