@@ -51,6 +51,6 @@ IsInside p shape = count_by (meets_ray p) (all_edges shape) % 2 ≡ 1
 unfoldable pub IsNear : Point → Shape → ℕ → Type 0
 IsNear p shape t = Any (λ edge. IsNearEdge p edge.from edge.to t) (all_edges shape)
 
--- any two of p and the shape's points are close
-pub record AllClose (p : Point) (shape : Shape) : Type 0 where
-  pub close : (a b : Point) → Contains (p ∷ vertices shape) a → Contains (p ∷ vertices shape) b → IsClose a b
+-- any two of the positions are close
+pub record AllClose (points : List Point) : Type 0 where
+  pub close : (a b : Point) → Contains points a → Contains points b → IsClose a b
