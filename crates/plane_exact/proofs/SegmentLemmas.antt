@@ -7,10 +7,10 @@ use Rattle.venue_types.specs.declared.point.Point.{Point}
 use Rattle.plane_exact.specs.Plane.{side, along, squared_distance, square}
 use Rattle.plane_exact.specs.Segment.{IsNearEdge, HaveOppositeSigns}
 
-le_decides : (x y : ℤ) → IsTrue (le_z x y) ↔ (x ≤ℤ y)
+pub le_decides : (x y : ℤ) → IsTrue (le_z x y) ↔ (x ≤ℤ y)
 le_decides x y = (λ t. omega (arith, ints), λ h. grind (arith, ints))
 
-lt_decides : (x y : ℤ) → IsTrue (lt_z x y) ↔ (x <ℤ y)
+pub lt_decides : (x y : ℤ) → IsTrue (lt_z x y) ↔ (x <ℤ y)
 lt_decides x y = (λ t. omega (arith, ints), λ h. grind (arith, ints))
 
 -- a test of two numbers that are x and y decides their order

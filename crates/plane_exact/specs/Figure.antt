@@ -23,33 +23,64 @@ abbrev pub edges : List Point → List Edge
 edges [] = []
 edges (a ∷ rest) = edges_from a rest
 
--- the rings of a shape: part by part the outer ring, then its holes
+-- the rings of a polygon: the outer ring, then the holes
+abbrev pub rings_of : Part → List Ring
+rings_of part = part.outer ∷ part.holes
+
+-- the rings of a shape, polygon by polygon
 abbrev pub rings : Shape → List Ring
-rings shape = flat_map (λ (part : Part). part.outer ∷ part.holes) shape.parts
+rings shape = flat_map rings_of shape.parts
 
--- the edges of all rings
+-- the edges of some rings, in order
+abbrev pub ring_edges : List Ring → List Edge
+ring_edges list = flat_map (λ (ring : Ring). edges ring.points) list
+
+-- the points of some rings, in order
+abbrev pub ring_points : List Ring → List Point
+ring_points list = flat_map (λ (ring : Ring). ring.points) list
+
+-- the edges and the points of a polygon
+abbrev pub part_edges : Part → List Edge
+part_edges part = ring_edges (rings_of part)
+
+abbrev pub part_points : Part → List Point
+part_points part = ring_points (rings_of part)
+
+-- the edges of all rings of a shape
 abbrev pub all_edges : Shape → List Edge
-all_edges shape = flat_map (λ (ring : Ring). edges ring.points) (rings shape)
+all_edges shape = ring_edges (rings shape)
 
--- the points of all rings
+-- the points of all rings of a shape
 abbrev pub vertices : Shape → List Point
-vertices shape = flat_map (λ (ring : Ring). ring.points) (rings shape)
+vertices shape = ring_points (rings shape)
 
--- the edge meets the ray from p toward greater x: it goes up past p's height to the right of p, or down. Its lower end counts, its upper end does not
+-- the edge goes up past the height of p and to the right of p; its lower end counts, its upper end does not
+abbrev pub goes_up : Point → Edge → Bool
+goes_up p edge = int_le edge.from.y p.y && int_lt p.y edge.to.y && int_lt (pos 0) (side edge.from edge.to p)
+
+-- the same of an edge that goes down
+abbrev pub goes_down : Point → Edge → Bool
+goes_down p edge = int_le edge.to.y p.y && int_lt p.y edge.from.y && int_lt (side edge.from edge.to p) (pos 0)
+
+-- the edge meets the ray from p toward greater longitude
 unfoldable pub meets_ray : Point → Edge → Bool
-meets_ray p edge = goes_up || goes_down where
-  goes_up : Bool
-  goes_up = int_le edge.from.y p.y && int_lt p.y edge.to.y && int_lt (pos 0) (side edge.from edge.to p)
-  goes_down : Bool
-  goes_down = int_le edge.to.y p.y && int_lt p.y edge.from.y && int_lt (side edge.from edge.to p) (pos 0)
+meets_ray p edge = goes_up p edge || goes_down p edge
 
--- an odd number of edges meets the ray
+-- how many of the edges meet the ray from p
+abbrev pub crossings : Point → List Edge → ℕ
+crossings p list = count_by (meets_ray p) list
+
+-- an odd number of the shape's edges meets the ray from p
 unfoldable pub IsInside : Point → Shape → Type 0
-IsInside p shape = count_by (meets_ray p) (all_edges shape) % 2 ≡ 1
+IsInside p shape = crossings p (all_edges shape) % 2 ≡ 1
+
+-- p is no farther than t from some of the edges
+abbrev pub IsNearSome : Point → ℕ → List Edge → Type 0
+IsNearSome p t list = Any (λ edge. IsNearEdge p edge.from edge.to t) list
 
 -- p is no farther than t from some edge of some ring
 unfoldable pub IsNear : Point → Shape → ℕ → Type 0
-IsNear p shape t = Any (λ edge. IsNearEdge p edge.from edge.to t) (all_edges shape)
+IsNear p shape t = IsNearSome p t (all_edges shape)
 
 -- any two of the positions are close
 pub record AllClose (points : List Point) : Type 0 where

@@ -1,11 +1,12 @@
 //! Predicates on positions, segments and shapes of the plane, and lengths, all exact in whole numbers.
 #![tactic(auto)]
+mod borders;
+mod lengths;
+mod numbers;
+mod rays;
+mod segments;
 
-mod figure;
-mod length;
-mod number;
-mod segment;
-
-pub use figure::{inside, near};
-pub use length::length_cm;
-pub use segment::{crosses, near_edge, side};
+pub use borders::near;
+pub use lengths::length_cm;
+pub use rays::inside;
+pub use segments::{crosses, near_edge, side};
