@@ -6,3 +6,4 @@ pub mod CloseLemmas
 pub mod BorderLemmas
 pub mod RayLemmas
 pub mod ParityLemmas
+pub mod PolynomialLemmas
