@@ -7,3 +7,4 @@ pub mod BorderLemmas
 pub mod RayLemmas
 pub mod ParityLemmas
 pub mod PolynomialLemmas
+pub mod NearLaw
