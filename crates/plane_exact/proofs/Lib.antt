@@ -8,3 +8,4 @@ pub mod RayLemmas
 pub mod ParityLemmas
 pub mod PolynomialLemmas
 pub mod NearLaw
+pub mod BoxLemmas

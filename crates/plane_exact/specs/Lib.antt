@@ -3,3 +3,4 @@ pub mod Segment
 pub mod Figure
 pub mod Opening
 pub mod Length
+pub mod Testing

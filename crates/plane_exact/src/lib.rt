@@ -12,3 +12,6 @@ pub use laws::{length_law, near_edge_law};
 pub use lengths::length_cm;
 pub use rays::inside;
 pub use segments::{crosses, near_edge, side};
+
+#[cfg(test)]
+mod tests;
