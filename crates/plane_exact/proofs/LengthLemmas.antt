@@ -31,6 +31,6 @@ IsLength-from_root a b kx ky x y square root e f s h least =
     let total : scaled_square a b kx ky ≡ pos (x + y) = sym (ap₂ ◌+ℤ◌ e f) in
     let rounded = div_ceil_times (x + y) 4000000000000000000 (lit< tt) in
     record {
-        spans = record { spans = rw total (omega (arith, ints)) };
-        least = λ n spans. let reached : pos (x + y) ≤ℤ pos (4000000000000000000 * (n * n)) = rw total at spans.spans in least n (omega (arith, ints))
+      spans = record { spans = rw total (omega (arith, ints)) };
+      least = λ n spans. let reached : pos (x + y) ≤ℤ pos (4000000000000000000 * (n * n)) = rw total at spans.spans in least n (omega (arith, ints));
     }

@@ -34,8 +34,8 @@ any_right P (x ∷ xs) ys a = any_later P x (xs ++ ys) (any_right P xs ys a)
 any_of_append : {X : Type 0} (P : X → Type 0) (xs ys : List X) → Any P (xs ++ ys) → Any P xs ⊎ Any P ys
 any_of_append P [] ys a = inr a
 any_of_append P (x ∷ xs) ys a = elim (any_of_cons P x (xs ++ ys) a) [
-    inl h ↦ inl (any_here P x xs h)
-    | inr rest ↦ elim (any_of_append P xs ys rest) [ inl l ↦ inl (any_later P x xs l) | inr r ↦ inr r ]
+  | inl h ↦ inl (any_here P x xs h)
+  | inr rest ↦ elim (any_of_append P xs ys rest) [ inl l ↦ inl (any_later P x xs l) | inr r ↦ inr r ]
 ]
 
 -- past items without the property the rest decides

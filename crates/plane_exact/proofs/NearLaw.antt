@@ -23,19 +23,19 @@ near_start : (dx dy qx qy : ℤ) (t m n : ℕ) → 0 < n → rest_square dx dy q
 near_start dx dy qx qy t m n some reach back =
     let onward : pos 0 ≤ℤ neg_ℤ (dot dx dy qx qy) = turn _ back in
     let away : (pos (n * n) *ℤ dot qx qy qx qy) ≤ℤ rest_square dx dy qx qy m n =
-        rw (turned_round dx qx m n, turned_round dy qy m n) (leads_away qx qy (neg_ℤ dx) (neg_ℤ dy) n m (rw (dot_turned dx dy qx qy) onward)) in
+    rw (turned_round dx qx m n, turned_round dy qy m n) (leads_away qx qy (neg_ℤ dx) (neg_ℤ dy) n m (rw (dot_turned dx dy qx qy) onward)) in
     le_of_multiple (n * n) (dot qx qy qx qy) (pos t) (square_some n some) (le_along _ _ _ away reach) where
-  turn : (s : ℤ) → s ≤ℤ pos 0 → pos 0 ≤ℤ neg_ℤ s
-  turn s h = omega (arith, ints)
+      turn : (s : ℤ) → s ≤ℤ pos 0 → pos 0 ≤ℤ neg_ℤ s
+      turn s h = omega (arith, ints)
 
 near_end : (px py ax ay bx by : ℤ) (t m k : ℕ) → 0 < m + k → rest_square (bx -ℤ ax) (by -ℤ ay) (px -ℤ ax) (py -ℤ ay) m (m + k) ≤ℤ pos (((m + k) * (m + k)) * t) → dot (bx -ℤ ax) (by -ℤ ay) (bx -ℤ ax) (by -ℤ ay) ≤ℤ dot (bx -ℤ ax) (by -ℤ ay) (px -ℤ ax) (py -ℤ ay) → dot (px -ℤ bx) (py -ℤ by) (px -ℤ bx) (py -ℤ by) ≤ℤ pos t
 near_end px py ax ay bx by t m k some reach beyond =
     let onward : pos 0 ≤ℤ dot (px -ℤ bx) (py -ℤ by) (bx -ℤ ax) (by -ℤ ay) = left_over _ _ _ (dot_from_end px py ax ay bx by) beyond in
     let away : (pos ((m + k) * (m + k)) *ℤ dot (px -ℤ bx) (py -ℤ by) (px -ℤ bx) (py -ℤ by)) ≤ℤ rest_square (bx -ℤ ax) (by -ℤ ay) (px -ℤ ax) (py -ℤ ay) m (m + k) =
-        rw (from_end px ax bx m k, from_end py ay by m k) (leads_away (px -ℤ bx) (py -ℤ by) (bx -ℤ ax) (by -ℤ ay) (m + k) k onward) in
+    rw (from_end px ax bx m k, from_end py ay by m k) (leads_away (px -ℤ bx) (py -ℤ by) (bx -ℤ ax) (by -ℤ ay) (m + k) k onward) in
     le_of_multiple ((m + k) * (m + k)) _ (pos t) (square_some (m + k) some) (le_along _ _ _ away reach) where
-  left_over : (w d s : ℤ) → w +ℤ d ≡ s → d ≤ℤ s → pos 0 ≤ℤ w
-  left_over w d s e h = omega (arith, ints)
+      left_over : (w d s : ℤ) → w +ℤ d ≡ s → d ≤ℤ s → pos 0 ≤ℤ w
+      left_over w d s e h = omega (arith, ints)
 
 near_line : (dx dy qx qy : ℤ) (t m n : ℕ) → 0 < n → rest_square dx dy qx qy m n ≤ℤ pos ((n * n) * t) → (cross dx dy qx qy *ℤ cross dx dy qx qy) ≤ℤ (pos t *ℤ dot dx dy dx dy)
 near_line dx dy qx qy t m n some reach =
@@ -45,9 +45,9 @@ near_line dx dy qx qy t m n some reach =
     let scaled : (dot dx dy dx dy *ℤ rest_square dx dy qx qy m n) ≤ℤ (dot dx dy dx dy *ℤ pos ((n * n) * t)) = times _ _ _ (dot_not_negative dx dy) reach in
     let same : cross dx dy vx vy *ℤ cross dx dy vx vy ≡ pos (n * n) *ℤ (cross dx dy qx qy *ℤ cross dx dy qx qy) = ap (λ c. c *ℤ c) (cross_of_rest dx dy qx qy m n) ∙ square_of_multiple n (cross dx dy qx qy) in
     le_of_multiple (n * n) _ _ (square_some n some) (subst (λ (z : ℤ). z ≤ℤ (pos (n * n) *ℤ (pos t *ℤ dot dx dy dx dy))) same (subst (λ (z : ℤ). (cross dx dy vx vy *ℤ cross dx dy vx vy) ≤ℤ z) (regroup (n * n) t (dot dx dy dx dy)) (le_along _ _ _ part scaled))) where
-  times : (d x y : ℤ) → pos 0 ≤ℤ d → x ≤ℤ y → (d *ℤ x) ≤ℤ (d *ℤ y)
-  times (pos n) x y h k = multiple_le n x y k
-  times (negsuc n) x y h k = absurd (omega (arith, ints, h))
+      times : (d x y : ℤ) → pos 0 ≤ℤ d → x ≤ℤ y → (d *ℤ x) ≤ℤ (d *ℤ y)
+      times (pos n) x y h k = multiple_le n x y k
+      times (negsuc n) x y h k = absurd (omega (arith, ints, h))
 
 pub near_from_position : (p a b : Point) (t m n : ℕ) → 0 < n → m ≤ n → ReachesAt p a b t m n → IsNearEdge p a b t
 unfolding side along squared_distance square
@@ -55,9 +55,9 @@ near_from_position p a b t m n some part h =
     let k = n - m in
     let whole : n ≡ m + k = omega arith in
     record {
-        before = λ back. near_start (b.x -ℤ a.x) (b.y -ℤ a.y) (p.x -ℤ a.x) (p.y -ℤ a.y) (t * t) m n some h.reach back;
-        beyond = λ _ past. near_end p.x p.y a.x a.y b.x b.y (t * t) m k (subst (λ (i : ℕ). 0 < i) whole some) (subst (λ (i : ℕ). rest_square (b.x -ℤ a.x) (b.y -ℤ a.y) (p.x -ℤ a.x) (p.y -ℤ a.y) m i ≤ℤ pos ((i * i) * (t * t))) whole h.reach) past;
-        beside = λ _ _. near_line (b.x -ℤ a.x) (b.y -ℤ a.y) (p.x -ℤ a.x) (p.y -ℤ a.y) (t * t) m n some h.reach
+      before = λ back. near_start (b.x -ℤ a.x) (b.y -ℤ a.y) (p.x -ℤ a.x) (p.y -ℤ a.y) (t * t) m n some h.reach back;
+      beyond = λ _ past. near_end p.x p.y a.x a.y b.x b.y (t * t) m k (subst (λ (i : ℕ). 0 < i) whole some) (subst (λ (i : ℕ). rest_square (b.x -ℤ a.x) (b.y -ℤ a.y) (p.x -ℤ a.x) (p.y -ℤ a.y) m i ≤ℤ pos ((i * i) * (t * t))) whole h.reach) past;
+      beside = λ _ _. near_line (b.x -ℤ a.x) (b.y -ℤ a.y) (p.x -ℤ a.x) (p.y -ℤ a.y) (t * t) m n some h.reach;
     }
 
 -- ---- to some position of the edge
@@ -89,11 +89,27 @@ pub position_from_near : (p a b : Point) (t : ℕ) → IsNearEdge p a b t → Ha
 unfolding side along squared_distance square
 position_from_near p a b t h = by_lt_z (pos 0) (along a b p)
     (λ after. by_lt_z (along a b p) (squared_distance a b)
-        (λ within.
-            let s : pos (unsigned_abs (along a b p)) ≡ along a b p = natural _ (omega (arith, ints, after)) in
-            let d : pos (unsigned_abs (squared_distance a b)) ≡ squared_distance a b = natural _ (omega (arith, ints, after, within)) in
-            (unsigned_abs (along a b p), unsigned_abs (squared_distance a b), omega (arith, ints), omega (arith, ints), record { reach = reaches_foot (b.x -ℤ a.x) (b.y -ℤ a.y) (p.x -ℤ a.x) (p.y -ℤ a.y) (t * t) _ _ d s (h.beside after within) }))
-        (λ past. (1, 1, omega arith, omega arith, record { reach =
-            subst (λ (k : ℤ). k ≤ℤ pos ((1 * 1) * (t * t))) (sym (ap₂ (λ (k l : ℤ). (k *ℤ k) +ℤ (l *ℤ l)) (at_end p.x a.x b.x) (at_end p.y a.y b.y))) (one_times _ _ (h.beyond after past)) })))
-    (λ back. (0, 1, omega arith, omega arith, record { reach =
-        subst (λ (k : ℤ). k ≤ℤ pos ((1 * 1) * (t * t))) (sym (ap₂ (λ (k l : ℤ). (k *ℤ k) +ℤ (l *ℤ l)) (at_start (p.x -ℤ a.x) (b.x -ℤ a.x)) (at_start (p.y -ℤ a.y) (b.y -ℤ a.y)))) (one_times _ _ (h.before back)) }))
+    (λ within.
+    let s : pos (unsigned_abs (along a b p)) ≡ along a b p = natural _ (omega (arith, ints, after)) in
+    let d : pos (unsigned_abs (squared_distance a b)) ≡ squared_distance a b = natural _ (omega (arith, ints, after, within)) in
+    (unsigned_abs (along a b p), unsigned_abs (squared_distance a b), omega (arith, ints), omega (arith, ints), record { reach = reaches_foot (b.x -ℤ a.x) (b.y -ℤ a.y) (p.x -ℤ a.x) (p.y -ℤ a.y) (t * t) _ _ d s (h.beside after within) }))
+    (λ past. (
+      1,
+      1,
+      omega arith,
+      omega arith,
+      record {
+        reach =
+            subst (λ (k : ℤ). k ≤ℤ pos ((1 * 1) * (t * t))) (sym (ap₂ (λ (k l : ℤ). (k *ℤ k) +ℤ (l *ℤ l)) (at_end p.x a.x b.x) (at_end p.y a.y b.y))) (one_times _ _ (h.beyond after past));
+      },
+    )))
+    (λ back. (
+      0,
+      1,
+      omega arith,
+      omega arith,
+      record {
+        reach =
+            subst (λ (k : ℤ). k ≤ℤ pos ((1 * 1) * (t * t))) (sym (ap₂ (λ (k l : ℤ). (k *ℤ k) +ℤ (l *ℤ l)) (at_start (p.x -ℤ a.x) (b.x -ℤ a.x)) (at_start (p.y -ℤ a.y) (b.y -ℤ a.y)))) (one_times _ _ (h.before back));
+      },
+    ))

@@ -41,9 +41,9 @@ meets_downward p a b h =
     let never = le_false a.y p.y h in
     let starts = lt_true p.y a.y h in
     rw (never, starts) (down_alone (le_z b.y p.y) (lt_z (side a b p) (pos 0))) where
-  down_alone : (s t : Bool) → ((s && true && t)) ≡ (s && t)
-  down_alone true t = refl
-  down_alone false t = refl
+      down_alone : (s t : Bool) → ((s && true && t)) ≡ (s && t)
+      down_alone true t = refl
+      down_alone false t = refl
 
 pub meets_up : (p a b : Point) (x : ℤ) → a.y ≤ℤ p.y → p.y <ℤ b.y → x ≡ side a b p → lt_z (pos 0) x ≡ meets_ray p (record { from = a; to = b })
 meets_up p a b x h k e = ap (lt_z (pos 0)) e ∙ sym (meets_upward p a b h ∙ ap (λ t. t && lt_z (pos 0) (side a b p)) (lt_true p.y b.y k))

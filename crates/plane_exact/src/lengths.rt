@@ -40,5 +40,9 @@ fn least_root(n: u64) -> u32
     ensures least { (m : ℕ) → n ≤ m * m → result ≤ m }
     ensures bound { result ≤ 5700000 }
 {
-    if n == 0 { 0 } else { (n - 1).isqrt() as u32 + 1 }
+    if n == 0 {
+        0
+    } else {
+        (n - 1).isqrt() as u32 + 1
+    }
 }

@@ -1,5 +1,6 @@
 //! Predicates on positions, segments and shapes of the plane, and lengths, all exact in whole numbers.
 #![tactic(auto)]
+
 mod borders;
 mod laws;
 mod lengths;

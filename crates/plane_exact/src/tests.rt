@@ -43,7 +43,12 @@ fn near_edge_at(p: (i64, i64), a: (i64, i64), b: (i64, i64), t: u32) -> bool {
 }
 
 fn length_at(a: (i64, i64), b: (i64, i64), kx: u32, ky: u32) -> u32 {
-    length_cm(spot_at(a), spot_at(b), u32::min(kx, 20_000_000), u32::min(ky, 20_000_000))
+    length_cm(
+        spot_at(a),
+        spot_at(b),
+        u32::min(kx, 20_000_000),
+        u32::min(ky, 20_000_000),
+    )
 }
 
 fn inside_at(p: (i64, i64), shape: &Shape) -> bool
@@ -64,8 +69,18 @@ fn sides(rt: HostRuntime) {
         ((0, 0), (4, 0), (1, 3), 12),
         ((0, 0), (4, 0), (1, -3), -12),
         ((0, 0), (4, 2), (2, 1), 0),
-        ((-FAR, -FAR), (FAR, -FAR), (FAR, FAR), 40_000_000_000_000_000),
-        ((-FAR, FAR), (FAR, FAR), (FAR, -FAR), -40_000_000_000_000_000),
+        (
+            (-FAR, -FAR),
+            (FAR, -FAR),
+            (FAR, FAR),
+            40_000_000_000_000_000,
+        ),
+        (
+            (-FAR, FAR),
+            (FAR, FAR),
+            (FAR, -FAR),
+            -40_000_000_000_000_000,
+        ),
         ((-FAR, -FAR), (FAR, FAR), (FAR, FAR - 1), -200_000_000),
     ];
     for (a, b, p, want) in table {
@@ -79,7 +94,13 @@ fn crossings(rt: HostRuntime) {
         ((0, 0), (4, 4), (0, 4), (4, 0), true),
         ((0, 0), (4, 4), (4, 0), (0, 4), true),
         ((-FAR, -FAR), (FAR, FAR), (-FAR, FAR), (FAR, -FAR), true),
-        ((-FAR, -FAR), (FAR, FAR), (FAR - 1, FAR), (FAR, FAR - 1), true),
+        (
+            (-FAR, -FAR),
+            (FAR, FAR),
+            (FAR - 1, FAR),
+            (FAR, FAR - 1),
+            true,
+        ),
         // Ends that meet, an end on the other segment, one line, no common point.
         ((0, 0), (4, 4), (4, 4), (8, 0), false),
         ((0, 0), (4, 4), (2, 2), (5, 0), false),
@@ -88,7 +109,13 @@ fn crossings(rt: HostRuntime) {
         ((0, 0), (4, 4), (5, 5), (6, 9), false),
         ((0, 0), (4, 4), (3, 1), (9, -5), false),
         ((0, 0), (0, 0), (-1, -1), (1, 1), false),
-        ((-FAR, -FAR), (FAR, FAR - 1), (FAR - 1, FAR), (FAR, FAR), false),
+        (
+            (-FAR, -FAR),
+            (FAR, FAR - 1),
+            (FAR - 1, FAR),
+            (FAR, FAR),
+            false,
+        ),
     ];
     for (a, b, c, d, want) in table {
         assert_eq!(rt; crosses_at(a, b, c, d), want, "{a:?} {b:?} {c:?} {d:?}");
@@ -140,8 +167,20 @@ fn lengths(rt: HostRuntime) {
         ((0, 0), (0, 200), 1, 10_000_000, 1),
         ((0, 0), (0, 201), 1, 10_000_000, 2),
         ((0, 0), (123_456, 654_321), 7_381_234, 11_119_999, 3_667),
-        ((-2 * FAR, -2 * FAR), (2 * FAR, 2 * FAR), 20_000_000, 20_000_000, 5_656_855),
-        ((-2 * FAR, 0), (2 * FAR, 0), 20_000_000, 20_000_000, 4_000_000),
+        (
+            (-2 * FAR, -2 * FAR),
+            (2 * FAR, 2 * FAR),
+            20_000_000,
+            20_000_000,
+            5_656_855,
+        ),
+        (
+            (-2 * FAR, 0),
+            (2 * FAR, 0),
+            20_000_000,
+            20_000_000,
+            4_000_000,
+        ),
         ((2 * FAR, 2 * FAR), (-2 * FAR, -2 * FAR), 1, 1, 1),
     ];
     for (a, b, kx, ky, want) in table {
@@ -192,10 +231,23 @@ fn pictured(alloc: Global, scale: i64) -> Result<Shape, AllocError>
 {
     let outer = ring(
         alloc,
-        &[(-10, -10), (10, -10), (10, 10), (2, 10), (0, 2), (-4, 10), (-10, 6), (-10, -10)],
+        &[
+            (-10, -10),
+            (10, -10),
+            (10, 10),
+            (2, 10),
+            (0, 2),
+            (-4, 10),
+            (-10, 6),
+            (-10, -10),
+        ],
         scale,
     )?;
-    let hole = ring(alloc, &[(-6, -6), (-6, -2), (4, -3), (4, -6), (-6, -6)], scale)?;
+    let hole = ring(
+        alloc,
+        &[(-6, -6), (-6, -2), (4, -3), (4, -6), (-6, -6)],
+        scale,
+    )?;
     let notch = ring(alloc, &[(-1, 8), (0, 6), (1, 8), (-1, 8)], scale)?;
     let first = Part {
         outer,
@@ -217,8 +269,16 @@ fn shapes(rt: HostRuntime) -> Result<(), Fail> {
         for (y, line) in (-10..=10i64).rev().zip(PICTURE) {
             for (x, mark) in (-10..=10i64).zip(line) {
                 let p = (x.saturating_mul(scale), y.saturating_mul(scale));
-                assert_eq!(rt; inside_at(p, &shape), *mark == b'i' || *mark == b'x', "{x} {y}");
-                assert_eq!(rt; near_at(p, &shape, 0), *mark == b'o' || *mark == b'x', "{x} {y}");
+                assert_eq!(rt;
+                    inside_at(p, &shape),
+                    *mark == b'i' || *mark == b'x',
+                    "{x} {y}"
+                );
+                assert_eq!(rt;
+                    near_at(p, &shape, 0),
+                    *mark == b'o' || *mark == b'x',
+                    "{x} {y}"
+                );
             }
         }
     }

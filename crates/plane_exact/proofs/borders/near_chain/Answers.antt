@@ -21,6 +21,6 @@ returns-then-near_edge c =
 
 pub loop-b-preserved : goal.loop-b-preserved
 loop-b-preserved c = record {
-    close = chain_step c.args.p c.loop-b.a c.args.rest.now c.loop-b.b-index _ c.loop-b-test.true c.loop-b.invariant.close;
-    ahead = iff_along (chain_past c.args.p c.loop-b.a c.args.t c.args.rest.now c.loop-b.b-index _ c.loop-b-test.true (λ h. false≢true (c.if-near_edge.ensures.1 h))) c.loop-b.invariant.ahead
+  close = chain_step c.args.p c.loop-b.a c.args.rest.now c.loop-b.b-index _ c.loop-b-test.true c.loop-b.invariant.close;
+  ahead = iff_along (chain_past c.args.p c.loop-b.a c.args.t c.args.rest.now c.loop-b.b-index _ c.loop-b-test.true (λ h. false≢true (c.if-near_edge.ensures.1 h))) c.loop-b.invariant.ahead;
 }

@@ -16,6 +16,6 @@ returns-then-near_part c =
 
 pub loop-part-preserved : goal.loop-part-preserved
 loop-part-preserved c = record {
-    close = items_step part_points c.args.p c.args.parts.now c.loop-part.part-index _ _ c.loop-part-test.true (sym c.part-item.is) c.loop-part.invariant.close;
-    ahead = iff_along (items_past part_edges c.args.p c.args.t c.args.parts.now c.loop-part.part-index _ _ c.loop-part-test.true (sym c.part-item.is) (λ h. false≢true (c.if-near_part.ensures.1 h))) c.loop-part.invariant.ahead
+  close = items_step part_points c.args.p c.args.parts.now c.loop-part.part-index _ _ c.loop-part-test.true (sym c.part-item.is) c.loop-part.invariant.close;
+  ahead = iff_along (items_past part_edges c.args.p c.args.t c.args.parts.now c.loop-part.part-index _ _ c.loop-part-test.true (sym c.part-item.is) (λ h. false≢true (c.if-near_part.ensures.1 h))) c.loop-part.invariant.ahead;
 }

@@ -17,6 +17,6 @@ returns-then-near_ring c =
 
 pub loop-ring-preserved : goal.loop-ring-preserved
 loop-ring-preserved c = record {
-    close = items_step (λ (ring : Ring). ring.points) c.args.p c.args.rings.now c.loop-ring.ring-index _ _ c.loop-ring-test.true (sym c.ring-item.is) c.loop-ring.invariant.close;
-    ahead = iff_along (items_past (λ (ring : Ring). edges ring.points) c.args.p c.args.t c.args.rings.now c.loop-ring.ring-index _ _ c.loop-ring-test.true (sym c.ring-item.is) (λ h. false≢true (c.if-near_ring.ensures.1 h))) c.loop-ring.invariant.ahead
+  close = items_step (λ (ring : Ring). ring.points) c.args.p c.args.rings.now c.loop-ring.ring-index _ _ c.loop-ring-test.true (sym c.ring-item.is) c.loop-ring.invariant.close;
+  ahead = iff_along (items_past (λ (ring : Ring). edges ring.points) c.args.p c.args.t c.args.rings.now c.loop-ring.ring-index _ _ c.loop-ring-test.true (sym c.ring-item.is) (λ h. false≢true (c.if-near_ring.ensures.1 h))) c.loop-ring.invariant.ahead;
 }

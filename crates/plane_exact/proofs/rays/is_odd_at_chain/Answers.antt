@@ -13,9 +13,9 @@ meets-requires-clause-close c = start_close c.args.p c.loop-b.a _ c.loop-b.invar
 
 pub loop-b-preserved : goal.loop-b-preserved
 loop-b-preserved c = record {
-    close = chain_step c.args.p c.loop-b.a c.args.rest.now c.loop-b.b-index _ c.loop-b-test.true c.loop-b.invariant.close;
-    parity = elim c.if-meets.branch [
-        then-meets w ↦ chain_met c.args.p c.loop-b.a c.args.rest.now c.loop-b.b-index _ c.loop-b.odd c.if-meets.odd _ c.loop-b-test.true (sym c.meets.ensures ∙ w.if-meets.true) w.odd-is c.loop-b.invariant.parity
-        | else-meets w ↦ chain_missed c.args.p c.loop-b.a c.args.rest.now c.loop-b.b-index _ c.loop-b.odd c.if-meets.odd _ c.loop-b-test.true (sym c.meets.ensures ∙ w.if-meets.false) w.odd-is c.loop-b.invariant.parity
-    ]
+  close = chain_step c.args.p c.loop-b.a c.args.rest.now c.loop-b.b-index _ c.loop-b-test.true c.loop-b.invariant.close;
+  parity = elim c.if-meets.branch [
+    | then-meets w ↦ chain_met c.args.p c.loop-b.a c.args.rest.now c.loop-b.b-index _ c.loop-b.odd c.if-meets.odd _ c.loop-b-test.true (sym c.meets.ensures ∙ w.if-meets.true) w.odd-is c.loop-b.invariant.parity
+    | else-meets w ↦ chain_missed c.args.p c.loop-b.a c.args.rest.now c.loop-b.b-index _ c.loop-b.odd c.if-meets.odd _ c.loop-b-test.true (sym c.meets.ensures ∙ w.if-meets.false) w.odd-is c.loop-b.invariant.parity
+  ];
 }

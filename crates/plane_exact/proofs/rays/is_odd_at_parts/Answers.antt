@@ -11,9 +11,9 @@ is_odd_at_part-requires c = item_close part_points c.args.p c.args.parts.now c.l
 
 pub loop-part-preserved : goal.loop-part-preserved
 loop-part-preserved c = record {
-    close = items_step part_points c.args.p c.args.parts.now c.loop-part.part-index _ _ c.loop-part-test.true (sym c.part-item.is) c.loop-part.invariant.close;
-    parity = elim c.if-is_odd_at_part.branch [
-        then-is_odd_at_part w ↦ items_odd part_edges c.args.p c.args.parts.now c.loop-part.part-index _ _ c.loop-part.odd c.if-is_odd_at_part.odd _ c.loop-part-test.true (sym c.part-item.is) (c.is_odd_at_part.ensures.0 w.if-is_odd_at_part.true) w.odd-is c.loop-part.invariant.parity
-        | else-is_odd_at_part w ↦ items_even part_edges c.args.p c.args.parts.now c.loop-part.part-index _ _ c.loop-part.odd c.if-is_odd_at_part.odd _ c.loop-part-test.true (sym c.part-item.is) (λ h. false≢true (sym w.if-is_odd_at_part.false ∙ c.is_odd_at_part.ensures.1 h)) w.odd-is c.loop-part.invariant.parity
-    ]
+  close = items_step part_points c.args.p c.args.parts.now c.loop-part.part-index _ _ c.loop-part-test.true (sym c.part-item.is) c.loop-part.invariant.close;
+  parity = elim c.if-is_odd_at_part.branch [
+    | then-is_odd_at_part w ↦ items_odd part_edges c.args.p c.args.parts.now c.loop-part.part-index _ _ c.loop-part.odd c.if-is_odd_at_part.odd _ c.loop-part-test.true (sym c.part-item.is) (c.is_odd_at_part.ensures.0 w.if-is_odd_at_part.true) w.odd-is c.loop-part.invariant.parity
+    | else-is_odd_at_part w ↦ items_even part_edges c.args.p c.args.parts.now c.loop-part.part-index _ _ c.loop-part.odd c.if-is_odd_at_part.odd _ c.loop-part-test.true (sym c.part-item.is) (λ h. false≢true (sym w.if-is_odd_at_part.false ∙ c.is_odd_at_part.ensures.1 h)) w.odd-is c.loop-part.invariant.parity
+  ];
 }
