@@ -1,0 +1,11 @@
+pub mod NumberLemmas
+pub mod SegmentLemmas
+pub mod LengthLemmas
+pub mod ListLemmas
+pub mod CloseLemmas
+pub mod BorderLemmas
+pub mod RayLemmas
+pub mod ParityLemmas
+pub mod PolynomialLemmas
+pub mod NearLaw
+pub mod BoxLemmas

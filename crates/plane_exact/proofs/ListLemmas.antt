@@ -1,0 +1,49 @@
+-- Steps of loops whose result the items ahead decide.
+use Rattle.std.proofs.Common.{◌≡◌, ℕ, zero, suc, ◌+◌, ◌<◌, List, [], ◌∷◌, ◌++◌, length, drop, get_or, slice_index_or, Any, Contains, ◌↔◌, ◌⊎◌, flat_map, inl, inr, refl, sym, subst, ap, ◌∙◌, arith}
+use Rattle.std.proofs.lemmas.List.Concat.{flat_map-append}
+use Rattle.std.proofs.lemmas.List.{at_drop_more}
+
+-- what is ahead begins with the item at hand
+pub drop_at : {X : Type 0} (xs : List X) (i : ℕ) (x d : X) → i < length xs → get_or xs i d ≡ x → drop i xs ≡ x ∷ drop (i + 1) xs
+drop_at {X} xs i x d h e = rw (← e) (at_drop_more (λ (ys : List X). ys) xs i d h)
+
+-- ---- some item has a property
+
+pub any_here : {X : Type 0} (P : X → Type 0) (x : X) (xs : List X) → P x → Any P (x ∷ xs)
+any_here P x xs h = (0, x, omega arith, refl, h)
+
+pub any_later : {X : Type 0} (P : X → Type 0) (x : X) (xs : List X) → Any P xs → Any P (x ∷ xs)
+any_later P x xs (k, y, within, at, h) = (suc k, y, omega arith, at, h)
+
+any_of_cons : {X : Type 0} (P : X → Type 0) (x : X) (xs : List X) → Any P (x ∷ xs) → P x ⊎ Any P xs
+any_of_cons P x xs (zero, y, within, at, h) = inl (subst P (sym at) h)
+any_of_cons P x xs (suc k, y, within, at, h) = inr (k, y, omega arith, at, h)
+
+-- past an item without the property the rest decides
+pub any_past : {X : Type 0} (P : X → Type 0) (x : X) (xs : List X) → ¬ P x → Any P xs ↔ Any P (x ∷ xs)
+any_past P x xs none = (any_later P x xs, λ a. elim (any_of_cons P x xs a) [ inl h ↦ absurd (none h) | inr rest ↦ rest ])
+
+pub any_left : {X : Type 0} (P : X → Type 0) (xs ys : List X) → Any P xs → Any P (xs ++ ys)
+any_left P [] ys (k, y, within, at, h) = absurd (omega (arith, within))
+any_left P (x ∷ xs) ys a = elim (any_of_cons P x xs a) [ inl h ↦ any_here P x (xs ++ ys) h | inr rest ↦ any_later P x (xs ++ ys) (any_left P xs ys rest) ]
+
+any_right : {X : Type 0} (P : X → Type 0) (xs ys : List X) → Any P ys → Any P (xs ++ ys)
+any_right P [] ys a = a
+any_right P (x ∷ xs) ys a = any_later P x (xs ++ ys) (any_right P xs ys a)
+
+any_of_append : {X : Type 0} (P : X → Type 0) (xs ys : List X) → Any P (xs ++ ys) → Any P xs ⊎ Any P ys
+any_of_append P [] ys a = inr a
+any_of_append P (x ∷ xs) ys a = elim (any_of_cons P x (xs ++ ys) a) [
+  | inl h ↦ inl (any_here P x xs h)
+  | inr rest ↦ elim (any_of_append P xs ys rest) [ inl l ↦ inl (any_later P x xs l) | inr r ↦ inr r ]
+]
+
+-- past items without the property the rest decides
+pub any_past_all : {X : Type 0} (P : X → Type 0) (xs ys : List X) → ¬ Any P xs → Any P ys ↔ Any P (xs ++ ys)
+any_past_all P xs ys none = (any_right P xs ys, λ a. elim (any_of_append P xs ys a) [ inl l ↦ absurd (none l) | inr r ↦ r ])
+
+-- ---- lists in lists
+
+pub flat_map-flat_map : {X Y Z : Type 0} (f : Y → List Z) (g : X → List Y) (xs : List X) → flat_map f (flat_map g xs) ≡ flat_map (λ x. flat_map f (g x)) xs
+flat_map-flat_map f g [] = refl
+flat_map-flat_map f g (x ∷ xs) = flat_map-append f (g x) (flat_map g xs) ∙ ap (λ zs. flat_map f (g x) ++ zs) (flat_map-flat_map f g xs)

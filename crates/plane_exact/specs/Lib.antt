@@ -1,0 +1,6 @@
+pub mod Plane
+pub mod Segment
+pub mod Figure
+pub mod Opening
+pub mod Length
+pub mod Testing

@@ -1,0 +1,18 @@
+//! Predicates on positions, segments and shapes of the plane, and lengths, all exact in whole numbers.
+#![tactic(auto)]
+
+mod borders;
+mod laws;
+mod lengths;
+mod numbers;
+mod rays;
+mod segments;
+
+pub use borders::near;
+pub use laws::{length_law, near_edge_law};
+pub use lengths::length_cm;
+pub use rays::inside;
+pub use segments::{crosses, near_edge, side};
+
+#[cfg(test)]
+mod tests;
