@@ -1,5 +1,5 @@
 -- Steps of the loops of `near`: what lies behind is not near, so what lies ahead decides.
-use Rattle.std.proofs.Common.{◌≡◌, ℕ, ◌+◌, ◌<◌, List, ◌∷◌, ◌++◌, length, drop, get_or, Any, ◌↔◌, flat_map, refl, sym, subst}
+use Rattle.std.proofs.Common.{◌≡◌, ℕ, ◌+◌, ◌<◌, List, length, drop, get_or, ◌↔◌, flat_map, refl}
 use Rattle.venue_types.specs.declared.point.Point.{Point}
 use Rattle.plane_exact.specs.Segment.{IsNearEdge}
 use Rattle.plane_exact.specs.Figure.{Edge, edges_from, IsNearSome}

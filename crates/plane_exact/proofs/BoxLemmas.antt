@@ -1,5 +1,5 @@
 -- Positions in one box are close to one another.
-use Rattle.std.proofs.Common.{◌≡◌, ℕ, List, [], ◌∷◌, Contains, All, subst, sym, arith}
+use Rattle.std.proofs.Common.{◌≡◌, List, [], ◌∷◌, All, subst, sym, arith}
 use Rattle.std.proofs.lemmas.Int.{ints}
 use Rattle.std.proofs.lemmas.List.Elements.{All-nil, All-cons, All-append, All-contains}
 use mathlib.Core.Path.{subst₂}
@@ -8,7 +8,7 @@ use Rattle.venue_types.specs.declared.point.Part.{Part}
 use Rattle.plane_exact.specs.Figure.{vertices}
 use Rattle.venue_types.specs.declared.point.Point.{Point}
 use Rattle.venue_types.specs.declared.point.Spot.{Spot}
-use Rattle.plane_exact.specs.Plane.{IsClose, IsCloseDoubled, IsWithin}
+use Rattle.plane_exact.specs.Plane.{IsClose, IsCloseDoubled}
 use Rattle.plane_exact.specs.Figure.{AllClose}
 use Rattle.plane_exact.specs.Testing.{IsInBox, IsInDoubledBox}
 

@@ -1,5 +1,5 @@
 -- A position is near an edge exactly where some position of the edge is within the tolerance.
-use Rattle.std.proofs.Common.{◌≡◌, ℕ, ◌+◌, ◌-◌, ◌*◌, ◌<◌, ◌≤◌, ℤ, pos, neg_ℤ, ◌+ℤ◌, ◌-ℤ◌, ◌*ℤ◌, ◌≤ℤ◌, ◌<ℤ◌, unsigned_abs, ap, ap₂, sym, ◌∙◌, refl, subst, negsuc, zero, suc, arith}
+use Rattle.std.proofs.Common.{◌≡◌, ℕ, ◌+◌, ◌-◌, ◌*◌, ◌<◌, ◌≤◌, ℤ, pos, neg_ℤ, ◌+ℤ◌, ◌-ℤ◌, ◌*ℤ◌, ◌≤ℤ◌, unsigned_abs, ap, ap₂, sym, ◌∙◌, subst, negsuc, zero, suc, arith}
 use Rattle.std.proofs.lemmas.Int.{ints, by_lt_z}
 use Rattle.venue_types.specs.declared.point.Point.{Point}
 use Rattle.plane_exact.specs.Plane.{side, along, squared_distance, square}

@@ -1,5 +1,5 @@
 -- Steps of the loops of `inside`: what was met so far and what is met ahead make up all, and only the parity counts.
-use Rattle.std.proofs.Common.{◌≡◌, ℕ, ◌+◌, ◌%◌, ◌<◌, Bool, true, false, not, cond, List, [], ◌∷◌, zero-add, ◌++◌, length, drop, get_or, flat_map, count_by, refl, sym, ap, ◌∙◌, ◌↔◌, IsTrue, arith}
+use Rattle.std.proofs.Common.{◌≡◌, ℕ, ◌+◌, ◌%◌, ◌<◌, Bool, true, false, not, cond, List, [], ◌∷◌, zero-add, length, drop, get_or, flat_map, refl, ap, ◌∙◌, arith}
 use Rattle.std.proofs.lemmas.List.Sums.{sum_by-append}
 use Rattle.venue_types.specs.declared.point.Point.{Point}
 use Rattle.plane_exact.specs.Figure.{Edge, edges_from, crossings, meets_ray}

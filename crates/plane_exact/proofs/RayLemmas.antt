@@ -1,10 +1,10 @@
 -- What the tests of `inside` decide, and the steps of the loops over a chain of points.
-use Rattle.std.proofs.Common.{◌≡◌, ℕ, ◌+◌, ◌%◌, ℤ, pos, ◌≤ℤ◌, ◌<ℤ◌, Bool, true, false, ◌&&◌, ◌||◌, cond, refl, ap, ap₂, sym, ◌∙◌, arith}
+use Rattle.std.proofs.Common.{◌≡◌, ℤ, pos, ◌≤ℤ◌, ◌<ℤ◌, Bool, true, false, ◌&&◌, ◌||◌, refl, ap, sym, ◌∙◌, arith}
 use Rattle.std.proofs.lemmas.Int.{ints}
 use lib.Signed.{lt_z, le_z}
 use Rattle.venue_types.specs.declared.point.Point.{Point}
 use Rattle.plane_exact.specs.Plane.{side}
-use Rattle.plane_exact.specs.Figure.{meets_ray, Edge}
+use Rattle.plane_exact.specs.Figure.{meets_ray}
 use Rattle.plane_exact.proofs.SegmentLemmas.{le_decides, lt_decides}
 
 pub le_true : (x y : ℤ) → x ≤ℤ y → le_z x y ≡ true

@@ -1,5 +1,5 @@
 -- Rings, parts and shapes (RFC 7946, sections 3.1.6 and 3.1.7): their edges, and what is near them or inside.
-use Rattle.std.specs.Prelude.{◌≡◌, ℕ, ℤ, pos, ◌%◌, List, [], ◌∷◌, ◌++◌, Bool, ◌&&◌, ◌||◌, int_le, int_lt, count_by, Any, Contains}
+use Rattle.std.specs.Prelude.{◌≡◌, ℕ, pos, ◌%◌, List, [], ◌∷◌, Bool, ◌&&◌, ◌||◌, int_le, int_lt, count_by, Any, Contains}
 use Rattle.std.specs.List.{flat_map}
 use Rattle.venue_types.specs.declared.point.Point.{Point}
 use Rattle.venue_types.specs.declared.point.Ring.{Ring}
@@ -39,10 +39,11 @@ ring_edges list = flat_map (λ (ring : Ring). edges ring.points) list
 abbrev pub ring_points : List Ring → List Point
 ring_points list = flat_map (λ (ring : Ring). ring.points) list
 
--- the edges and the points of a polygon
+-- the edges of a polygon
 abbrev pub part_edges : Part → List Edge
 part_edges part = ring_edges (rings_of part)
 
+-- the points of a polygon
 abbrev pub part_points : Part → List Point
 part_points part = ring_points (rings_of part)
 
@@ -54,7 +55,7 @@ all_edges shape = ring_edges (rings shape)
 abbrev pub vertices : Shape → List Point
 vertices shape = ring_points (rings shape)
 
--- the edge goes up past the height of p and to the right of p; its lower end counts, its upper end does not
+-- the edge goes up past the height of p, to the right of p; at that height its lower end counts and its upper end does not
 abbrev pub goes_up : Point → Edge → Bool
 goes_up p edge = int_le edge.from.y p.y && int_lt p.y edge.to.y && int_lt (pos 0) (side edge.from edge.to p)
 

@@ -1,4 +1,4 @@
-use Rattle.std.proofs.Common.{refl, sym, List}
+use Rattle.std.proofs.Common.{refl, sym}
 use Rattle.std.proofs.lemmas.Bool.{false≢true}
 use Rattle.plane_exact.specs.Figure.{part_edges, part_points}
 use Rattle.plane_exact.proofs.BorderLemmas.{items_here, items_past}

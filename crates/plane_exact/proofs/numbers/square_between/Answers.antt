@@ -1,4 +1,4 @@
-use Rattle.std.proofs.Common.{◌≡◌, ap, ap₂, ◌∙◌, ◌*ℤ◌, ◌+ℤ◌, ◌-ℤ◌, arith}
+use Rattle.std.proofs.Common.{◌≡◌, ap₂, ◌∙◌, ◌*ℤ◌, ◌+ℤ◌, ◌-ℤ◌, arith}
 use Rattle.std.proofs.lemmas.Int.{ints}
 use Rattle.plane_exact.specs.Plane.{squared_distance, square}
 use Rattle.plane_exact.proofs.NumberLemmas.{product_of, sum_of}

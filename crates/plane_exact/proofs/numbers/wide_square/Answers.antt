@@ -1,4 +1,4 @@
-use Rattle.std.proofs.Common.{◌≡◌, ap₂, ◌*ℤ◌}
+use Rattle.std.proofs.Common.{ap₂, ◌*ℤ◌}
 use Rattle.plane_exact.specs.Plane.{square}
 use Rattle.plane_exact.proofs.NumberLemmas.{wide_square_of, read_back}
 use Rattle.plane_exact.proofs.numbers.wide_square.Goals as goal

@@ -1,5 +1,4 @@
-use Rattle.std.proofs.Common.{◌≡◌, ◌+◌, ◌%◌, cond, drop, get_or, ◌∙◌, sym}
-use Rattle.plane_exact.specs.Figure.{edges_from, crossings}
+use Rattle.std.proofs.Common.{◌∙◌, sym}
 use Rattle.plane_exact.proofs.CloseLemmas.{start_close, edge_close, chain_step}
 use Rattle.plane_exact.proofs.ParityLemmas.{chain_met, chain_missed}
 use Rattle.plane_exact.proofs.rays.is_odd_at_chain.Goals as goal

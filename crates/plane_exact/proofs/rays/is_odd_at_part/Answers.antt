@@ -1,4 +1,4 @@
-use Rattle.std.proofs.Common.{◌≡◌, ◌∷◌, List, subst, sym}
+use Rattle.std.proofs.Common.{◌∷◌, List, subst, sym}
 use Rattle.venue_types.specs.declared.point.Ring.{Ring}
 use Rattle.plane_exact.specs.Figure.{AllClose, ring_points}
 use Rattle.plane_exact.proofs.CloseLemmas.{AllClose-left, AllClose-right}

@@ -1,4 +1,4 @@
-use Rattle.std.proofs.Common.{refl, sym, ◌∙◌}
+use Rattle.std.proofs.Common.{sym, ◌∙◌}
 use Rattle.std.proofs.lemmas.Bool.{false≢true}
 use Rattle.plane_exact.specs.Figure.{part_points, part_edges}
 use Rattle.plane_exact.proofs.CloseLemmas.{item_close, items_step}

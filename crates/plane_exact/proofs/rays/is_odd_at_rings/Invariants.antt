@@ -1,4 +1,4 @@
-use Rattle.std.proofs.Common.{◌≡◌, ◌∷◌, ◌+◌, ◌%◌, cond, drop, flat_map}
+use Rattle.std.proofs.Common.{◌≡◌, ◌∷◌, ◌+◌, ◌%◌, cond, drop}
 use Rattle.plane_exact.specs.Figure.{AllClose, ring_points, ring_edges, crossings}
 use Rattle.plane_exact.proofs.rays.is_odd_at_rings.Given as goal
 

@@ -1,4 +1,4 @@
-use Rattle.plane_exact.proofs.BoxLemmas.{box_close, doubled_close, all_close}
+use Rattle.plane_exact.proofs.BoxLemmas.{box_close}
 use Rattle.plane_exact.proofs.tests.crosses_at.Goals as goal
 
 pub crosses-requires-clause-first : goal.crosses-requires-clause-first

@@ -1,4 +1,4 @@
-use Rattle.plane_exact.proofs.BoxLemmas.{box_close, doubled_close, all_close}
+use Rattle.plane_exact.proofs.BoxLemmas.{all_close}
 use Rattle.plane_exact.proofs.tests.inside_at.Goals as goal
 
 pub inside-requires : goal.inside-requires

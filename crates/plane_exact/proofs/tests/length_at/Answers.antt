@@ -1,4 +1,4 @@
-use Rattle.plane_exact.proofs.BoxLemmas.{box_close, doubled_close, all_close}
+use Rattle.plane_exact.proofs.BoxLemmas.{doubled_close}
 use Rattle.plane_exact.proofs.tests.length_at.Goals as goal
 
 pub length_cm-requires-clause-close : goal.length_cm-requires-clause-close

@@ -1,4 +1,4 @@
-use Rattle.plane_exact.proofs.BoxLemmas.{box_close, doubled_close, all_close}
+use Rattle.plane_exact.proofs.BoxLemmas.{all_close}
 use Rattle.plane_exact.proofs.tests.near_at.Goals as goal
 
 pub near-requires-clause-close : goal.near-requires-clause-close

@@ -1,4 +1,4 @@
-use Rattle.plane_exact.proofs.BoxLemmas.{box_close, doubled_close, all_close}
+use Rattle.plane_exact.proofs.BoxLemmas.{box_close}
 use Rattle.plane_exact.proofs.tests.near_edge_at.Goals as goal
 
 pub near_edge-requires-clause-edge : goal.near_edge-requires-clause-edge

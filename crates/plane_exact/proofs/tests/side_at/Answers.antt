@@ -1,4 +1,4 @@
-use Rattle.plane_exact.proofs.BoxLemmas.{box_close, doubled_close, all_close}
+use Rattle.plane_exact.proofs.BoxLemmas.{box_close}
 use Rattle.plane_exact.proofs.tests.side_at.Goals as goal
 
 pub side-requires-clause-end : goal.side-requires-clause-end
