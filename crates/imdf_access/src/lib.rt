@@ -1,0 +1,10 @@
+//! What a category means, and which links a profile may use.
+#![tactic(auto)]
+
+mod category;
+mod meaning;
+mod profile;
+
+
+pub use category::{known_unit, passage, unit_kind, walkable};
+pub use profile::{allows, built_in};
