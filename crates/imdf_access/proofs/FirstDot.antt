@@ -1,5 +1,5 @@
 -- The place of the first byte that passes a test, and what stands before it.
-use Rattle.std.proofs.Common.{◌≡◌, ℕ, Bool, true, false, cond, ltb, List, length, take, Option, Some, None, sym, ◌∙◌, ◌≤◌, ap, arith}
+use Rattle.std.proofs.Common.{◌≡◌, ℕ, Bool, true, false, cond, ltb, List, take, Some, None, sym, ◌∙◌, ◌≤◌, ap, arith}
 use Rattle.std.specs.List.{position_from, position_or_len, before_first}
 use Rattle.std.proofs.lemmas.Iterator.Adapters.{position_from-zero}
 use Rattle.std.proofs.lemmas.Bool.Decides.{nat_tests}

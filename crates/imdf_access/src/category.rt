@@ -19,7 +19,10 @@ pub fn walkable(category: &[u8]) -> bool
 pub fn known_unit(category: &[u8]) -> bool
     ensures { result ≡ is_known_unit category.now }
 {
-    !matches!(category_meaning(category), Meaning::Traversal | Meaning::Unknown)
+    !matches!(
+        category_meaning(category),
+        Meaning::Traversal | Meaning::Unknown
+    )
 }
 
 /// How a link inside a unit of the category is passed.

@@ -4,7 +4,8 @@
 mod category;
 mod meaning;
 mod profile;
-
+#[cfg(test)]
+mod tests;
 
 pub use category::{known_unit, passage, unit_kind, walkable};
 pub use profile::{allows, built_in};
