@@ -23,14 +23,15 @@ abbrev pub keys_in : Members → List (List ℕ)
 keys_in no_members = []
 keys_in (member key value more) = key ∷ keys_in more
 
--- the lesser of two texts by their bytes
-abbrev pub lesser : List ℕ → List ℕ → List ℕ
-lesser a b = if is_lt (slice_cmp nat_cmp b a) then b else a
+-- the lesser of two texts by their bytes, where there is another
+abbrev pub lesser : List ℕ → Option (List ℕ) → List ℕ
+lesser text None = text
+lesser text (Some other) = if is_lt (slice_cmp nat_cmp other text) then other else text
 
 -- the least of some texts by their bytes
 abbrev pub least : List (List ℕ) → Option (List ℕ)
 least [] = None
-least (text ∷ more) = elim (least more) [ None ↦ Some text | Some other ↦ Some (lesser text other) ]
+least (text ∷ more) = Some (lesser text (least more))
 
 -- whether the key is one of the rows
 abbrev pub is_among : List Row → List ℕ → Bool

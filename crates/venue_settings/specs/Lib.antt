@@ -1,4 +1,5 @@
 pub mod Faults
+pub mod Judged
 pub mod Keys
 pub mod Settings
 pub mod Table

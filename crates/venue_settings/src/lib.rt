@@ -5,5 +5,6 @@ mod fault;
 mod judge;
 mod keys;
 mod profile_keys;
+mod table;
 
 pub use fault::SettingsFault;
