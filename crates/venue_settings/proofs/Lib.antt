@@ -1,2 +1,4 @@
 pub mod Least
 pub mod Lists
+pub mod Names
+pub mod Phases
