@@ -98,4 +98,4 @@ twice_fault tables = option_map fault.Twice (first_repeated built_in_names (map 
 unfoldable pub first_fault : Members → Option SettingsFault
 first_fault table =
     let tables = profile_tables table in
-    first_of ((table_faults settings_rows table ++ profile_faults tables) ++ twice_fault tables ∷ [])
+    first_of (table_faults settings_rows table ++ (profile_faults tables ++ twice_fault tables ∷ []))
