@@ -1,5 +1,5 @@
 -- In a map the keys ascend, so the first that passes a test is the least that does.
-use Rattle.std.proofs.Common.{◌≡◌, ℕ, Bool, ◌||◌, subst, true, false, not, cond, List, [], ◌∷◌, map, filter, Option, Some, None, option_map, String, Global, Ordering, Less, Greater, string_bytes, nat_cmp, is_lt, refl, ap, sym, ◌∙◌, inl, inr}
+use Rattle.std.proofs.Common.{◌≡◌, ℕ, Bool, ◌||◌, subst, not, cond, List, [], ◌∷◌, map, filter, Option, Some, None, option_map, String, Global, Less, string_bytes, nat_cmp, refl, ap, sym, ◌∙◌, inl, inr}
 use Rattle.std.proofs.lemmas.Bool.{cases_Bool}
 use Rattle.std.proofs.lemmas.Cmp.{nat_list_cmp_total}
 use Rattle.std.proofs.lemmas.Option.{same_Some}
@@ -7,14 +7,13 @@ use Rattle.std.specs.Cmp.Lexicographic.{slice_cmp}
 use Rattle.std.specs.List.{AllByRecursion, find, list_any}
 use Rattle.std.specs.List.Sorted.{IsStrictlySortedBy}
 use Rattle.std.specs.Map.{keys_of}
-use Rattle.std.specs.Ordering.{ordering_reverse}
 use Rattle.std.specs.Str.{bytes_eq}
 use Rattle.std.specs.String.{string_cmp}
 use Rattle.toml.specs.View.{members_view}
 use Rattle.toml.specs.declared.value.Value.{Value}
 use Rattle.venue_settings.specs.declared.fault.SettingsFault.TheVariants as fault
 use Rattle.venue_settings.specs.declared.keys.Key.{Key}
-use Rattle.venue_settings.specs.Faults.{keys_in, least, lesser, is_among, unknown_fault}
+use Rattle.venue_settings.specs.Faults.{keys_in, least, lesser, unknown_fault}
 use Rattle.venue_settings.specs.Table.{row_of}
 
 keys_in-members_view : (es : List (String Global × Value)) → keys_in (members_view es) ≡ map string_bytes (keys_of es)

@@ -1,5 +1,5 @@
 -- The settings that the text of a file stands for, or its first fault.
-use Rattle.std.specs.Prelude.{◌≡◌, ℕ, pos, Bool, false, List, ◌++◌, map, Option, Some, None, MatchOption, Result, Ok, Err, IsUtf8, codes, option_and_then, unwrap_or}
+use Rattle.std.specs.Prelude.{◌≡◌, ℕ, pos, Bool, false, List, ◌++◌, map, Some, None, MatchOption, Result, Ok, Err, IsUtf8, codes, option_and_then, unwrap_or}
 use Rattle.std.specs.List.{filter_map}
 use Rattle.imdf_access.specs.Profiles.{built_in_profiles}
 use Rattle.toml.specs.Data.{Members, integer, get_member, as_bool, as_str}

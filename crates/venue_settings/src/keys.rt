@@ -132,7 +132,7 @@ pub const PROFILE: Key = Key {
 };
 
 /// The keys of the settings, in the order in which they are judged.
-pub static SETTINGS: [Key; 13] = [
+pub static SETTINGS_KEYS: [Key; 13] = [
     KX,
     KY,
     BORDER_TOL,

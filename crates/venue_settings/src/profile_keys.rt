@@ -83,7 +83,7 @@ pub const MARKED: Key = Key {
 };
 
 /// The keys of a profile, in the order in which they are judged.
-pub static PROFILE: [Key; 10] = [
+pub static PROFILE_KEYS: [Key; 10] = [
     NAME,
     ELEVATOR,
     ESCALATOR,

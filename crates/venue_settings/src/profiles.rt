@@ -13,8 +13,8 @@ ghost use Rattle.venue_settings.specs.Settings.{profile_of as the_profile_of};
 
 use crate::fault::{SettingsFault, owned};
 use crate::profile_keys::{
-    ELEVATOR, ESCALATOR, MARKED, MOVINGWALKWAY, NAME, PROFILE, RAMP, RESTRICTED, REVOLVING, STAIRS,
-    TURNSTILE,
+    ELEVATOR, ESCALATOR, MARKED, MOVINGWALKWAY, NAME, PROFILE_KEYS, RAMP, RESTRICTED, REVOLVING,
+    STAIRS, TURNSTILE,
 };
 use crate::table::judge_table;
 use crate::values::{text_at, truth_at};
@@ -31,7 +31,7 @@ pub fn judge_profiles(alloc: Global, values: &[Value]) -> Result<(), SettingsFau
         let Some(table) = value.as_table() else {
             continue;
         };
-        judge_table(alloc, table, &PROFILE)?;
+        judge_table(alloc, table, &PROFILE_KEYS)?;
     }
     Ok(())
 }

@@ -15,7 +15,8 @@ ghost use Rattle.venue_settings.specs.Sound.{IsSound};
 use crate::fault::{SettingsFault, owned};
 use crate::keys::{
     BORDER_TOL, CONTAIN_TOL, ELEVATOR_EXTRA, ESCALATOR_EXTRA, KX, KY, LAST_VERSION,
-    MOVINGWALKWAY_EXTRA, PROFILE, RAMP_EXTRA, SETTINGS, STAFF_KEYS, STAIRS_EXTRA, TRAVERSAL_EXTRA,
+    MOVINGWALKWAY_EXTRA, PROFILE, RAMP_EXTRA, SETTINGS_KEYS, STAFF_KEYS, STAIRS_EXTRA,
+    TRAVERSAL_EXTRA,
 };
 use crate::profiles::{all_profiles, judge_profiles};
 use crate::table::judge_table;
@@ -39,7 +40,7 @@ fn judge_settings(alloc: Global, table: &Table) -> Result<(), SettingsFault>
     ensures judged { IsJudged (first_of (table_faults settings_rows (table_view table.now))) result }
     ensures sound { OnOk result (IsSound (table_view table.now)) }
 {
-    judge_table(alloc, table, &SETTINGS)
+    judge_table(alloc, table, &SETTINGS_KEYS)
 }
 
 fn profiles_of(alloc: Global, table: &Table) -> Result<List<Profile>, SettingsFault>
@@ -90,6 +91,7 @@ fn settings_of(table: &Table, staff_keys: List<Text>, profiles: List<Profile>) -
     requires made { profiles ≡ built_in_profiles ++ map profile_of (profile_tables (table_view table.now)) }
     ensures { HasSettings (table_view table.now) result }
 {
+    // A key that is needed has no default: what stands in its place is out of use, since the key is there.
     Settings {
         kx: number_at(table, &KX, KX.low),
         ky: number_at(table, &KY, KY.low),

@@ -3,7 +3,6 @@ use Rattle.toml.specs.View.{table_view}
 use Rattle.venue_settings.specs.declared.fault.SettingsFault.TheVariants as fault
 use Rattle.venue_settings.specs.Faults.{first_repeated, text_at, twice_fault}
 use Rattle.venue_settings.specs.Judged.{IsFault}
-use Rattle.venue_settings.specs.Settings.{profile_of}
 use Rattle.venue_settings.proofs.Names.{name_of, repeats, has_name, made_next, repeated_found, repeated_next}
 use Rattle.venue_settings.proofs.Phases.{tables_of, tables_of-drop}
 use Rattle.venue_settings.proofs.profiles.all_profiles.Goals as goal

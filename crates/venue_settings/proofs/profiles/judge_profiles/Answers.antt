@@ -1,4 +1,4 @@
-use Rattle.std.proofs.Common.{rules, None, ◌≡◌, ◌+◌, ◌∷◌, ◌++◌, drop, arith, ap, sym, ◌∙◌}
+use Rattle.std.proofs.Common.{rules, None, ◌≡◌, ◌+◌, ◌∷◌, drop, arith, ap, sym, ◌∙◌}
 use Rattle.toml.specs.View.{table_view}
 use Rattle.venue_settings.specs.Faults.{first_of, profile_faults, table_faults}
 use Rattle.venue_settings.specs.Judged.{IsFault}

@@ -1,6 +1,4 @@
-use Rattle.std.proofs.Common.{rules, ◌≡◌, ◌∷◌, ◌++◌, [], None, ap, sym, ◌∙◌}
-use Rattle.std.specs.List.{filter_map}
-use Rattle.toml.specs.Data.{as_table}
+use Rattle.std.proofs.Common.{rules, ◌≡◌, ◌∷◌, [], None}
 use Rattle.toml.specs.View.{table_view}
 use Rattle.venue_settings.specs.Faults.{first_of, profile_faults, profile_tables, twice_fault}
 use Rattle.venue_settings.specs.Judged.{IsFault, IsJudged}

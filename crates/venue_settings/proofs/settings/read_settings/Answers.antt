@@ -1,4 +1,4 @@
-use Rattle.std.proofs.Common.{rules, ◌≡◌, Err}
+use Rattle.std.proofs.Common.{rules, Err}
 use Rattle.toml.specs.View.{table_view}
 use Rattle.venue_settings.specs.Settings.{IsSettingsOf}
 use Rattle.venue_settings.proofs.Whole.{none_or, read_is}

@@ -1,4 +1,4 @@
-use Rattle.std.proofs.Common.{rules, ◌≡◌, None, ap, sym, ◌∙◌}
+use Rattle.std.proofs.Common.{rules, ◌≡◌, None, ◌∙◌}
 use Rattle.toml.specs.View.{table_view}
 use Rattle.venue_settings.specs.Faults.{first_fault, first_of, table_faults}
 use Rattle.venue_settings.specs.Judged.{IsFault}
