@@ -32,5 +32,6 @@ wheelchair_profile = record {
   marked = false;
 }
 
+-- the built-in profiles, in order
 abbrev pub built_in_profiles : List Profile
 built_in_profiles = walk_profile ∷ wheelchair_profile ∷ []

@@ -52,6 +52,7 @@ abbrev pub found_fault : Row → Option Data → Option SettingsFault
 found_fault row None = if row.needed then Some (fault.Missing row.name) else None
 found_fault row (Some value) = value_fault row.name (judged row.form row.low row.high value)
 
+-- what is wrong at a key of a table
 abbrev pub key_fault : Members → Row → Option SettingsFault
 key_fault table row = found_fault row (get_member row.name table)
 

@@ -31,35 +31,41 @@ abbrev pub is_whole_between : ℕ → ℕ → ℤ → Bool
 is_whole_between least greatest (pos n) = is_between least greatest n
 is_whole_between least greatest (negsuc n) = false
 
+-- how a value is judged where a whole number is asked for
 abbrev pub judged_whole : ℕ → ℕ → Data → Judgement
 judged_whole least greatest value =
     judgement (is_some (as_integer value)) (option_map_or (is_whole_between least greatest) (as_integer value) false)
 
--- 8 to 128 visible bytes of ASCII (RFC 9110 section 5.6.2 has them as VCHAR)
+-- 8 to 128 visible characters of ASCII (VCHAR of RFC 5234, appendix B.1)
 abbrev pub is_staff_key : List ℕ → Bool
 is_staff_key text = is_between 8 128 (length text) && list_all (is_between 0x21 0x7E) text
 
--- a list of texts, of which there are not too many, each fit to be a staff key
+-- whether a value is a text
 abbrev pub is_text : Data → Bool
 is_text value = is_some (as_str value)
 
+-- whether a value is a text that is a staff key
 abbrev pub holds_staff_key : Data → Bool
 holds_staff_key value = option_map_or is_staff_key (as_str value) false
 
+-- how items are judged as staff keys: texts, neither too few nor too many, each a staff key
 abbrev pub judged_staff_list : ℕ → ℕ → List Data → Judgement
 judged_staff_list least greatest values =
     judgement (list_all is_text values) (is_between least greatest (length values) && list_all holds_staff_key values)
 
+-- how a value is judged where a list of staff keys is asked for
 abbrev pub judged_staff_keys : ℕ → ℕ → Data → Judgement
 judged_staff_keys least greatest value = on_list (judged_staff_list least greatest) (as_array value)
 
--- a list of tables, of which there are not too many
+-- whether a value is a table
 abbrev pub is_table : Data → Bool
 is_table value = is_some (as_table value)
 
+-- how items are judged as profiles: tables, neither too few nor too many
 abbrev pub judged_profile_list : ℕ → ℕ → List Data → Judgement
 judged_profile_list least greatest values = judgement (list_all is_table values) (is_between least greatest (length values))
 
+-- how a value is judged where a list of profiles is asked for
 abbrev pub judged_profiles : ℕ → ℕ → Data → Judgement
 judged_profiles least greatest value = on_list (judged_profile_list least greatest) (as_array value)
 
@@ -71,11 +77,12 @@ is_name_byte byte = ((is_between 97 122 byte || is_between 48 57 byte) || byte =
 abbrev pub is_name : ℕ → ℕ → List ℕ → Bool
 is_name least greatest text = is_between least greatest (length text) && list_all is_name_byte text
 
+-- how a value is judged where a profile's name is asked for
 abbrev pub judged_name : ℕ → ℕ → Data → Judgement
 judged_name least greatest value =
     judgement (is_some (as_str value)) (option_map_or (is_name least greatest) (as_str value) false)
 
--- a truth value
+-- how a value is judged where a truth value is asked for
 abbrev pub judged_truth : Data → Judgement
 judged_truth value = judgement (is_some (as_bool value)) true
 

@@ -3,7 +3,7 @@
 ghost use Rattle.std.specs.Prelude.{◌≡◌, IfOk};
 ghost use Rattle.venue_settings.specs.declared.fault.SettingsFault.TheVariants.{OutOfMemory as NoMemory};
 
-use std::alloc::{AllocError, Global};
+use std::alloc::Global;
 use venue_types::{OutOfMemory, Text};
 
 /// The first fault of the text of settings. A key within a table is the key alone.
@@ -23,14 +23,6 @@ pub enum SettingsFault {
     Twice(Text),
     /// Memory ran out.
     OutOfMemory,
-}
-
-impl From<AllocError> for SettingsFault {
-    ghost from_gives = { λ _ fault. fault ≡ NoMemory };
-
-    fn from(_error: AllocError) -> SettingsFault {
-        SettingsFault::OutOfMemory
-    }
 }
 
 impl From<OutOfMemory> for SettingsFault {

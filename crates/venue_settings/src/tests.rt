@@ -62,6 +62,84 @@ fn judge_station(rt: &impl Abort, settings: &Settings) {
     assert!(rt; profiles[2].restricted && profiles[2].marked && !profiles[2].stairs);
 }
 
+// A text, the number of its fault and the fault's key or name.
+static ROWS: [(&str, u8, &str); 38] = [
+    ("", 2, "kx"),
+    ("kx = 0\nky = 1\n", 4, "kx"),
+    ("kx = 1\n", 2, "ky"),
+    ("kx = 1\nky = 1\nkz = 1\n", 5, "kz"),
+    ("zz = 1\naz = 1\n", 5, "az"),
+    ("kx = \"a\"\nky = 1\n", 3, "kx"),
+    ("kx =", 1, ""),
+    ("kx = 1.5\nky = 1\n", 3, "kx"),
+    ("kx = 1979-05-27\nky = 1\n", 3, "kx"),
+    ("kx = 9223372036854775808\nky = 1\n", 1, ""),
+    ("kx = -1\nky = 1\n", 4, "kx"),
+    ("kx = 20000000\nky = 20000001\n", 4, "ky"),
+    ("kx.a = 1\nky = 1\n", 3, "kx"),
+    ("ky = 1\na.b = 1\n", 5, "a"),
+    ("kx = 1\nky = 1\nborder_tol = 100001\n", 4, "border_tol"),
+    ("kx = 1\nky = 1\ncontain_tol = 1000001\n", 4, "contain_tol"),
+    ("kx = 1\nky = 1\nramp_extra = 1000001\n", 4, "ramp_extra"),
+    ("kx = 1\nky = 1\nlast_version = 0\n", 4, "last_version"),
+    (
+        "kx = 1\nky = 1\nlast_version = 4294967296\n",
+        4,
+        "last_version",
+    ),
+    (
+        "kx = 1\nky = 1\nstaff_keys = [\"1234567\"]\n",
+        4,
+        "staff_keys",
+    ),
+    ("kx = 1\nky = 1\nstaff_keys = [\"12345678\"]\n", 0, ""),
+    (
+        "kx = 1\nky = 1\nstaff_keys = [\"1234 678\"]\n",
+        4,
+        "staff_keys",
+    ),
+    (
+        "kx = 1\nky = 1\nstaff_keys = [\"12345678\", 1]\n",
+        3,
+        "staff_keys",
+    ),
+    ("kx = 1\nky = 1\nstaff_keys = 1\n", 3, "staff_keys"),
+    ("kx = 1\nky = 1\nprofile = {name = \"a\"}\n", 3, "profile"),
+    ("kx = 1\nky = 1\nprofile = [{name = \"a\"}]\n", 0, ""),
+    ("kx = 1\nky = 1\n[[profile]]\nname = \"walk\"\n", 6, "walk"),
+    (
+        "kx = 1\nky = 1\n[[profile]]\nname = \"a\"\n[[profile]]\nname = \"a\"\n",
+        6,
+        "a",
+    ),
+    ("kx = 1\nky = 1\n[[profile]]\nname = \"A\"\n", 4, "name"),
+    ("kx = 1\nky = 1\n[[profile]]\nname = \"\"\n", 4, "name"),
+    ("kx = 1\nky = 1\n[[profile]]\nname = 1\n", 3, "name"),
+    ("kx = 1\nky = 1\n[[profile]]\nramp = true\n", 2, "name"),
+    (
+        "kx = 1\nky = 1\n[[profile]]\nname = \"a\"\nramp = 1\n",
+        3,
+        "ramp",
+    ),
+    (
+        "kx = 1\nky = 1\n[[profile]]\nname = \"A\"\nb = 1\na = 1\n",
+        5,
+        "a",
+    ),
+    (
+        "kx = 1\nky = 1\nborder_tol = -1\n[[profile]]\n",
+        4,
+        "border_tol",
+    ),
+    ("kx = 1\nky = 1\nprofile = [1]\n", 3, "profile"),
+    (
+        "kx = 1\nky = 1\n[[profile]]\nname = \"walk\"\n[[profile]]\nname = \"b\"\nmarked = 0\n",
+        3,
+        "marked",
+    ),
+    ("\u{feff}kx = 1\nky = 1\n", 0, ""),
+];
+
 #[test]
 fn settings_are_read(rt: HostRuntime) -> Result<(), Fail> {
     let alloc = rt.alloc();
@@ -71,84 +149,8 @@ fn settings_are_read(rt: HostRuntime) -> Result<(), Fail> {
         Ok(settings) => judge_station(&rt, &settings),
         Err(_) => return Err(Fail::from("the station's settings")),
     }
-    let rows: [(&str, u8, &str); 38] = [
-        ("", 2, "kx"),
-        ("kx = 0\nky = 1\n", 4, "kx"),
-        ("kx = 1\n", 2, "ky"),
-        ("kx = 1\nky = 1\nkz = 1\n", 5, "kz"),
-        ("zz = 1\naz = 1\n", 5, "az"),
-        ("kx = \"a\"\nky = 1\n", 3, "kx"),
-        ("kx =", 1, ""),
-        ("kx = 1.5\nky = 1\n", 3, "kx"),
-        ("kx = 1979-05-27\nky = 1\n", 3, "kx"),
-        ("kx = 9223372036854775808\nky = 1\n", 1, ""),
-        ("kx = -1\nky = 1\n", 4, "kx"),
-        ("kx = 20000000\nky = 20000001\n", 4, "ky"),
-        ("kx.a = 1\nky = 1\n", 3, "kx"),
-        ("ky = 1\na.b = 1\n", 5, "a"),
-        ("kx = 1\nky = 1\nborder_tol = 100001\n", 4, "border_tol"),
-        ("kx = 1\nky = 1\ncontain_tol = 1000001\n", 4, "contain_tol"),
-        ("kx = 1\nky = 1\nramp_extra = 1000001\n", 4, "ramp_extra"),
-        ("kx = 1\nky = 1\nlast_version = 0\n", 4, "last_version"),
-        (
-            "kx = 1\nky = 1\nlast_version = 4294967296\n",
-            4,
-            "last_version",
-        ),
-        (
-            "kx = 1\nky = 1\nstaff_keys = [\"1234567\"]\n",
-            4,
-            "staff_keys",
-        ),
-        ("kx = 1\nky = 1\nstaff_keys = [\"12345678\"]\n", 0, ""),
-        (
-            "kx = 1\nky = 1\nstaff_keys = [\"1234 678\"]\n",
-            4,
-            "staff_keys",
-        ),
-        (
-            "kx = 1\nky = 1\nstaff_keys = [\"12345678\", 1]\n",
-            3,
-            "staff_keys",
-        ),
-        ("kx = 1\nky = 1\nstaff_keys = 1\n", 3, "staff_keys"),
-        ("kx = 1\nky = 1\nprofile = {name = \"a\"}\n", 3, "profile"),
-        ("kx = 1\nky = 1\nprofile = [{name = \"a\"}]\n", 0, ""),
-        ("kx = 1\nky = 1\n[[profile]]\nname = \"walk\"\n", 6, "walk"),
-        (
-            "kx = 1\nky = 1\n[[profile]]\nname = \"a\"\n[[profile]]\nname = \"a\"\n",
-            6,
-            "a",
-        ),
-        ("kx = 1\nky = 1\n[[profile]]\nname = \"A\"\n", 4, "name"),
-        ("kx = 1\nky = 1\n[[profile]]\nname = \"\"\n", 4, "name"),
-        ("kx = 1\nky = 1\n[[profile]]\nname = 1\n", 3, "name"),
-        ("kx = 1\nky = 1\n[[profile]]\nramp = true\n", 2, "name"),
-        (
-            "kx = 1\nky = 1\n[[profile]]\nname = \"a\"\nramp = 1\n",
-            3,
-            "ramp",
-        ),
-        (
-            "kx = 1\nky = 1\n[[profile]]\nname = \"A\"\nb = 1\na = 1\n",
-            5,
-            "a",
-        ),
-        (
-            "kx = 1\nky = 1\nborder_tol = -1\n[[profile]]\n",
-            4,
-            "border_tol",
-        ),
-        ("kx = 1\nky = 1\nprofile = [1]\n", 3, "profile"),
-        (
-            "kx = 1\nky = 1\n[[profile]]\nname = \"walk\"\n[[profile]]\nname = \"b\"\nmarked = 0\n",
-            3,
-            "marked",
-        ),
-        ("\u{feff}kx = 1\nky = 1\n", 0, ""),
-    ];
-    for (text, number, key) in rows {
-        judge(&rt, alloc, text.as_bytes(), number, key);
+    for (text, number, key) in &ROWS {
+        judge(&rt, alloc, text.as_bytes(), *number, key);
     }
     judge(&rt, alloc, b"kx = 1\xff", 1, "");
     let keys = "kx = 1\nky = 1\nstaff_keys = [";
