@@ -120,7 +120,7 @@ fn settings_in(alloc: Global, table: &Table) -> Result<Settings, SettingsFault>
 /// bytes; key by key what is missing, of the wrong kind or out of range; the same for the table of each
 /// profile; a profile's name that an earlier one has. The first is answered.
 ///
-/// Takes time and memory linear in the bytes, and the document's table while it reads.
+/// Takes the time and memory of reading the document, whose table is let go at the end.
 pub fn read_settings(alloc: Global, bytes: &[u8]) -> Result<Settings, SettingsFault>
     ensures { IsSettingsOf bytes.now result }
 {
