@@ -1,0 +1,4 @@
+pub mod Access
+pub mod Categories
+pub mod Profiles
+pub mod Table

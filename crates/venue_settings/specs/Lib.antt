@@ -1,0 +1,7 @@
+pub mod Faults
+pub mod Judged
+pub mod Keys
+pub mod Settings
+pub mod Sound
+pub mod Table
+pub mod Values
