@@ -1,15 +1,13 @@
 -- What the grammar spells is read, whatever ends it.
-use Rattle.std.proofs.Common.{◌≡◌, ◌≢◌, ℕ, zero, suc, ◌+◌, ◌-◌, ◌<◌, ◌≤◌, max, Bool, true, false, cond, ◌&&◌, ◌||◌, ◌==◌, ◌∙◌, List, [], ◌∷◌, ◌++◌, take, drop, length, Option, Some, None, is_some, option_and_then, inl, inr, ◌⊎◌, refl, sym, ap, ap₂, subst, arith, append_assoc, length-append}
-use Rattle.std.proofs.lemmas.Bool.{true≢false, false≢true, ne_eqb, eq-eqb, eqb-true, leb-true, and_parts, cases_Bool}
-use Rattle.std.proofs.lemmas.List.{append-nil}
-use Rattle.std.specs.List.{prefix_len, list_all}
+use Rattle.std.proofs.Common.{◌≡◌, ◌≢◌, ℕ, zero, suc, ◌+◌, ◌-◌, ◌<◌, ◌≤◌, Bool, true, false, cond, ◌||◌, ◌==◌, ◌∙◌, List, [], ◌∷◌, ◌++◌, take, drop, length, Some, None, is_some, option_and_then, inl, inr, ◌⊎◌, refl, sym, ap, ap₂, subst, arith, append_assoc, length-append}
+use Rattle.std.proofs.lemmas.Bool.{true≢false, false≢true, ne_eqb, eqb-true, leb-true, and_parts, cases_Bool}
+use Rattle.std.specs.List.{prefix_len}
 use Rattle.std.specs.Char.{is_ascii_digit}
 use Rattle.exact_json.specs.Json.{Json, null, boolean, number, text, items, object, Items, no_items, item, Members, no_pairs, pair, items_list, members_list, depth, items_depth, members_depth}
 use Rattle.exact_json.specs.View.{items_of, members_of}
-use Rattle.exact_json.specs.Number.{head, after_digits, after_minus, after_whole, after_fraction, after_exponent, after_number, IsNumber, is_space, ends_value}
-use Rattle.exact_json.specs.Strings.{text_at}
-use Rattle.exact_json.specs.Grammar.{IsSpace, Padded, MoreElements, Elements, IsText, IsPair, Spells, spellings, pair_spellings}
-use Rattle.exact_json.specs.Reading.{Parse, parse_map, skip, more_step, more_elements, elements_at, number_at, name_at, pair_at, token_at, scalar_at, list_of, object_of, value}
+use Rattle.exact_json.specs.Number.{head, after_digits, after_whole, after_fraction, after_exponent, after_number, IsNumber, is_space, ends_value}
+use Rattle.exact_json.specs.Grammar.{IsSpace, MoreElements, Elements, IsText, IsPair, Spells, spellings, pair_spellings}
+use Rattle.exact_json.specs.Reading.{Parse, parse_map, skip, more_step, more_elements, elements_at, number_at, name_at, pair_at, scalar_at, list_of, object_of, value}
 use Rattle.exact_json.proofs.Numbers.{number_again}
 use Rattle.exact_json.proofs.Texts.{string_again, by_bool}
 use Rattle.exact_json.proofs.Lists.{step, at_comma, at_close, no_elements, some_elements, value_list, value_object, value_scalar}
@@ -270,6 +268,7 @@ object_again ms s h d each r =
 
 mutual
   unfolding Again AgainAt Each
+
   pub value_again : (j : Json) → Again j
   value_again null s h d le r e = ap (λ l. value d (l ++ r)) h ∙ value_scalar d (110 ∷ 117 ∷ 108 ∷ 108 ∷ r) (λ z. omega (arith, z)) (λ z. omega (arith, z))
   value_again (boolean true) s h d le r e = ap (λ l. value d (l ++ r)) h ∙ value_scalar d (116 ∷ 114 ∷ 117 ∷ 101 ∷ r) (λ z. omega (arith, z)) (λ z. omega (arith, z))

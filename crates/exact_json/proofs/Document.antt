@@ -1,14 +1,14 @@
 -- A whole text: a value, with white space on both sides.
-use Rattle.std.proofs.Common.{◌≡◌, ℕ, ◌+◌, ◌<◌, ◌≤◌, List, [], ◌∷◌, ◌++◌, Option, Some, None, is_some, length, Result, Ok, Err, IfOk, Bool, true, false, nat_lt, refl, sym, ap, ap₂, ◌∙◌, arith, append_assoc, subst}
+use Rattle.std.proofs.Common.{◌≡◌, ℕ, ◌+◌, ◌<◌, ◌≤◌, List, [], ◌∷◌, ◌++◌, Option, Some, None, is_some, length, Result, Ok, Err, IfOk, Bool, true, false, nat_lt, refl, sym, ap, ◌∙◌, arith, append_assoc, subst}
 use Rattle.std.proofs.lemmas.Bool.{false≢true, and_parts}
 use Rattle.std.proofs.lemmas.List.{append-nil}
 use Rattle.exact_json.specs.Json.{Json, null, depth}
 use Rattle.exact_json.specs.Number.{head, ends_value}
-use Rattle.exact_json.specs.Grammar.{IsSpace, Padded, Spells, IsJson, Starts, Misread, bare}
+use Rattle.exact_json.specs.Grammar.{IsSpace, IsJson, Starts, Misread, bare}
 use Rattle.exact_json.specs.Reading.{skip, value, Fails}
 use Rattle.exact_json.specs.declared.fault.JsonFault.{JsonFault}
 use Rattle.exact_json.specs.declared.fault.JsonFault.TheVariants.{Text, Deep, OutOfMemory}
-use Rattle.exact_json.specs.Scanning.{Reads, Ends, rest_of, past}
+use Rattle.exact_json.specs.Scanning.{Reads, Ends, rest_of}
 use Rattle.exact_json.proofs.Fronts.{skipped, spelled}
 use Rattle.std.specs.Str.{IsUtf8}
 use Rattle.exact_json.proofs.Agreement.{skip_over, skip_value, begins, space_ends, again}

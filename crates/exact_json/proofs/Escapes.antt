@@ -1,10 +1,9 @@
 -- The three forms of an escape: one byte, a code unit, or a pair of them.
-use Rattle.std.proofs.Common.{◌≡◌, ◌≢◌, ℕ, ◌+◌, ◌-◌, ◌*◌, ◌<◌, ◌≤◌, Bool, true, false, cond, ◌&&◌, ◌||◌, ◌==◌, ◌∙◌, List, [], ◌∷◌, ◌++◌, drop, Option, Some, None, option_and_then, nat_lt, nat_le, refl, sym, ap, ap₂, subst, arith}
-use Rattle.std.proofs.lemmas.Bool.{true≢false, false≢true, eqb-true, leb-true, ltb-true, and_parts, or_cases}
+use Rattle.std.proofs.Common.{◌≡◌, ℕ, ◌+◌, ◌-◌, ◌*◌, ◌<◌, ◌≤◌, Bool, true, false, cond, ◌&&◌, ◌||◌, ◌==◌, ◌∙◌, List, [], ◌∷◌, Option, Some, None, option_and_then, nat_lt, nat_le, refl, sym, ap, ap₂, subst, arith}
+use Rattle.std.proofs.lemmas.Bool.{eqb-true, leb-true, ltb-true, and_parts}
 use Rattle.std.specs.Char.{IsScalar, digit_value, is_digit}
-use Rattle.exact_json.specs.Number.{head}
 use Rattle.exact_json.specs.Strings.{code_unit, short_escape, low_next, is_high, is_low, after_high, unit_escape, escape}
-use Rattle.exact_json.proofs.Texts.{by_bool, then_some, some_of, none_some, low_is, low_alone, escape_nothing, escape_u, escape_short}
+use Rattle.exact_json.proofs.Texts.{by_bool, then_some, some_of, none_some, low_alone, escape_nothing, escape_u, escape_short}
 use Rattle.exact_json.proofs.Fronts.{tested}
 
 abbrev pub IsHex : ℕ → Type 0
@@ -44,16 +43,18 @@ short_value : (x c : ℕ) → short_escape x ≡ Some c → (x < 128) × (c < 12
 unfolding short_escape
 short_value x c h = by_bool ((x == 34) || (x == 92) || (x == 47))
     (λ e.
-      let same = some_number x c (step ((x == 34) || (x == 92) || (x == 47)) true _ _ _ e h) in
-      let low : x < 128 = quotes x e in
-      (low, subst (λ n. n < 128) same low))
+    let same = some_number x c (step ((x == 34) || (x == 92) || (x == 47)) true _ _ _ e h) in
+    let low : x < 128 = quotes x e in
+    (low, subst (λ n. n < 128) same low))
     (λ e. let h1 = step ((x == 34) || (x == 92) || (x == 47)) false _ _ _ e h in
-      one x 98 8 c _ (omega arith) (omega arith) (λ h2. one x 102 12 c _ (omega arith) (omega arith) (λ h3. one x 110 10 c _ (omega arith) (omega arith) (λ h4. one x 114 13 c _ (omega arith) (omega arith) (λ h5. one x 116 9 c _ (omega arith) (omega arith) (λ h6. absurd (none_some h6)) h5) h4) h3) h2) h1)
+    one x 98 8 c _ (omega arith) (omega arith) (λ h2. one x 102 12 c _ (omega arith) (omega arith) (λ h3. one x 110 10 c _ (omega arith) (omega arith) (λ h4. one x 114 13 c _ (omega arith) (omega arith) (λ h5. one x 116 9 c _ (omega arith) (omega arith) (λ h6. absurd (none_some h6)) h5) h4) h3) h2) h1)
   where
     step : (b d : Bool) (p q r : Option ℕ) → b ≡ d → cond b p q ≡ r → cond d p q ≡ r
     step b d p q r e h = ap (λ z. cond z p q) (sym e) ∙ h
+
     quotes : (x : ℕ) → ((x == 34) || (x == 92) || (x == 47)) ≡ true → x < 128
     quotes x e = grind (arith, e)
+
     one : (x k v c : ℕ) (o : Option ℕ) → k < 128 → v < 128 → (o ≡ Some c → (x < 128) × (c < 128)) → cond (x == k) (Some v) o ≡ Some c → (x < 128) × (c < 128)
     one x k v c o kl vl f h = by_bool (x == k)
         (λ e. (subst (λ n. n < 128) (sym (eqb-true x k e)) kl, subst (λ n. n < 128) (some_number v c (step (x == k) true _ _ _ e h)) vl))
@@ -111,8 +112,8 @@ module _ (C : List ℕ → ℕ × ℕ → Type 0)
   unit_form a b c d w u e hex bound same = by_bool (is_high u)
       (λ h. high_form a b c d w u (low_next w) e hex h refl (pick (is_high u) true _ _ h same))
       (λ h. let g = pick (is_high u) false (after_high u (low_next w)) _ h same in by_bool (is_low u)
-          (λ l. subst (C (117 ∷ a ∷ b ∷ c ∷ d ∷ w)) (pick (is_low u) true (0xfffd, 5) (u, 5) l g) (unit a b c d w 0xfffd hex refl))
-          (λ l. subst (C (117 ∷ a ∷ b ∷ c ∷ d ∷ w)) (pick (is_low u) false (0xfffd, 5) (u, 5) l g) (unit a b c d w u hex (plain_scalar u bound h l))))
+      (λ l. subst (C (117 ∷ a ∷ b ∷ c ∷ d ∷ w)) (pick (is_low u) true (0xfffd, 5) (u, 5) l g) (unit a b c d w 0xfffd hex refl))
+      (λ l. subst (C (117 ∷ a ∷ b ∷ c ∷ d ∷ w)) (pick (is_low u) false (0xfffd, 5) (u, 5) l g) (unit a b c d w u hex (plain_scalar u bound h l))))
     where
       pick : (b z : Bool) (p q : ℕ × ℕ) → b ≡ z → cond b p q ≡ e → cond z p q ≡ e
       pick b z p q s h = ap (λ y. cond y p q) (sym s) ∙ h
@@ -122,11 +123,11 @@ module _ (C : List ℕ → ℕ × ℕ → Type 0)
   escape_forms [] e h = absurd (none_some (sym escape_nothing ∙ h))
   escape_forms (y ∷ v) e h = by_bool (y == 117)
       (λ q.
-        let m = some_of (unit_escape v) (code_unit v) e (sym (escape_u y v q) ∙ h) in
-        let u = unit_front v m.0 m.1 in
-        let form = unit_form u.0 u.1 u.2 u.3 u.4 m.0 e u.6 u.7 (ap (λ z. unit_escape z m.0) (sym u.5) ∙ m.2) in
-        subst (λ n. C (n ∷ v) e) (sym (eqb-true y 117 q)) (subst (λ z. C (117 ∷ z) e) (sym u.5) form))
+      let m = some_of (unit_escape v) (code_unit v) e (sym (escape_u y v q) ∙ h) in
+      let u = unit_front v m.0 m.1 in
+      let form = unit_form u.0 u.1 u.2 u.3 u.4 m.0 e u.6 u.7 (ap (λ z. unit_escape z m.0) (sym u.5) ∙ m.2) in
+      subst (λ n. C (n ∷ v) e) (sym (eqb-true y 117 q)) (subst (λ z. C (117 ∷ z) e) (sym u.5) form))
       (λ q.
-        let m = some_of (λ c. (c, 1)) (short_escape y) e (sym (escape_short y v q) ∙ h) in
-        let s = short_value y m.0 m.1 in
-        subst (C (y ∷ v)) m.2 (one y v m.0 s.0 (ascii_scalar m.0 s.1)))
+      let m = some_of (λ c. (c, 1)) (short_escape y) e (sym (escape_short y v q) ∙ h) in
+      let s = short_value y m.0 m.1 in
+      subst (C (y ∷ v)) m.2 (one y v m.0 s.0 (ascii_scalar m.0 s.1)))

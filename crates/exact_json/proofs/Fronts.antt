@@ -1,11 +1,11 @@
 -- What was read of a value is spelled so in front of the text.
-use Rattle.std.proofs.Common.{◌≡◌, ◌≢◌, ℕ, zero, suc, ◌+◌, ◌-◌, ◌<◌, ◌≤◌, max, Bool, true, false, cond, ◌&&◌, ◌||◌, ◌==◌, ◌∙◌, List, [], ◌∷◌, ◌++◌, take, drop, length, Option, Some, None, is_some, option_and_then, option_map, nat_eq, inl, inr, ◌⊎◌, refl, sym, ap, ap₂, subst, arith, append_assoc, length-append, take-append-drop}
-use Rattle.std.proofs.lemmas.Bool.{false≢true, eqb-true, and_parts, or_cases, cases_Bool}
+use Rattle.std.proofs.Common.{◌≡◌, ◌≢◌, ℕ, zero, suc, ◌+◌, ◌-◌, ◌≤◌, Bool, true, false, cond, ◌&&◌, ◌||◌, ◌==◌, ◌∙◌, List, [], ◌∷◌, ◌++◌, take, drop, length, Option, Some, None, option_and_then, nat_eq, inl, inr, ◌⊎◌, refl, sym, ap, ap₂, subst, arith, append_assoc, length-append, take-append-drop}
+use Rattle.std.proofs.lemmas.Bool.{false≢true, eqb-true, and_parts, or_cases}
 use Rattle.std.proofs.lemmas.List.{append-nil}
 use Rattle.std.specs.List.{prefix_len, starts_with}
 use Rattle.std.specs.Str.{bytes_eq}
 use Rattle.std.specs.Char.{is_ascii_digit}
-use Rattle.exact_json.specs.Json.{Json, null, boolean, number, text, items, object, Items, Members, depth, items_depth, members_depth}
+use Rattle.exact_json.specs.Json.{Json, null, boolean, number, text, depth, items_depth, members_depth}
 use Rattle.exact_json.specs.View.{items_of, members_of}
 use Rattle.exact_json.specs.Number.{head, after_digits, after_minus, after_sign, after_whole, after_fraction, after_exponent, after_number, IsNumber, is_space, ends_value}
 use Rattle.exact_json.specs.Strings.{text_at}
@@ -38,6 +38,7 @@ mapped {A} {B} f (Some p) y z h = (p.0, ap (λ w. Some (p.0, w)) (ap second h), 
     first : Option (B × List ℕ) → B
     first None = y
     first (Some q) = q.0
+
     second : Option (B × List ℕ) → List ℕ
     second None = []
     second (Some q) = q.1
@@ -53,6 +54,7 @@ pair_parts {A} a c b d h = (ap first h, ap second h)
     first : Option (A × List ℕ) → A
     first None = a
     first (Some q) = q.0
+
     second : Option (A × List ℕ) → List ℕ
     second None = []
     second (Some q) = q.1
@@ -128,7 +130,7 @@ exponent_suffix : (t : List ℕ) → Suffixes t (after_exponent t)
 exponent_suffix t =
     either_suffix t ((head t == 101) || (head t == 69)) (after_digits (after_sign (drop 1 t))) (Some t)
     (λ e. onto t (drop 1 t) _ (suffix_either t 101 69 e (λ w. omega (arith, w)) (λ w. omega (arith, w)) (quiet_letter 101 (omega arith) (omega arith)) (quiet_below 69 (omega arith) (λ w. omega (arith, w))))
-      (onto (drop 1 t) (after_sign (drop 1 t)) _ (sign_suffix (drop 1 t)) (digits_suffix (after_sign (drop 1 t))))) (some_suffix t t (itself t))
+    (onto (drop 1 t) (after_sign (drop 1 t)) _ (sign_suffix (drop 1 t)) (digits_suffix (after_sign (drop 1 t))))) (some_suffix t t (itself t))
 
 number_suffix : (t : List ℕ) → Suffixes t (after_number t)
 unfolding after_number
@@ -208,10 +210,10 @@ token_value : (d : ℕ) (b : List ℕ) (j : Json) (z : List ℕ) → token_at b 
 token_value d b j z h = by_bool (head b == 110)
     (λ n. literal_value d (110 ∷ 117 ∷ 108 ∷ 108 ∷ []) null b j z refl refl (branch (head b == 110) true _ _ _ n h))
     (λ n. let h1 = branch (head b == 110) false _ _ _ n h in by_bool (head b == 116)
-        (λ t. literal_value d (116 ∷ 114 ∷ 117 ∷ 101 ∷ []) (boolean true) b j z refl refl (branch (head b == 116) true _ _ _ t h1))
-        (λ t. let h2 = branch (head b == 116) false _ _ _ t h1 in by_bool (head b == 102)
-            (λ f. literal_value d (102 ∷ 97 ∷ 108 ∷ 115 ∷ 101 ∷ []) (boolean false) b j z refl refl (branch (head b == 102) true _ _ _ f h2))
-            (λ f. number_value d b j z (branch (head b == 102) false _ _ _ f h2))))
+    (λ t. literal_value d (116 ∷ 114 ∷ 117 ∷ 101 ∷ []) (boolean true) b j z refl refl (branch (head b == 116) true _ _ _ t h1))
+    (λ t. let h2 = branch (head b == 116) false _ _ _ t h1 in by_bool (head b == 102)
+    (λ f. literal_value d (102 ∷ 97 ∷ 108 ∷ 115 ∷ 101 ∷ []) (boolean false) b j z refl refl (branch (head b == 102) true _ _ _ f h2))
+    (λ f. number_value d b j z (branch (head b == 102) false _ _ _ f h2))))
 
 scalar_value : (d : ℕ) (b : List ℕ) (j : Json) (z : List ℕ) → scalar_at b ≡ Some (j, z) → ValueFront d b j z
 scalar_value d b j z h = by_bool (head b == 34)
@@ -274,8 +276,8 @@ module _ {E : Type 0} (close : ℕ) (p : Parse E) (P : E → List ℕ → Type 0
       let pad = padded_front (P e) b s.0 r s.1 s.2 in
       by_bool (head m == 44)
       (λ c.
-        let w = mapped (λ fs. e ∷ fs) (more_elements close p n (drop 1 m)) es z (branch (head m == 44) true _ _ _ c t.2) in
-        comma_front b pad.0 m e es z pad.1 pad.2 s.3 c w.0 w.2 (more_front n (drop 1 m) w.0 z w.1))
+      let w = mapped (λ fs. e ∷ fs) (more_elements close p n (drop 1 m)) es z (branch (head m == 44) true _ _ _ c t.2) in
+      comma_front b pad.0 m e es z pad.1 pad.2 s.3 c w.0 w.2 (more_front n (drop 1 m) w.0 z w.1))
       (λ c. closed_front b pad.0 m e es z pad.1 pad.2 s.3 (branch (head m == 44) false _ _ _ c t.2))
 
   pub ElementsFront : List ℕ → List E → List ℕ → Type 0
@@ -289,14 +291,22 @@ module _ {E : Type 0} (close : ℕ) (p : Parse E) (P : E → List ℕ → Type 0
       let first = more.2.0 in
       let rest = more.2.1 in
       let pad = more.2.3 in
-      let inside : more.0 ≡ first ++ rest = ap (drop 1) more.2.2 in
-      (sp ++ more.0, at ∙ ap (λ l. sp ++ l) more.1 ∙ sym (append_assoc sp more.0 (close ∷ z)),
-        (sp ++ first, rest, ap (λ l. sp ++ l) inside ∙ sym (append_assoc sp first rest),
-          (sp ++ pad.0, pad.1, pad.2, ap (λ l. sp ++ l) pad.3 ∙ regroup sp pad.0 pad.1 pad.2, all_blank sp pad.0 blank pad.4, pad.5, pad.6), more.2.4),
-        more.3)
+      let inside : more.0 ≡ first ++ rest = ap (drop 1) more.2.2 in (
+        sp ++ more.0,
+        at ∙ ap (λ l. sp ++ l) more.1 ∙ sym (append_assoc sp more.0 (close ∷ z)),
+        (
+          sp ++ first,
+          rest,
+          ap (λ l. sp ++ l) inside ∙ sym (append_assoc sp first rest),
+          (sp ++ pad.0, pad.1, pad.2, ap (λ l. sp ++ l) pad.3 ∙ regroup sp pad.0 pad.1 pad.2, all_blank sp pad.0 blank pad.4, pad.5, pad.6),
+          more.2.4,
+        ),
+        more.3,
+      )
     where
       regroup : (x a s c : List ℕ) → x ++ (a ++ s ++ c) ≡ (x ++ a) ++ s ++ c
       regroup x a s c = sym (ap (λ l. l ++ c) (append_assoc x a s) ∙ append_assoc x (a ++ s) c)
+
       all_blank : (a c : List ℕ) → IsSpace a → IsSpace c → IsSpace (a ++ c)
       all_blank [] c h g = g
       all_blank (x ∷ a) c h g = let q = and_parts _ _ h in ap₂ (λ u v. u && v) q.0 (all_blank a c q.1 g)
@@ -308,9 +318,9 @@ module _ {E : Type 0} (close : ℕ) (p : Parse E) (P : E → List ℕ → Type 0
       let s = skip b in
       by_bool (head s == close)
       (λ c.
-        let same = pair_parts [] es (drop 1 s) z (branch (head s == close) true _ _ _ c h) in
-        let mark : s ≡ close ∷ z = head_cons s close (eqb-true (head s) close c) no_blank ∙ ap (λ l. close ∷ l) same.1 in
-        subst (λ l. (inside : List ℕ) × (b ≡ inside ++ close ∷ z) × Elements (predicates P l) inside × Each D l) same.0 (sp.0, sp.1 ∙ ap (λ l. sp.0 ++ l) mark, sp.2, tt))
+      let same = pair_parts [] es (drop 1 s) z (branch (head s == close) true _ _ _ c h) in
+      let mark : s ≡ close ∷ z = head_cons s close (eqb-true (head s) close c) no_blank ∙ ap (λ l. close ∷ l) same.1 in
+      subst (λ l. (inside : List ℕ) × (b ≡ inside ++ close ∷ z) × Elements (predicates P l) inside × Each D l) same.0 (sp.0, sp.1 ∙ ap (λ l. sp.0 ++ l) mark, sp.2, tt))
       (λ c. spaced b s es z sp.0 sp.1 sp.2 (more_front (suc (length s)) s es z (branch (head s == close) false _ _ _ c h)))
 
 -- ---- lists and objects

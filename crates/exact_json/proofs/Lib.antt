@@ -1,4 +1,5 @@
 mod Trees
+mod BitLemmas
 mod Texts
 mod Numbers
 mod Lists

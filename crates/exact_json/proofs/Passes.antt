@@ -1,5 +1,5 @@
 -- Passing over the text of a string: a run of plain bytes, and then a quote, an escape or a fault.
-use Rattle.std.proofs.Common.{◌≡◌, ◌≢◌, ℕ, ◌∙◌, List, [], ◌∷◌, ◌++◌, drop, Option, Some, None, refl, sym, ap}
+use Rattle.std.proofs.Common.{◌≡◌, ◌≢◌, ℕ, ◌∙◌, List, [], drop, Option, Some, None, refl, sym, ap}
 use Rattle.std.specs.List.{prefix_len}
 use Rattle.exact_json.specs.Number.{head}
 use Rattle.exact_json.specs.Strings.{text_at, is_plain, prepend, escape}

@@ -1,13 +1,13 @@
 -- The steps of the scan without recursion.
-use Rattle.std.proofs.Common.{◌≡◌, ◌≢◌, ℕ, zero, suc, ◌+◌, ◌-◌, ◌<◌, ◌≤◌, Bool, true, false, cond, ◌==◌, ◌∙◌, List, [], ◌∷◌, drop, length, Option, Some, None, is_some, option_and_then, option_map, slice_get, Err, refl, sym, ap, ap₂, subst, arith}
+use Rattle.std.proofs.Common.{◌≡◌, ◌≢◌, ℕ, zero, suc, ◌+◌, ◌-◌, ◌<◌, ◌≤◌, Bool, true, false, cond, ◌==◌, ◌∙◌, List, [], ◌∷◌, drop, length, Option, Some, None, is_some, option_and_then, option_map, slice_get, refl, sym, ap, ap₂, subst, arith}
 use Rattle.std.proofs.lemmas.Bool.{false≢true}
 use Rattle.exact_json.specs.Json.{Json, null}
 use Rattle.exact_json.specs.Number.{head}
 use Rattle.exact_json.specs.Kinds.{opening, closing, KindAt}
 use Rattle.exact_json.specs.declared.kinds.Kind.{Kind}
 use Rattle.exact_json.specs.declared.kinds.Kind.TheVariants.{List as of_list, Object as of_object}
-use Rattle.exact_json.specs.Reading.{Parse, parse_map, skip, more_step, more_elements, elements_at, name_at, pair_at, scalar_at, list_of, object_of, value}
-use Rattle.exact_json.specs.Scanning.{rest_of, past, element_value, past_open, past_all, now, AllAbove, Ends, Scanning}
+use Rattle.exact_json.specs.Reading.{Parse, parse_map, skip, more_step, more_elements, name_at, pair_at, scalar_at, list_of, object_of, value}
+use Rattle.exact_json.specs.Scanning.{rest_of, past, element_value, past_open, past_all, AllAbove, Ends, Scanning}
 use Rattle.exact_json.proofs.Lists.{step, at_comma, at_close, at_neither, no_elements, some_elements, value_list, value_object, value_scalar}
 
 none_some : {A : Type 0} {x : A} → None ≡ Some x → ⊥
@@ -105,10 +105,13 @@ from_next P m f (suc d) h = f d (omega arith)
 
 -- nothing can be read at the value that is to come
 pub stuck : (text b : List ℕ) (ks : List Kind) → Scanning text ks true b → ((d : ℕ) → past (suc d) b ≡ None) → Ends text None
-stuck text b ks i f = (suc i.least + length ks, λ d le.
-    let n : ℕ = d - length ks - 1 in
-    let index : d ≡ suc (d - length ks - 1) + length ks = omega (arith, le) in
-    ap (λ e. past e text) index ∙ i.same (suc (d - length ks - 1)) (omega (arith, le)) ∙ ap (option_and_then (past_all (suc (d - length ks - 1)) ks i.turns)) (f (d - length ks - 1)))
+stuck text b ks i f = (
+  suc i.least + length ks,
+  λ d le.
+      let n : ℕ = d - length ks - 1 in
+      let index : d ≡ suc (d - length ks - 1) + length ks = omega (arith, le) in
+      ap (λ e. past e text) index ∙ i.same (suc (d - length ks - 1)) (omega (arith, le)) ∙ ap (option_and_then (past_all (suc (d - length ks - 1)) ks i.turns)) (f (d - length ks - 1)),
+)
 
 pub begun : (text b tail s start : List ℕ) (k : Kind) (ks : List Kind) → Scanning text ks true b → head b ≡ opening k → tail ≡ drop 1 b → length tail + 1 ≡ length b → s ≡ skip tail → length s ≤ length tail → head s ≢ closing k
     → Some start ≡ element_value k s → length start ≤ length s → Scanning text (k ∷ ks) true start
@@ -118,9 +121,9 @@ begun text b tail s start k ks i h at shorter from less ne is within = record {
   enough = (within, lower (length b) (length start) i.turns (omega (arith, shorter, less, within)) i.enough);
   least = i.least;
   same = λ d le.
-    let index : d + length (k ∷ ks) ≡ suc d + length ks = omega arith in
-    ap (λ e. past e text) index ∙ i.same (suc d) (omega (arith, le)) ∙ ap (option_and_then (past_all (suc d) ks i.turns)) (on_first d k b tail s (Some start) h at from ne is)
-    ∙ twice (past_all (suc d) ks i.turns) (past_open d k (length s)) (past d start)
+      let index : d + length (k ∷ ks) ≡ suc d + length ks = omega arith in
+      ap (λ e. past e text) index ∙ i.same (suc d) (omega (arith, le)) ∙ ap (option_and_then (past_all (suc d) ks i.turns)) (on_first d k b tail s (Some start) h at from ne is)
+      ∙ twice (past_all (suc d) ks i.turns) (past_open d k (length s)) (past d start);
 }
 
 pub not_begun : (text b tail s : List ℕ) (k : Kind) (ks : List Kind) → Scanning text ks true b → head b ≡ opening k → tail ≡ drop 1 b → s ≡ skip tail → head s ≢ closing k → None ≡ element_value k s → Ends text None
@@ -133,7 +136,7 @@ passed_empty text b tail s rest k ks i h at shorter from less closed left within
   count = i.count;
   enough = lower (length b) (length rest) i.turns (omega (arith, shorter, less, within)) i.enough;
   least = suc i.least;
-  same = from_next (λ d. past (d + length ks) text ≡ option_and_then (past_all d ks i.turns) (Some rest)) i.least (λ d le. i.same (suc d) (omega (arith, le)) ∙ ap (option_and_then (past_all (suc d) ks i.turns)) (on_empty d k b tail s rest h at from closed left))
+  same = from_next (λ d. past (d + length ks) text ≡ option_and_then (past_all d ks i.turns) (Some rest)) i.least (λ d le. i.same (suc d) (omega (arith, le)) ∙ ap (option_and_then (past_all (suc d) ks i.turns)) (on_empty d k b tail s rest h at from closed left));
 }
 
 pub passed_scalar : (text b rest : List ℕ) (ks : List Kind) → Scanning text ks true b → KindAt (head b) None → Some rest ≡ rest_of (scalar_at b) → length rest ≤ length b → Scanning text ks false rest
@@ -142,7 +145,7 @@ passed_scalar text b rest ks i h some within = record {
   count = i.count;
   enough = lower (length b) (length rest) i.turns within i.enough;
   least = i.least;
-  same = λ d le. i.same d le ∙ ap (option_and_then (past_all d ks i.turns)) (ap rest_of (value_scalar d b h.0 h.1) ∙ sym some)
+  same = λ d le. i.same d le ∙ ap (option_and_then (past_all d ks i.turns)) (ap rest_of (value_scalar d b h.0 h.1) ∙ sym some);
 }
 
 pub no_scalar : (text b : List ℕ) (ks : List Kind) → Scanning text ks true b → KindAt (head b) None → None ≡ rest_of (scalar_at b) → Ends text None
@@ -173,16 +176,19 @@ module _ (text b : List ℕ) (k : Kind) (ks : List Kind) (m : ℕ) where
     count = c;
     enough = (omega (arith, a.0, w1, w2, w3), lower (length b) (length start) ns (omega (arith, w1, w2, w3)) a.1);
     least = m;
-    same = λ d le. f d le ∙ ap (option_and_then (past_all (suc d) ks ns)) (on_comma d k n b mark tail from comma left (omega (arith, a.0, w1, w2)) ∙ ap (λ o. option_and_then (past_open d k (n - 1)) (option_and_then (past d) o)) (sym is)) ∙ twice (past_all (suc d) ks ns) (past_open d k (n - 1)) (past d start)
+    same = λ d le. f d le ∙ ap (option_and_then (past_all (suc d) ks ns)) (on_comma d k n b mark tail from comma left (omega (arith, a.0, w1, w2)) ∙ ap (λ o. option_and_then (past_open d k (n - 1)) (option_and_then (past d) o)) (sym is)) ∙ twice (past_all (suc d) ks ns) (past_open d k (n - 1)) (past d start);
   }
 
   no_element_by : (ns : List ℕ) → length ns ≡ suc (length ks) → AllAbove (length b) ns → ((d : ℕ) → m ≤ d → past (d + suc (length ks)) text ≡ past_all d (k ∷ ks) ns b) → (mark tail : List ℕ) → mark ≡ skip b → length mark ≤ length b → head mark ≡ 44 → tail ≡ drop 1 mark → length tail + 1 ≡ length mark
       → None ≡ element_value k tail → Ends text None
   no_element_by [] c a f mark tail from w1 comma left w2 is = absurd (omega (arith, c))
-  no_element_by (n ∷ ns) c a f mark tail from w1 comma left w2 is = (m + suc (length ks), λ d le.
-      let index : d ≡ (d - suc (length ks)) + suc (length ks) = omega (arith, le) in
-      ap (λ e. past e text) index ∙ f (d - suc (length ks)) (omega (arith, le))
-      ∙ ap (option_and_then (past_all (suc (d - suc (length ks))) ks ns)) (on_comma (d - suc (length ks)) k n b mark tail from comma left (omega (arith, a.0, w1, w2)) ∙ ap (λ o. option_and_then (past_open (d - suc (length ks)) k (n - 1)) (option_and_then (past (d - suc (length ks))) o)) (sym is)))
+  no_element_by (n ∷ ns) c a f mark tail from w1 comma left w2 is = (
+    m + suc (length ks),
+    λ d le.
+        let index : d ≡ (d - suc (length ks)) + suc (length ks) = omega (arith, le) in
+        ap (λ e. past e text) index ∙ f (d - suc (length ks)) (omega (arith, le))
+        ∙ ap (option_and_then (past_all (suc (d - suc (length ks))) ks ns)) (on_comma (d - suc (length ks)) k n b mark tail from comma left (omega (arith, a.0, w1, w2)) ∙ ap (λ o. option_and_then (past_open (d - suc (length ks)) k (n - 1)) (option_and_then (past (d - suc (length ks))) o)) (sym is)),
+  )
 
   close_by : (ns : List ℕ) → length ns ≡ suc (length ks) → AllAbove (length b) ns → ((d : ℕ) → m ≤ d → past (d + suc (length ks)) text ≡ past_all d (k ∷ ks) ns b) → (mark rest : List ℕ) → mark ≡ skip b → length mark ≤ length b → head mark ≡ closing k → rest ≡ drop 1 mark → length rest + 1 ≡ length mark
       → Scanning text ks false rest
@@ -193,15 +199,18 @@ module _ (text b : List ℕ) (k : Kind) (ks : List Kind) (m : ℕ) where
     enough = lower (length b) (length rest) ns (omega (arith, w1, w2)) a.1;
     least = suc m;
     same = from_next (λ d. past (d + length ks) text ≡ past_all d ks ns rest) m (λ d le.
-      let index : suc d + length ks ≡ d + suc (length ks) = omega arith in
-      ap (λ e. past e text) index ∙ f d le ∙ ap (option_and_then (past_all (suc d) ks ns)) (on_close d k n b mark rest from closed left))
+        let index : suc d + length ks ≡ d + suc (length ks) = omega arith in
+        ap (λ e. past e text) index ∙ f d le ∙ ap (option_and_then (past_all (suc d) ks ns)) (on_close d k n b mark rest from closed left));
   }
 
   neither_by : (ns : List ℕ) → length ns ≡ suc (length ks) → ((d : ℕ) → m ≤ d → past (d + suc (length ks)) text ≡ past_all d (k ∷ ks) ns b) → (mark : List ℕ) → mark ≡ skip b → head mark ≢ 44 → head mark ≢ closing k → Ends text None
   neither_by [] c f mark from nc nb = absurd (omega (arith, c))
-  neither_by (n ∷ ns) c f mark from nc nb = (m + suc (length ks), λ d le.
-      let index : d ≡ (d - suc (length ks)) + suc (length ks) = omega (arith, le) in
-      ap (λ e. past e text) index ∙ f (d - suc (length ks)) (omega (arith, le)) ∙ ap (option_and_then (past_all (suc (d - suc (length ks))) ks ns)) (on_neither (d - suc (length ks)) k n b mark from nc nb))
+  neither_by (n ∷ ns) c f mark from nc nb = (
+    m + suc (length ks),
+    λ d le.
+        let index : d ≡ (d - suc (length ks)) + suc (length ks) = omega (arith, le) in
+        ap (λ e. past e text) index ∙ f (d - suc (length ks)) (omega (arith, le)) ∙ ap (option_and_then (past_all (suc (d - suc (length ks))) ks ns)) (on_neither (d - suc (length ks)) k n b mark from nc nb),
+  )
 
 pub passed_comma : (text b mark tail start : List ℕ) (k : Kind) (ks : List Kind) → Some k ≡ slice_get ks 0 → Scanning text ks false b → mark ≡ skip b → length mark ≤ length b → head mark ≡ 44 → tail ≡ drop 1 mark → length tail + 1 ≡ length mark → Some start ≡ element_value k tail → length start ≤ length tail
     → Scanning text ks true start

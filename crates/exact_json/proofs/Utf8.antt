@@ -1,15 +1,15 @@
 -- Each text in a value is UTF-8.
-use Rattle.std.proofs.Common.{◌≡◌, ◌≢◌, ℕ, zero, suc, ◌+◌, ◌<◌, ◌≤◌, Bool, true, false, cond, ◌||◌, ◌&&◌, ◌==◌, ◌∙◌, List, [], ◌∷◌, ◌++◌, take, drop, length, get_or, Option, Some, None, refl, sym, ap, subst, arith, append_assoc, length-append, length-drop, take-append-drop}
-use Rattle.std.proofs.Math.Seq.{take-append_seam, drop-append_seam, drop-append-add}
+use Rattle.std.proofs.Common.{◌≡◌, ℕ, zero, suc, ◌<◌, true, ◌==◌, ◌∙◌, List, [], ◌∷◌, ◌++◌, take, drop, length, get_or, Option, Some, None, refl, sym, ap, subst, arith, append_assoc, length-append, length-drop, take-append-drop}
+use Rattle.std.proofs.Math.Seq.{take-append_seam, drop-append_seam}
 use Rattle.std.proofs.lemmas.Bool.{and_parts, eqb-true}
 use Rattle.std.proofs.lemmas.List.{append-nil}
 use Rattle.std.proofs.lemmas.Str.{IsUtf8-nil, IsUtf8-append, IsUtf8-encode, IsUtf8-take, IsUtf8-drop, IsCharBoundary-before_ascii, IsCharBoundary-after_ascii}
 use Rattle.std.specs.List.{prefix_len}
 use Rattle.std.specs.Str.{IsUtf8}
-use Rattle.std.specs.Char.{IsScalar, encode_utf8, digit_value, is_digit}
+use Rattle.std.specs.Char.{IsScalar, encode_utf8}
 use Rattle.exact_json.specs.Json.{Json, null, boolean, number, text, items, object, Items, no_items, item, Members, no_pairs, pair, HasTexts, ItemsHaveTexts, MembersHaveTexts}
 use Rattle.exact_json.specs.Number.{head, is_space}
-use Rattle.exact_json.specs.Strings.{text_at, is_plain, prepend, escape}
+use Rattle.exact_json.specs.Strings.{text_at, is_plain, escape}
 use Rattle.exact_json.specs.Grammar.{IsSpace, Padded, MoreElements, Elements, IsText, IsPair, Spells, spellings, pair_spellings, IsJson, bare}
 use Rattle.exact_json.proofs.Texts.{by_bool, head_cons, none_some, taken_off, text_at-run, text_at-quote, text_at-escape, text_at-no_escape, stopped}
 use Rattle.exact_json.proofs.Escapes.{IsHex, AreHex, escape_forms}
@@ -90,26 +90,26 @@ run_utf8 n ih b s r less h u =
     let off = taken_off front (text_at 0 stop) s r (sym (text_at-run b) ∙ h) in
     by_bool (head stop == 34)
     (λ q.
-      let at = eqb-true (head stop) 34 q in
-      let cut = head_cons stop 34 at (λ e. omega (arith, e)) in
-      let v : IsUtf8 (front ++ 34 ∷ drop 1 stop) = subst IsUtf8 (whole ∙ ap (λ l. front ++ l) cut) u in
-      let none = (pair_parts [] off.0 (drop 1 stop) r (sym (text_at-quote stop at) ∙ off.1)).0 in
-      subst IsUtf8 (sym (off.2 ∙ ap (λ l. front ++ l) (sym none) ∙ append-nil front)) (front_utf8 front 34 (drop 1 stop) (omega arith) v))
+    let at = eqb-true (head stop) 34 q in
+    let cut = head_cons stop 34 at (λ e. omega (arith, e)) in
+    let v : IsUtf8 (front ++ 34 ∷ drop 1 stop) = subst IsUtf8 (whole ∙ ap (λ l. front ++ l) cut) u in
+    let none = (pair_parts [] off.0 (drop 1 stop) r (sym (text_at-quote stop at) ∙ off.1)).0 in
+    subst IsUtf8 (sym (off.2 ∙ ap (λ l. front ++ l) (sym none) ∙ append-nil front)) (front_utf8 front 34 (drop 1 stop) (omega arith) v))
     (λ q. by_bool (head stop == 92)
-      (λ w.
-        let at = eqb-true (head stop) 92 w in
-        let code = drop 1 stop in
-        let cut = head_cons stop 92 at (λ e. omega (arith, e)) in
-        let v : IsUtf8 (front ++ 92 ∷ code) = subst IsUtf8 (whole ∙ ap (λ l. front ++ l) cut) u in
-        by_option (escape code)
-        (λ none. absurd (none_some (sym (text_at-no_escape stop at none) ∙ off.1)))
-        (λ e is.
-          let parts = escape_cut code e is in
-          let more = taken_off (encode_utf8 e.0) (text_at 0 (drop e.1 code)) off.0 r (sym (text_at-escape stop e at is) ∙ off.1) in
-          let size : length (drop e.1 code) < n = omega (arith, less, ap length whole, length-append front stop, ap length cut, length-drop e.1 code) in
-          let rest = ih (drop e.1 code) more.0 r size more.1 (parts.0 (back_utf8 front 92 code (omega arith) v)) in
-          subst IsUtf8 (sym (off.2 ∙ ap (λ l. front ++ l) more.2)) (IsUtf8-append front _ (front_utf8 front 92 code (omega arith) v) (IsUtf8-append (encode_utf8 e.0) more.0 (IsUtf8-encode e.0 parts.1) rest))))
-      (λ w. absurd (none_some (sym (stopped b k stop front refl refl (not_same (head stop) 34 q) (not_same (head stop) 92 w)) ∙ sym (text_at-run b) ∙ h))))
+    (λ w.
+    let at = eqb-true (head stop) 92 w in
+    let code = drop 1 stop in
+    let cut = head_cons stop 92 at (λ e. omega (arith, e)) in
+    let v : IsUtf8 (front ++ 92 ∷ code) = subst IsUtf8 (whole ∙ ap (λ l. front ++ l) cut) u in
+    by_option (escape code)
+    (λ none. absurd (none_some (sym (text_at-no_escape stop at none) ∙ off.1)))
+    (λ e is.
+    let parts = escape_cut code e is in
+    let more = taken_off (encode_utf8 e.0) (text_at 0 (drop e.1 code)) off.0 r (sym (text_at-escape stop e at is) ∙ off.1) in
+    let size : length (drop e.1 code) < n = omega (arith, less, ap length whole, length-append front stop, ap length cut, length-drop e.1 code) in
+    let rest = ih (drop e.1 code) more.0 r size more.1 (parts.0 (back_utf8 front 92 code (omega arith) v)) in
+    subst IsUtf8 (sym (off.2 ∙ ap (λ l. front ++ l) more.2)) (IsUtf8-append front _ (front_utf8 front 92 code (omega arith) v) (IsUtf8-append (encode_utf8 e.0) more.0 (IsUtf8-encode e.0 parts.1) rest))))
+    (λ w. absurd (none_some (sym (stopped b k stop front refl refl (not_same (head stop) 34 q) (not_same (head stop) 92 w)) ∙ sym (text_at-run b) ∙ h))))
 
 utf8_below : (n : ℕ) → Utf8Below n
 unfolding Utf8Below

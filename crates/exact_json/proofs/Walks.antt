@@ -1,13 +1,13 @@
 -- A value is as deep as its text nests: a walk over the bytes, part by part.
-use Rattle.std.proofs.Common.{◌≡◌, ◌≢◌, ℕ, zero, suc, ◌+◌, ◌-◌, ◌<◌, ◌≤◌, max, Bool, true, false, not, cond, ◌||◌, ◌&&◌, ◌==◌, nat_lt, ◌∙◌, List, [], ◌∷◌, ◌++◌, drop, take, length, Option, Some, None, refl, sym, ap, ap₂, subst, arith, append_assoc, length-append, length-drop, take-append-drop}
-use Rattle.std.proofs.lemmas.Bool.{ne_eqb, eqb-true, false≢true, true≢false}
+use Rattle.std.proofs.Common.{◌≡◌, ◌≢◌, ℕ, zero, suc, ◌+◌, ◌-◌, ◌<◌, ◌≤◌, max, Bool, true, false, cond, ◌||◌, ◌==◌, ◌∙◌, List, [], ◌∷◌, ◌++◌, drop, take, length, Some, refl, sym, ap, ap₂, arith, append_assoc, length-append, length-drop, take-append-drop}
+use Rattle.std.proofs.lemmas.Bool.{ne_eqb, eqb-true, false≢true}
 use Rattle.std.proofs.lemmas.List.{append-nil}
 use Rattle.std.specs.List.{prefix_len}
-use Rattle.std.specs.Char.{encode_utf8, digit_value, is_digit}
+use Rattle.std.specs.Char.{encode_utf8, is_digit}
 use Rattle.exact_json.specs.Json.{Json, null, boolean, number, text, items, object, Items, no_items, item, Members, no_pairs, pair, depth, items_depth, members_depth}
 use Rattle.exact_json.specs.Number.{head}
-use Rattle.exact_json.specs.Strings.{text_at, is_plain, prepend, escape}
-use Rattle.exact_json.specs.Grammar.{IsSpace, Padded, MoreElements, Elements, IsText, IsPair, Spells, spellings, pair_spellings, IsJson, bare}
+use Rattle.exact_json.specs.Strings.{text_at, is_plain, escape}
+use Rattle.exact_json.specs.Grammar.{Padded, MoreElements, Elements, IsText, IsPair, Spells, spellings, pair_spellings, IsJson, bare}
 use Rattle.exact_json.specs.Nesting.{Place, outside, in_string, behind_backslash, next_place, open_behind, most_open, nesting}
 use Rattle.exact_json.proofs.Texts.{by_bool, head_cons, none_some, taken_off, text_at-run, text_at-quote, text_at-escape, text_at-no_escape, stopped, string_again}
 use Rattle.exact_json.proofs.Escapes.{IsHex, AreHex, escape_forms}
@@ -86,8 +86,8 @@ escape_walk = escape_forms Passes
     (λ x w c low s n. any_byte n x w)
     (λ a b c d w u hex s n. any_byte n 117 (a ∷ b ∷ c ∷ d ∷ w) ∙ hex_bytes n a b c d w hex)
     (λ a b c d e f g h w u hex more s n.
-      any_byte n 117 (a ∷ b ∷ c ∷ d ∷ 92 ∷ 117 ∷ e ∷ f ∷ g ∷ h ∷ w) ∙ hex_bytes n a b c d (92 ∷ 117 ∷ e ∷ f ∷ g ∷ h ∷ w) hex
-      ∙ backslash n (117 ∷ e ∷ f ∷ g ∷ h ∷ w) ∙ any_byte n 117 (e ∷ f ∷ g ∷ h ∷ w) ∙ hex_bytes n e f g h w more)
+    any_byte n 117 (a ∷ b ∷ c ∷ d ∷ 92 ∷ 117 ∷ e ∷ f ∷ g ∷ h ∷ w) ∙ hex_bytes n a b c d (92 ∷ 117 ∷ e ∷ f ∷ g ∷ h ∷ w) hex
+    ∙ backslash n (117 ∷ e ∷ f ∷ g ∷ h ∷ w) ∙ any_byte n 117 (e ∷ f ∷ g ∷ h ∷ w) ∙ hex_bytes n e f g h w more)
 
 closing_quote : (n : ℕ) (b : List ℕ) → most_open in_string n (34 ∷ b) ≡ most_open outside n b
 closing_quote n b = same_count in_string outside n 34 b refl refl
@@ -105,22 +105,22 @@ run_walks m ih b s r n less h =
     let off = taken_off front (text_at 0 stop) s r (sym (text_at-run b) ∙ h) in
     plain_run n b ∙ by_bool (head stop == 34)
     (λ q.
-      let at = eqb-true (head stop) 34 q in
-      let cut = head_cons stop 34 at (λ e. omega (arith, e)) in
-      let left = (pair_parts [] off.0 (drop 1 stop) r (sym (text_at-quote stop at) ∙ off.1)).1 in
-      ap (most_open in_string n) cut ∙ closing_quote n (drop 1 stop) ∙ ap (most_open outside n) left)
+    let at = eqb-true (head stop) 34 q in
+    let cut = head_cons stop 34 at (λ e. omega (arith, e)) in
+    let left = (pair_parts [] off.0 (drop 1 stop) r (sym (text_at-quote stop at) ∙ off.1)).1 in
+    ap (most_open in_string n) cut ∙ closing_quote n (drop 1 stop) ∙ ap (most_open outside n) left)
     (λ q. by_bool (head stop == 92)
-      (λ w.
-        let at = eqb-true (head stop) 92 w in
-        let code = drop 1 stop in
-        let cut = head_cons stop 92 at (λ e. omega (arith, e)) in
-        by_option (escape code)
-        (λ none. absurd (none_some (sym (text_at-no_escape stop at none) ∙ off.1)))
-        (λ e is.
-          let more = taken_off (encode_utf8 e.0) (text_at 0 (drop e.1 code)) off.0 r (sym (text_at-escape stop e at is) ∙ off.1) in
-          let size : length (drop e.1 code) < m = omega (arith, less, ap length whole, length-append front stop, ap length cut, length-drop e.1 code) in
-          ap (most_open in_string n) cut ∙ backslash n code ∙ escape_walk code e is n ∙ ih (drop e.1 code) more.0 r n size more.1))
-      (λ w. absurd (none_some (sym (stopped b k stop front refl refl (not_same (head stop) 34 q) (not_same (head stop) 92 w)) ∙ sym (text_at-run b) ∙ h))))
+    (λ w.
+    let at = eqb-true (head stop) 92 w in
+    let code = drop 1 stop in
+    let cut = head_cons stop 92 at (λ e. omega (arith, e)) in
+    by_option (escape code)
+    (λ none. absurd (none_some (sym (text_at-no_escape stop at none) ∙ off.1)))
+    (λ e is.
+    let more = taken_off (encode_utf8 e.0) (text_at 0 (drop e.1 code)) off.0 r (sym (text_at-escape stop e at is) ∙ off.1) in
+    let size : length (drop e.1 code) < m = omega (arith, less, ap length whole, length-append front stop, ap length cut, length-drop e.1 code) in
+    ap (most_open in_string n) cut ∙ backslash n code ∙ escape_walk code e is n ∙ ih (drop e.1 code) more.0 r n size more.1))
+    (λ w. absurd (none_some (sym (stopped b k stop front refl refl (not_same (head stop) 34 q) (not_same (head stop) 92 w)) ∙ sym (text_at-run b) ∙ h))))
 
 walks_below : (m : ℕ) → WalksBelow m
 unfolding WalksBelow

@@ -1,5 +1,5 @@
 -- The grammar of RFC 8259: which bytes spell which value.
-use Rattle.std.specs.Prelude.{◌≡◌, ◌<◌, Result, Ok, Err, ℕ, List, [], ◌∷◌, ◌++◌, Bool, true, false, Some, cond, drop, nat_eq, length, map, ◌≤◌}
+use Rattle.std.specs.Prelude.{◌≡◌, ◌<◌, Result, Ok, Err, ℕ, List, [], ◌∷◌, ◌++◌, true, false, Some, cond, drop, nat_eq}
 use Rattle.std.specs.List.{list_all, starts_with}
 use Rattle.std.specs.Str.{IsUtf8}
 use Rattle.exact_json.specs.Json.{Json, null, boolean, number, text, items, object, Items, no_items, item, Members, no_pairs, pair, depth}

@@ -1,5 +1,6 @@
 pub mod Json
 pub mod Kinds
+pub mod Bits
 pub mod View
 pub mod Number
 pub mod Strings

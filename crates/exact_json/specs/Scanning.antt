@@ -1,5 +1,5 @@
 -- What the scan without recursion keeps: the brackets that are open, and what stands for the rest of them.
-use Rattle.std.specs.Prelude.{◌≡◌, ◌<◌, ℕ, suc, ◌+◌, ◌≤◌, List, [], ◌∷◌, length, true, false, Bool, Option, Some, None, option_map, option_and_then, Result, Ok, Err}
+use Rattle.std.specs.Prelude.{◌≡◌, ℕ, suc, ◌+◌, ◌≤◌, List, [], ◌∷◌, length, true, false, Bool, Option, Some, None, option_map, option_and_then, Result, Ok, Err}
 use Rattle.std.specs.Borrow.{Bor}
 use Rattle.exact_json.specs.Json.{Json, null, depth}
 use Rattle.exact_json.specs.Reading.{skip, more_step, more_elements, name_at, pair_at, value}

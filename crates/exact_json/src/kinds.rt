@@ -1,10 +1,14 @@
 //! The brackets that are open while a value is passed over.
 
-ghost use Rattle.std.specs.Prelude.{◌≡◌, [], ◌∷◌, OnOk, drop, slice_get};
+ghost use Rattle.std.specs.Prelude.{◌≡◌, ◌≤◌, ◌<◌, ◌^◌, [], ◌∷◌, OnOk, Some, drop, slice_get};
 ghost use Rattle.exact_json.specs.Kinds.{closing};
+ghost use Rattle.exact_json.specs.Bits.{kind_of_bit, word};
 
 use std::alloc::{AllocError, Global};
 use std::marker::Model;
+
+// A word from here on has no bit left.
+const FULL: u64 = 1 << 63;
 
 /// Which bracket opened it.
 #[derive(Clone, Copy, Debug, PartialEq, Eq)]
@@ -24,19 +28,65 @@ impl Kind {
     }
 }
 
-/// Kinds, of which contracts see the one first that was opened last.
+fn bit(kind: Kind) -> u64
+    ensures value { kind_of_bit result ≡ kind }
+    ensures small { result < 2 }
+{
+    match kind {
+        Kind::List => 0,
+        Kind::Object => 1,
+    }
+}
+
+fn kind_of_bit(bit: u64) -> Kind
+    ensures { result ≡ kind_of_bit bit }
+{
+    if bit == 0 { Kind::List } else { Kind::Object }
+}
+
+// A word with one more kind.
+fn added(kinds: u64, kind: Kind) -> u64
+    requires { (1 ≤ kinds) × (kinds < 2 ^ 63) }
+    ensures value { word result ≡ kind ∷ word kinds }
+    ensures above { 1 < result }
+{
+    kinds * 2 + bit(kind)
+}
+
+// A word without its newest kind.
+fn removed(kinds: u64) -> u64
+    requires { 1 < kinds }
+    ensures value { word result ≡ drop 1 (word kinds) }
+    ensures leading { 1 ≤ result }
+{
+    kinds / 2
+}
+
+fn newest_of(kinds: u64) -> Kind
+    requires { 1 < kinds }
+    ensures { Some result ≡ slice_get (word kinds) 0 }
+{
+    kind_of_bit(kinds % 2)
+}
+
+/// Kinds, of which contracts see the one first that was opened last. Each takes one bit.
 #[derive(Drop)]
 pub(crate) struct Kinds {
-    from_outside: Vec<Kind>,
+    // Each full word has 63 kinds below its leading one, and the last one is the newest.
+    full: Vec<u64>,
+    newest: u64,
 }
 
 impl Model for Kinds {
-    ghost use Rattle.std.specs.Prelude.{List, reverse};
+    ghost use Rattle.std.specs.Prelude.{List, ◌++◌};
     ghost use Rattle.exact_json.specs.declared.kinds.Kind.{Kind};
+    ghost use Rattle.exact_json.specs.Bits.{word, words, IsStack};
 
     ghost Value = { List Kind };
 
-    ghost view = { λ a. reverse a.from_outside.items };
+    ghost view = { λ a. word a.newest ++ words a.full.items };
+
+    ghost invariant = { λ a. IsStack a.newest a.full.items };
 }
 
 impl Kinds {
@@ -44,15 +94,23 @@ impl Kinds {
         ensures { result ≡ [] }
     {
         Kinds {
-            from_outside: Vec::new(alloc),
+            full: Vec::new(alloc),
+            newest: 1,
         }
     }
 
     pub(crate) fn open(&mut self, kind: Kind) -> Result<(), AllocError>
         ensures { OnOk result (self.new ≡ kind ∷ self.old) }
     {
-        match self.from_outside.push(kind) {
-            Ok(()) => Ok(()),
+        if self.newest < FULL {
+            self.newest = added(self.newest, kind);
+            return Ok(());
+        }
+        match self.full.push(self.newest) {
+            Ok(()) => {
+                self.newest = added(1, kind);
+                Ok(())
+            }
             Err(_) => Err(AllocError),
         }
     }
@@ -60,12 +118,27 @@ impl Kinds {
     pub(crate) fn innermost(&self) -> Option<Kind>
         ensures { result ≡ slice_get self.now 0 }
     {
-        self.from_outside.last().copied()
+        if self.newest > 1 {
+            Some(newest_of(self.newest))
+        } else {
+            None
+        }
     }
 
     pub(crate) fn close(&mut self)
         ensures { self.new ≡ drop 1 self.old }
     {
-        self.from_outside.pop();
+        if self.newest <= 1 {
+            return;
+        }
+        let rest = removed(self.newest);
+        if rest > 1 {
+            self.newest = rest;
+            return;
+        }
+        match self.full.pop() {
+            Some(kinds) => self.newest = kinds,
+            None => self.newest = 1,
+        }
     }
 }

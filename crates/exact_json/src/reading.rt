@@ -89,10 +89,7 @@ fn read_scalar<'a>(alloc: Global, text: &'a [u8]) -> Result<(Tree<'a>, &'a [u8])
 
 // A name and its colon.
 #[tactic(auto, unfolding(crate::specs::Reading::name_at))]
-fn read_name<'a>(
-    alloc: Global,
-    text: &'a [u8],
-) -> Result<(JsonText<'a>, &'a [u8]), JsonFault>
+fn read_name<'a>(alloc: Global, text: &'a [u8]) -> Result<(JsonText<'a>, &'a [u8]), JsonFault>
     ensures value { Finds (λ r. (text_view r.0, r.1.now)) (name_at text.now) result }
     ensures within { IfOk result (λ r. length r.1.now ≤ length text.now) }
 {
@@ -148,11 +145,12 @@ fn read_items<'a>(
         (λ d. elements_at 93 (value d) text.now) result }
     ensures within { IfOk result (λ r. length r.1.now ≤ length text.now) }
 {
-    let mut list = Vec::new(alloc);
     let mut rest = skip_spaces(text);
     if byte_at(rest, 0) == b']' {
-        return Ok((list, after(rest, 1)));
+        return Ok((Vec::new(alloc), after(rest, 1)));
     }
+    // Most lists of a feature collection are positions, which have two numbers.
+    let mut list = Vec::with_capacity(alloc, 2)?;
     loop {
         let (tree, behind) = read_value(alloc, skip_spaces(rest), depth)?;
         list.push(tree)?;

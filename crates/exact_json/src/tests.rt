@@ -47,7 +47,9 @@ fn strings(rt: HostRuntime) {
 
 #[test]
 fn parts(rt: HostRuntime) -> Result<(), Fail> {
-    let tree = read(rt.alloc(), b"{\"a\":1e+2,\"b\":[true,null],\"a\":\"x\"}").ok().ok_or("read")?;
+    let tree = read(rt.alloc(), b"{\"a\":1e+2,\"b\":[true,null],\"a\":\"x\"}")
+        .ok()
+        .ok_or("read")?;
     let object = tree.as_object().ok_or("object")?;
     assert_eq!(rt; object.pairs.len(), 3);
     assert_eq!(rt; object.pairs[0].value.as_number(), Some(b"1e+2".as_slice()));

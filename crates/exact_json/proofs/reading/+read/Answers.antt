@@ -1,9 +1,9 @@
-use Rattle.std.proofs.Common.{◌≡◌, ◌≢◌, ℕ, suc, ◌+◌, ◌-◌, ◌<◌, ◌≤◌, [], ◌∷◌, ◌++◌, drop, length, map, Some, None, Err, sym, ap, ◌∙◌, subst, arith, rules}
+use Rattle.std.proofs.Common.{◌≡◌, ◌≢◌, ℕ, suc, ◌-◌, ◌≤◌, [], ◌∷◌, ◌++◌, length, map, Some, None, sym, ap, ◌∙◌, arith, rules}
 use Rattle.std.proofs.lemmas.Result.{err_from_is_err_and}
-use Rattle.exact_json.specs.View.{tree_view, pair_view, text_view}
+use Rattle.exact_json.specs.View.{tree_view, pair_view}
 use Rattle.exact_json.specs.Number.{head}
-use Rattle.exact_json.specs.Reading.{parse_map, skip, more_elements, elements_at, name_at, pair_at, value, Gives}
-use Rattle.exact_json.proofs.Lists.{joined, joined_nil, map_pushed, comma_turn, last_turn, bad_turn, lost_turn, no_elements, some_elements, list_too_deep, object_too_deep, pair_named, pair_unnamed, carry, carry_up, carry_miss, list_is, object_is, no_list, no_object, scalar_is}
+use Rattle.exact_json.specs.Reading.{more_elements, elements_at, pair_at, value}
+use Rattle.exact_json.proofs.Lists.{joined, joined_nil, map_pushed, comma_turn, last_turn, bad_turn, lost_turn, no_elements, some_elements, list_too_deep, object_too_deep, carry, carry_up, list_is, object_is, no_list, no_object, scalar_is}
 use Rattle.exact_json.proofs.reading.+read.Goals as goal
 
 -- ---- a value
@@ -68,15 +68,17 @@ pub read_items-returns-then-byte_at-eq93-clause-value : goal.read_items-returns-
 read_items-returns-then-byte_at-eq93-clause-value t c =
     let s = c.skip_spaces-rest.result.now in
     let h : head s ≡ 93 = grind arith in
-    λ d le. no_elements 93 (value d) c.args.text.now s c.after.result.now c.skip_spaces-rest.ensures.value h c.after.ensures.value ∙ ap (λ l. Some (map tree_view l, c.after.result.now)) (sym c.new-list.ensures.items)
+    λ d le. no_elements 93 (value d) c.args.text.now s c.after.result.now c.skip_spaces-rest.ensures.value h c.after.ensures.value ∙ ap (λ l. Some (map tree_view l, c.after.result.now)) (sym c.new.ensures.items)
 
 pub read_items-loop-list-init : goal.read_items-loop-list-init
 read_items-loop-list-init t c =
     let s = c.skip_spaces-rest.result.now in
-    let h : head s ≢ 93 = grind arith in
-    (suc (length s), omega arith,
-      (λ d le. some_elements 93 (value d) c.args.text.now s c.skip_spaces-rest.ensures.value h ∙ joined_nil (more_elements 93 (value d) (suc (length s)) s) ∙ ap (λ l. joined (map tree_view l) (more_elements 93 (value d) (suc (length s)) s)) (sym c.new-list.ensures.items)),
-      c.skip_spaces-rest.ensures.within)
+    let h : head s ≢ 93 = grind arith in (
+      suc (length s),
+      omega arith,
+      (λ d le. some_elements 93 (value d) c.args.text.now s c.skip_spaces-rest.ensures.value h ∙ joined_nil (more_elements 93 (value d) (suc (length s)) s) ∙ ap (λ l. joined (map tree_view l) (more_elements 93 (value d) (suc (length s)) s)) (sym c.in_ok-list.ensures.items)),
+      c.skip_spaces-rest.ensures.within,
+    )
 
 pub read_items-loop-list-preserved : goal.read_items-loop-list-preserved
 read_items-loop-list-preserved t c =
@@ -89,11 +91,13 @@ read_items-loop-list-preserved t c =
     let h : head m ≡ 44 = grind arith in
     let grown : c.push.new.self.items ≡ l.list.items ++ tree ∷ [] = search rules in
     let seen : map tree_view l.list.items ++ tree_view tree ∷ [] ≡ map tree_view c.push.new.self.items = map_pushed tree_view l.list.items tree ∙ ap (map tree_view) (sym grown) in
-    let inside = c.in_ok-tree.ensures.within in
-    (n - 1, omega (arith, l.invariant.1, inside),
+    let inside = c.in_ok-tree.ensures.within in (
+      n - 1,
+      omega (arith, l.invariant.1, inside),
       (λ d le. l.invariant.2 d le
           ∙ comma_turn 93 (value d) n l.rest.now s m (map tree_view l.list.items) (map tree_view c.push.new.self.items) (tree_view tree) c.in_ok-tree.behind.now rest (omega (arith, l.invariant.1)) c.skip_spaces.ensures.value (c.in_ok-tree.ensures.value d le) c.skip_spaces-mark.ensures.value h c.after-rest.ensures.value seen),
-      omega (arith, l.invariant.3, inside))
+      omega (arith, l.invariant.3, inside),
+    )
 
 pub read_items-returns-in-93-clause-value : goal.read_items-returns-in-93-clause-value
 read_items-returns-in-93-clause-value t c =
@@ -107,7 +111,7 @@ read_items-returns-in-93-clause-value t c =
     let grown : c.push.new.self.items ≡ l.list.items ++ tree ∷ [] = search rules in
     let seen : map tree_view l.list.items ++ tree_view tree ∷ [] ≡ map tree_view c.push.new.self.items = map_pushed tree_view l.list.items tree ∙ ap (map tree_view) (sym grown) in
     λ d le. l.invariant.2 d le
-        ∙ last_turn 93 (value d) n l.rest.now s m (map tree_view l.list.items) (map tree_view c.push.new.self.items) (tree_view tree) c.in_ok-tree.behind.now rest (λ e. omega (arith, e)) (omega (arith, l.invariant.1)) c.skip_spaces.ensures.value (c.in_ok-tree.ensures.value d le) c.skip_spaces-mark.ensures.value h c.after-in-93.ensures.value seen
+    ∙ last_turn 93 (value d) n l.rest.now s m (map tree_view l.list.items) (map tree_view c.push.new.self.items) (tree_view tree) c.in_ok-tree.behind.now rest (λ e. omega (arith, e)) (omega (arith, l.invariant.1)) c.skip_spaces.ensures.value (c.in_ok-tree.ensures.value d le) c.skip_spaces-mark.ensures.value h c.after-in-93.ensures.value seen
 
 pub read_items-returns-in_default-clause-value : goal.read_items-returns-in_default-clause-value
 read_items-returns-in_default-clause-value t c =
@@ -119,7 +123,7 @@ read_items-returns-in_default-clause-value t c =
     let nc : head m ≢ 44 = grind arith in
     let nb : head m ≢ 93 = grind arith in
     λ d le. l.invariant.2 d le
-        ∙ bad_turn 93 (value d) n l.rest.now s m (map tree_view l.list.items) (tree_view tree) c.in_ok-tree.behind.now (omega (arith, l.invariant.1)) c.skip_spaces.ensures.value (c.in_ok-tree.ensures.value d le) c.skip_spaces-mark.ensures.value nc nb
+    ∙ bad_turn 93 (value d) n l.rest.now s m (map tree_view l.list.items) (tree_view tree) c.in_ok-tree.behind.now (omega (arith, l.invariant.1)) c.skip_spaces.ensures.value (c.in_ok-tree.ensures.value d le) c.skip_spaces-mark.ensures.value nc nb
 
 pub read_items-returns-in_err-tree-clause-value : goal.read_items-returns-in_err-tree-clause-value
 read_items-returns-in_err-tree-clause-value t c =
@@ -127,7 +131,7 @@ read_items-returns-in_err-tree-clause-value t c =
     let n = l.invariant.0 in
     let s = c.skip_spaces.result.now in
     let e = c.in_err-tree.field-0.0 in
-    let p = err_from_is_err_and c.from_residual.result c.from_residual.ensures.1 in
+    let p = err_from_is_err_and c.from_residual-in_err-tree.result c.from_residual-in_err-tree.ensures.1 in
     let same : p.0 ≡ e = first_of (search (rules, p.2), grind (arith, p.2)) in
     let q = λ (d : ℕ). elements_at 93 (value d) c.args.text.now in
     let fails = λ (d : ℕ) (le : c.args.depth ≤ d) (none : (value d) s ≡ None). l.invariant.2 d le ∙ lost_turn 93 (value d) n l.rest.now s (map tree_view l.list.items) (omega (arith, l.invariant.1)) c.skip_spaces.ensures.value none in
@@ -144,10 +148,12 @@ read_members-returns-then-byte_at-eq125-clause-value t c =
 pub read_members-loop-pairs-init : goal.read_members-loop-pairs-init
 read_members-loop-pairs-init t c =
     let s = c.skip_spaces-rest.result.now in
-    let h : head s ≢ 125 = grind arith in
-    (suc (length s), omega arith,
+    let h : head s ≢ 125 = grind arith in (
+      suc (length s),
+      omega arith,
       (λ d le. some_elements 125 (pair_at (value d)) c.args.text.now s c.skip_spaces-rest.ensures.value h ∙ joined_nil (more_elements 125 (pair_at (value d)) (suc (length s)) s) ∙ ap (λ l. joined (map pair_view l) (more_elements 125 (pair_at (value d)) (suc (length s)) s)) (sym c.new-pairs.ensures.items)),
-      c.skip_spaces-rest.ensures.within)
+      c.skip_spaces-rest.ensures.within,
+    )
 
 pub read_members-loop-pairs-preserved : goal.read_members-loop-pairs-preserved
 read_members-loop-pairs-preserved t c =
@@ -160,11 +166,13 @@ read_members-loop-pairs-preserved t c =
     let h : head m ≡ 44 = grind arith in
     let grown : c.push.new.self.items ≡ l.pairs.items ++ pair ∷ [] = search rules in
     let seen : map pair_view l.pairs.items ++ pair_view pair ∷ [] ≡ map pair_view c.push.new.self.items = map_pushed pair_view l.pairs.items pair ∙ ap (map pair_view) (sym grown) in
-    let inside = c.in_ok-pair.ensures.within in
-    (n - 1, omega (arith, l.invariant.1, inside),
+    let inside = c.in_ok-pair.ensures.within in (
+      n - 1,
+      omega (arith, l.invariant.1, inside),
       (λ d le. l.invariant.2 d le
           ∙ comma_turn 125 (pair_at (value d)) n l.rest.now s m (map pair_view l.pairs.items) (map pair_view c.push.new.self.items) (pair_view pair) c.in_ok-pair.behind.now rest (omega (arith, l.invariant.1)) c.skip_spaces.ensures.value (c.in_ok-pair.ensures.value d le) c.skip_spaces-mark.ensures.value h c.after-rest.ensures.value seen),
-      omega (arith, l.invariant.3, inside))
+      omega (arith, l.invariant.3, inside),
+    )
 
 pub read_members-returns-in-125-clause-value : goal.read_members-returns-in-125-clause-value
 read_members-returns-in-125-clause-value t c =
@@ -178,7 +186,7 @@ read_members-returns-in-125-clause-value t c =
     let grown : c.push.new.self.items ≡ l.pairs.items ++ pair ∷ [] = search rules in
     let seen : map pair_view l.pairs.items ++ pair_view pair ∷ [] ≡ map pair_view c.push.new.self.items = map_pushed pair_view l.pairs.items pair ∙ ap (map pair_view) (sym grown) in
     λ d le. l.invariant.2 d le
-        ∙ last_turn 125 (pair_at (value d)) n l.rest.now s m (map pair_view l.pairs.items) (map pair_view c.push.new.self.items) (pair_view pair) c.in_ok-pair.behind.now rest (λ e. omega (arith, e)) (omega (arith, l.invariant.1)) c.skip_spaces.ensures.value (c.in_ok-pair.ensures.value d le) c.skip_spaces-mark.ensures.value h c.after-in-125.ensures.value seen
+    ∙ last_turn 125 (pair_at (value d)) n l.rest.now s m (map pair_view l.pairs.items) (map pair_view c.push.new.self.items) (pair_view pair) c.in_ok-pair.behind.now rest (λ e. omega (arith, e)) (omega (arith, l.invariant.1)) c.skip_spaces.ensures.value (c.in_ok-pair.ensures.value d le) c.skip_spaces-mark.ensures.value h c.after-in-125.ensures.value seen
 
 pub read_members-returns-in_default-clause-value : goal.read_members-returns-in_default-clause-value
 read_members-returns-in_default-clause-value t c =
@@ -190,7 +198,7 @@ read_members-returns-in_default-clause-value t c =
     let nc : head m ≢ 44 = grind arith in
     let nb : head m ≢ 125 = grind arith in
     λ d le. l.invariant.2 d le
-        ∙ bad_turn 125 (pair_at (value d)) n l.rest.now s m (map pair_view l.pairs.items) (pair_view pair) c.in_ok-pair.behind.now (omega (arith, l.invariant.1)) c.skip_spaces.ensures.value (c.in_ok-pair.ensures.value d le) c.skip_spaces-mark.ensures.value nc nb
+    ∙ bad_turn 125 (pair_at (value d)) n l.rest.now s m (map pair_view l.pairs.items) (pair_view pair) c.in_ok-pair.behind.now (omega (arith, l.invariant.1)) c.skip_spaces.ensures.value (c.in_ok-pair.ensures.value d le) c.skip_spaces-mark.ensures.value nc nb
 
 pub read_members-returns-in_err-pair-clause-value : goal.read_members-returns-in_err-pair-clause-value
 read_members-returns-in_err-pair-clause-value t c =

@@ -1,8 +1,7 @@
-use Rattle.std.proofs.Common.{◌≡◌, ◌≢◌, ◌+◌, ◌-◌, ◌<◌, [], ◌∷◌, true, false, Some, None, length, drop, slice_get, sym, ap, ◌∙◌, subst, arith, rules}
+use Rattle.std.proofs.Common.{◌≡◌, ◌≢◌, ◌∷◌, true, false, sym, subst, arith, rules}
 use Rattle.exact_json.specs.Number.{head}
 use Rattle.exact_json.specs.Kinds.{opening, closing}
-use Rattle.exact_json.specs.Reading.{scalar_at}
-use Rattle.exact_json.specs.Scanning.{Scanning, rest_of}
+use Rattle.exact_json.specs.Scanning.{Scanning}
 use Rattle.exact_json.proofs.Scans.{begun, not_begun, passed_empty, passed_scalar, no_scalar, all_passed, passed_comma, no_element_behind, passed_close, passed_neither}
 use Rattle.exact_json.proofs.scan.scan.Goals as goal
 

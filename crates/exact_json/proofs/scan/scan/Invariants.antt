@@ -1,4 +1,4 @@
-use Rattle.std.proofs.Common.{ℕ, ◌+◌, ◌*◌, length, cond}
+use Rattle.std.proofs.Common.{◌+◌, ◌*◌, length, cond}
 use Rattle.exact_json.specs.Scanning.{Scanning}
 use Rattle.exact_json.proofs.scan.scan.Given as goal
 

@@ -1,7 +1,5 @@
-use Rattle.std.proofs.Common.{◌≡◌, ◌≢◌, ◌≤◌, length, sym, ap, ◌∙◌, arith, rules}
+use Rattle.std.proofs.Common.{◌≡◌, ◌≢◌, sym, ◌∙◌, arith}
 use Rattle.exact_json.specs.Number.{head}
-use Rattle.exact_json.specs.Strings.{text_at}
-use Rattle.exact_json.specs.Scanning.{rest_of}
 use Rattle.exact_json.proofs.Passes.{past_run, past_quote, past_stop, past_escape, past_no_escape}
 use Rattle.exact_json.proofs.text.pass_text.Goals as goal
 
@@ -20,10 +18,11 @@ returns-in_default-escape-clause-value c =
 pub loop-code-preserved : goal.loop-code-preserved
 loop-code-preserved c =
     let s = c.after-stop.result.now in
-    let h : head s ≡ 92 = grind arith in
-    (c.loop-code.invariant.0 ∙ past_run c.loop-code.rest.now s c.plain_len.result c.plain_len.ensures.value c.after-stop.ensures.value
-      ∙ past_escape s c.after-code.result.now c.after-rest.result.now (c.in-Some.field-0-0, c.in-Some.count) h c.after-code.ensures.value (sym c.in-Some.ensures.value) c.after-rest.ensures.value,
-      omega arith)
+    let h : head s ≡ 92 = grind arith in (
+      c.loop-code.invariant.0 ∙ past_run c.loop-code.rest.now s c.plain_len.result c.plain_len.ensures.value c.after-stop.ensures.value
+          ∙ past_escape s c.after-code.result.now c.after-rest.result.now (c.in-Some.field-0-0, c.in-Some.count) h c.after-code.ensures.value (sym c.in-Some.ensures.value) c.after-rest.ensures.value,
+      omega arith,
+    )
 
 pub returns-in_default-clause-value : goal.returns-in_default-clause-value
 returns-in_default-clause-value c =

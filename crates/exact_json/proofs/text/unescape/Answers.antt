@@ -1,4 +1,4 @@
-use Rattle.std.proofs.Common.{◌≡◌, ◌≢◌, ◌≤◌, ◌++◌, length, take, sym, ap, ◌∙◌, arith, rules}
+use Rattle.std.proofs.Common.{◌≡◌, ◌≢◌, ◌++◌, take, sym, ◌∙◌, arith}
 use Rattle.std.specs.Char.{encode_utf8}
 use Rattle.exact_json.specs.Number.{head}
 use Rattle.exact_json.specs.Strings.{text_at, prepend}
@@ -28,10 +28,11 @@ pub loop-made-preserved : goal.loop-made-preserved
 loop-made-preserved c =
     let s = c.after-stop.result.now in
     let h : head s ≡ 92 = grind arith in
-    let grown : c.append.new.made.items ≡ c.extend_from_slice.new.self.items ++ encode_utf8 c.in-Some.c = grind arith in
-    (run (goal.at.loop-made-preserved c).After-after-stop
-      ∙ escapes s c.after-code.result.now c.extend_from_slice.new.self.items c.append.new.made.items c.after-rest.result.now (c.in-Some.c, c.in-Some.len) h c.after-code.ensures.value (sym c.in-Some.ensures.value) grown c.after-rest.ensures.value,
-      omega arith)
+    let grown : c.append.new.made.items ≡ c.extend_from_slice.new.self.items ++ encode_utf8 c.in-Some.c = grind arith in (
+      run (goal.at.loop-made-preserved c).After-after-stop
+          ∙ escapes s c.after-code.result.now c.extend_from_slice.new.self.items c.append.new.made.items c.after-rest.result.now (c.in-Some.c, c.in-Some.len) h c.after-code.ensures.value (sym c.in-Some.ensures.value) grown c.after-rest.ensures.value,
+      omega arith,
+    )
 
 pub returns-in_default-clause-value : goal.returns-in_default-clause-value
 returns-in_default-clause-value c =

@@ -1,4 +1,4 @@
-use Rattle.std.proofs.Common.{◌≡◌, Err, sym, ap, ◌∙◌, subst, arith, rules}
+use Rattle.std.proofs.Common.{ap, ◌∙◌, subst, arith, rules}
 use Rattle.std.specs.Str.{IsUtf8}
 use Rattle.exact_json.specs.View.{tree_view}
 use Rattle.exact_json.specs.Grammar.{Answers}

@@ -1,4 +1,4 @@
-use Rattle.std.proofs.Common.{◌≡◌, map, sym, ap, ◌∙◌}
+use Rattle.std.proofs.Common.{map, sym, ap, ◌∙◌}
 use Rattle.exact_json.specs.View.{tree_view}
 use Rattle.exact_json.specs.declared.tree.Items.{out-Items}
 use Rattle.exact_json.proofs.Trees.{list_of_items}
