@@ -1,0 +1,7 @@
+pub mod Orders
+pub mod Members
+pub mod Passes
+pub mod Finds
+pub mod Unique
+pub mod Phases
+pub mod Sorting

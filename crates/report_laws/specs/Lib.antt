@@ -1,0 +1,3 @@
+pub mod Order
+pub mod Reports
+pub mod Passes

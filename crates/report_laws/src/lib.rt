@@ -1,0 +1,16 @@
+//! What it is to be the report of a predicate on places: these findings, each once, in this order, and no others.
+//!
+//! A phase of rules is a predicate `IsBroken : Finding → Type 0` of the layer above, and its promise is
+//! `IsReport IsBroken findings`; phases chain by `First`. `add` gathers what tests find, `in_order` makes the
+//! report of what was gathered, and `proofs.Passes` says what stands in the words that describe the gathering.
+#![tactic(auto)]
+
+mod gathering;
+mod laws;
+mod ordering;
+#[cfg(test)]
+mod tests;
+
+pub use gathering::add;
+pub use laws::{Noting, Phase, one_list_of_notes, one_report, one_short_report, phase_after_phase};
+pub use ordering::{in_order, notes_in_order, shortened};

@@ -1,0 +1,4 @@
+pub mod WalkLemmas
+pub mod Theorems
+pub mod Potentials
+pub mod Nodes
