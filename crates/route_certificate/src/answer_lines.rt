@@ -47,7 +47,8 @@ pub(crate) fn next_to(nodes: usize, text: &[u8]) -> Option<(u32, &[u8])>
     ensures found { IfSome result (λ x. (text.now ≡ to_line x.0 ++ x.1.now) × FitsNode nodes x.0) }
     ensures none { IfNone result (HasNone to_line (FitsNode nodes) text.now) }
 {
-    let (node, rest) = number_line(b"to ", 0, node_end(nodes), text)?;
+    let end = node_end(nodes);
+    let (node, rest) = number_line(b"to ", 0, end, text)?;
     Some((node as u32, rest))
 }
 
@@ -56,7 +57,8 @@ pub(crate) fn next_route(text: &[u8]) -> Option<(u64, &[u8])>
     ensures found { IfSome result (λ x. (text.now ≡ route_line x.0 ++ x.1.now) × FitsCost x.0) }
     ensures none { IfNone result (HasNone route_line FitsCost text.now) }
 {
-    number_line(b"route ", 0, COST_END, text)
+    let (cost, rest) = number_line(b"route ", 0, COST_END, text)?;
+    Some((cost, rest))
 }
 
 fn next_reach(nodes: usize, low: u64, text: &[u8]) -> Option<(u32, &[u8])>
@@ -64,7 +66,8 @@ fn next_reach(nodes: usize, low: u64, text: &[u8]) -> Option<(u32, &[u8])>
     ensures none { IfNone result (HasNone reach_line (FitsBehind (FitsNode nodes) (λ n. n) low) text.now) }
     ensures shorter { IfSome result (λ x. length x.1.now < length text.now) }
 {
-    let (node, rest) = number_line(b"reach ", low, node_end(nodes), text)?;
+    let end = node_end(nodes);
+    let (node, rest) = number_line(b"reach ", low, end, text)?;
     Some((node as u32, rest))
 }
 
@@ -74,7 +77,8 @@ fn potential_of(nodes: usize, low: u64, body: &[u8]) -> Option<Potential>
 {
     let (node, rest) = number_word(after(body, b"at ")?)?;
     let value = number(rest)?;
-    if low <= node && node < node_end(nodes) && value < COST_END {
+    let end = node_end(nodes);
+    if low <= node && node < end && value < COST_END {
         Some(Potential {
             node: node as u32,
             value,

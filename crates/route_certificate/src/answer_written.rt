@@ -33,6 +33,7 @@ fn push_potential(out: &mut Vec<u8>, potential: Potential) -> Result<(), AllocEr
     Ok(())
 }
 
+#[tactic(auto, unfolding(crate::specs::Forms::step_line))]
 fn push_steps(out: &mut Vec<u8>, steps: &[u32]) -> Result<(), AllocError>
     ensures { OnOk result (out.new.items ≡ out.old.items ++ flat_map step_line steps.now) }
 {
@@ -51,6 +52,7 @@ fn push_potentials(out: &mut Vec<u8>, at: &[Potential]) -> Result<(), AllocError
     Ok(())
 }
 
+#[tactic(auto, unfolding(crate::specs::Answers::reach_line))]
 fn push_reached(out: &mut Vec<u8>, reached: &[u32]) -> Result<(), AllocError>
     ensures { OnOk result (out.new.items ≡ out.old.items ++ flat_map reach_line reached.now) }
 {

@@ -19,7 +19,7 @@ fn potential_of(at: &[Potential], cost: u64, node: u32) -> u64
     requires { Ascends potentials_read at.now }
     ensures { result ≡ potential potentials_read cost at.now node }
 {
-    match at.binary_search_by(|p| p.node.cmp(&node)) {
+    match at.binary_search_by_key(&node, |p| p.node) {
         Ok(place) => at[place].value,
         Err(_) => cost,
     }
