@@ -4,8 +4,8 @@ ghost use Rattle.std.specs.Prelude.{◌≡◌, ◌++◌, OnOk};
 ghost use Rattle.std.specs.List.{flat_map};
 ghost use Rattle.std.specs.Fmt.{decimal};
 ghost use Rattle.text_forms.specs.Lines.{line};
-ghost use Rattle.route_certificate.specs.Forms.{from_line, step_line};
-ghost use Rattle.route_certificate.specs.Answers.{answer_head, to_line, at_line, reach_line, claim_text};
+ghost use Rattle.route_certificate.specs.Forms.{from_line, step_line, end_line};
+ghost use Rattle.route_certificate.specs.Answers.{answer_head, to_line, route_line, at_line, none_line, reach_line, claim_text};
 
 use crate::answer::Claim;
 use std::alloc::AllocError;
@@ -72,21 +72,38 @@ pub(crate) fn push_ends(out: &mut Vec<u8>, from: u32, to: u32) -> Result<(), All
     Ok(())
 }
 
+fn push_route(
+    out: &mut Vec<u8>,
+    cost: u64,
+    steps: &[u32],
+    at: &[Potential],
+) -> Result<(), AllocError>
+    ensures { OnOk result (out.new.items ≡ out.old.items ++ (route_line cost ++ (flat_map step_line steps.now ++ (flat_map at_line at.now ++ end_line)))) }
+{
+    push_numbered(out, b"route ", cost)?;
+    push_steps(out, steps)?;
+    push_potentials(out, at)?;
+    out.extend_from_slice(b"end\n")?;
+    Ok(())
+}
+
+fn push_nothing(out: &mut Vec<u8>, reached: &[u32]) -> Result<(), AllocError>
+    ensures { OnOk result (out.new.items ≡ out.old.items ++ (none_line ++ (flat_map reach_line reached.now ++ end_line))) }
+{
+    out.extend_from_slice(b"none\n")?;
+    push_reached(out, reached)?;
+    out.extend_from_slice(b"end\n")?;
+    Ok(())
+}
+
 /// Adds the lines of a claim and the last line.
 pub(crate) fn push_claim(out: &mut Vec<u8>, claim: &Claim) -> Result<(), AllocError>
     ensures { OnOk result (out.new.items ≡ out.old.items ++ claim_text claim.now) }
 {
     match claim {
         Claim::Route { cost, steps, at } => {
-            push_numbered(out, b"route ", *cost)?;
-            push_steps(out, steps.as_slice())?;
-            push_potentials(out, at.as_slice())?;
+            push_route(out, *cost, steps.as_slice(), at.as_slice())
         }
-        Claim::Nothing { reached } => {
-            out.extend_from_slice(b"none\n")?;
-            push_reached(out, reached.as_slice())?;
-        }
+        Claim::Nothing { reached } => push_nothing(out, reached.as_slice()),
     }
-    out.extend_from_slice(b"end\n")?;
-    Ok(())
 }
