@@ -3,7 +3,6 @@ use Rattle.std.proofs.Common.{◌≡◌, ℕ, ◌+◌, ◌<◌, ◌^◌, List, [
 use Rattle.std.proofs.lemmas.List.{length-append, append-nil}
 use Rattle.std.specs.List.{flat_map}
 use Rattle.venue_types.specs.declared.link.Potential.{Potential}
-use Rattle.text_forms.specs.Lines.{line}
 use Rattle.text_forms.specs.Faults.{IsLines, IsFaultLine}
 use Rattle.text_forms.specs.Fronts.{HasNone}
 use Rattle.text_forms.proofs.ListLemmas.{length-flat_map-le}
@@ -12,7 +11,7 @@ use Rattle.text_forms.proofs.FaultLemmas.{IsLines-none, IsLines-one, IsLines-app
 use Rattle.route_certificate.specs.declared.answer.Claim.{Claim}
 use Rattle.route_certificate.specs.declared.answer.Claim.TheVariants.{Route, Nothing}
 use Rattle.route_certificate.specs.Forms.{step_line, step_body, end_line, FitsStep}
-use Rattle.route_certificate.specs.Answers.{route_line, route_body, at_line, at_body, none_line, reach_line, reach_body, claim_text, FitsNode, FitsCost, FitsPotential}
+use Rattle.route_certificate.specs.Answers.{route_line, route_body, at_line, at_body, none_line, reach_line, reach_body, FitsNode, FitsCost, FitsPotential}
 use Rattle.route_certificate.specs.AnswerFronts.{IsClaim, IsClaimText}
 use Rattle.route_certificate.proofs.LineLemmas.{step_line_is, Lacks-step_body}
 use Rattle.route_certificate.proofs.AnswerLines.{route_line_is, at_line_is, reach_line_is, Lacks-route_body, Lacks-at_body, Lacks-reach_body, small_potential}

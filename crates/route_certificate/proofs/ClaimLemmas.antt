@@ -1,5 +1,5 @@
 -- What was read of a claim is what any claim with this text has.
-use Rattle.std.proofs.Common.{◌≡◌, ℕ, ◌+◌, ◌<◌, ◌≤◌, List, [], ◌∷◌, ◌++◌, length, refl, sym, ap, subst, ◌∙◌, append_assoc, arith, codes}
+use Rattle.std.proofs.Common.{◌≡◌, ℕ, List, [], ◌∷◌, ◌++◌, sym, ap, subst, ◌∙◌, arith}
 use Rattle.std.proofs.lemmas.List.{append_cancel_left}
 use Rattle.std.specs.List.{flat_map, AllByRecursion}
 use Rattle.std.specs.List.Sorted.{IsStrictlyIncreasing}
@@ -9,7 +9,7 @@ use Rattle.text_forms.proofs.ListLemmas.{fronts_agree, differ}
 use Rattle.route_certificate.specs.declared.answer.Claim.{Claim}
 use Rattle.route_certificate.specs.declared.answer.Claim.TheVariants.{Route, Nothing}
 use Rattle.route_certificate.specs.Forms.{step_line, step_body, end_line, FitsStep}
-use Rattle.route_certificate.specs.Answers.{route_line, at_line, at_body, none_line, reach_line, reach_body, claim_text, FitsNode, FitsCost, FitsPotential, FitsRoute, FitsNothing}
+use Rattle.route_certificate.specs.Answers.{route_line, at_line, at_body, none_line, reach_line, reach_body, FitsNode, FitsCost, FitsPotential, FitsRoute, FitsNothing}
 use Rattle.route_certificate.specs.AnswerFronts.{Rises, next_number, FitsBehind, IsRisingFront, IsClaim}
 use Rattle.route_certificate.proofs.LineLemmas.{step_unique, step_line_is, Lacks-step_body}
 use Rattle.route_certificate.proofs.WalkLemmas.{no_step_behind}

@@ -13,3 +13,4 @@ pub mod AnswerWritten
 pub mod Stuck
 pub mod ClaimLemmas
 pub mod ClaimFaults
+pub mod AnswerFaults

@@ -5,12 +5,11 @@ use Rattle.std.specs.List.{flat_map}
 use Rattle.venue_types.specs.declared.feature_id.FeatureId.{FeatureId}
 use Rattle.text_forms.specs.Lines.{line}
 use Rattle.text_forms.specs.Faults.{IsLines, IsFaultLine}
-use Rattle.text_forms.specs.Fronts.{IsCut}
 use Rattle.text_forms.proofs.LineLemmas.{Lacks-test, line_front, lines_unique}
 use Rattle.text_forms.proofs.FaultLemmas.{IsLines-one, IsLines-append, IsLines-items, other_head, next_faulty}
 use Rattle.route_certificate.specs.declared.table.Row.{Row}
 use Rattle.route_certificate.specs.declared.table.Table.{Table}
-use Rattle.route_certificate.specs.Forms.{node_line, link_line, node_body, link_body, end_line, table_head, FitsId, FitsRow, FitsTable, IsTable, IsTableText}
+use Rattle.route_certificate.specs.Forms.{node_line, link_line, node_body, link_body, end_line, table_head, FitsId, FitsRow, IsTable, IsTableText}
 use Rattle.route_certificate.proofs.LineLemmas.{node_line_is, link_line_is, Lacks-node_body, Lacks-link_body, small_row}
 use Rattle.route_certificate.proofs.TableLemmas.{TableRead, read_on, table_of, no_node_behind, no_link_behind}
 

@@ -14,8 +14,8 @@ use Rattle.route_certificate.specs.declared.answer.Claim.TheVariants.{Route, Not
 use Rattle.route_certificate.specs.declared.answer.Verdict.TheVariants.{Proved}
 use Rattle.route_certificate.specs.declared.answer.Verdict.{Verdict}
 use Rattle.route_certificate.specs.Answers.{potentials_read}
-use Rattle.route_certificate.specs.Prices.{IsStep, IsChain}
-use Rattle.route_certificate.specs.Verdicts.{links_read, IsGentle, IsClosed, HoldsOfLinks, FailsFirstAt, HasProfile, IsTrueClaim, IsRouteJudged, IsNothingJudged, IsClaimJudged}
+use Rattle.route_certificate.specs.Prices.{IsChain}
+use Rattle.route_certificate.specs.Verdicts.{links_read, HoldsOfLinks, FailsFirstAt, IsTrueClaim, IsRouteJudged, IsNothingJudged, IsClaimJudged}
 
 -- ---- link by link
 

@@ -1,11 +1,11 @@
 -- Where a text stops being a walk's over a table.
-use Rattle.std.proofs.Common.{◌≡◌, ℕ, ◌+◌, ◌<◌, ◌^◌, List, [], ◌∷◌, ◌++◌, length, refl, sym, ap, subst, ◌∙◌, append_assoc, arith, codes}
+use Rattle.std.proofs.Common.{◌≡◌, ℕ, ◌+◌, ◌<◌, List, [], ◌∷◌, ◌++◌, length, refl, sym, ap, subst, ◌∙◌, append_assoc, arith, codes}
 use Rattle.std.proofs.lemmas.List.{length-append, append-nil, append_cancel_left}
 use Rattle.std.specs.List.{flat_map}
 use Rattle.venue_types.specs.declared.feature_id.FeatureId.{FeatureId}
 use Rattle.text_forms.specs.Lines.{line}
 use Rattle.text_forms.specs.Faults.{IsLines, IsFaultLine}
-use Rattle.text_forms.specs.Fronts.{HasNone, IsCut}
+use Rattle.text_forms.specs.Fronts.{HasNone}
 use Rattle.text_forms.proofs.LineLemmas.{Lacks-test, line_front, lines_unique}
 use Rattle.text_forms.proofs.FaultLemmas.{IsLines-one, IsLines-append, IsLines-items, first_faulty, other_head, next_faulty, HasNone-line}
 use Rattle.route_certificate.specs.declared.table.Table.{Table}

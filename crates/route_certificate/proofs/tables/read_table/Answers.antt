@@ -1,7 +1,5 @@
 use Rattle.std.proofs.Common.{◌≡◌, ◌+◌, length, subst, arith}
-use Rattle.venue_types.specs.declared.feature_id.FeatureId.{FeatureId}
 use Rattle.text_forms.specs.Faults.{IsFaultLine}
-use Rattle.route_certificate.specs.declared.table.Row.{Row}
 use Rattle.route_certificate.specs.declared.table.Table.{Table}
 use Rattle.route_certificate.specs.Forms.{IsTableText}
 use Rattle.route_certificate.proofs.TableLemmas.{table_read, few_links}

@@ -1,4 +1,4 @@
-use Rattle.std.proofs.Common.{rules, get_or, arith}
+use Rattle.std.proofs.Common.{rules}
 use Rattle.route_certificate.specs.Verdicts.{IsClosed}
 use Rattle.route_certificate.proofs.VerdictLemmas.{holds_more, holds_all}
 use Rattle.route_certificate.proofs.verifying.first_leaving.Goals as goal

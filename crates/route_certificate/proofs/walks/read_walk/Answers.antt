@@ -1,4 +1,4 @@
-use Rattle.std.proofs.Common.{◌≡◌, ◌+◌, ◌<◌, length, sym, subst, ◌∙◌, true≢false, arith}
+use Rattle.std.proofs.Common.{◌≡◌, ◌+◌, length, sym, subst, ◌∙◌, true≢false, arith}
 use Rattle.text_forms.specs.Fronts.{HasNone}
 use Rattle.text_forms.specs.Faults.{IsFaultLine}
 use Rattle.route_certificate.specs.declared.table.WalkIn.{WalkIn}
