@@ -66,17 +66,19 @@ pub answer_behind : (table : Table) (from to : ℕ) (t : List ℕ) (answer : Ans
     → IsAnswerText (answer_head ++ (from_line from ++ (to_line to ++ t))) table answer → SameHead (length table.nodes) from to t answer
 answer_behind table from to t answer fits fits' is =
     let one = from_unique (length table.nodes) from answer.from (to_line to ++ t) (to_line answer.to ++ claim_text answer.claim) fits is.fits.from
-      (append_cancel_left answer_head (from_line from ++ (to_line to ++ t)) (from_line answer.from ++ (to_line answer.to ++ claim_text answer.claim)) is.spelled) in
+    (append_cancel_left answer_head (from_line from ++ (to_line to ++ t)) (from_line answer.from ++ (to_line answer.to ++ claim_text answer.claim)) is.spelled) in
     let two = to_unique (length table.nodes) to answer.to t (claim_text answer.claim) fits' is.fits.to one.1 in
     record { from_is = one.0; to_is = two.0; claim_is = record { spelled = two.1; fits = is.fits.claim } }
 
 claim_goes_on : (table : Table) (from to : ℕ) → FitsFrom (length table.nodes) from → FitsNode (length table.nodes) to → (t : List ℕ) → IsClaimText (length table.nodes) t → IsAnswerTextOver table (head_front from to ++ t)
 claim_goes_on table from to fits fits' t is =
-    let answer : AnswerIn = record { from = from; to = to; claim = is.0 } in
-    (answer, record {
-      spelled = head_is from to t ∙ ap (λ (x : List ℕ). answer_head ++ (from_line from ++ (to_line to ++ x))) is.1.spelled;
-      fits = record { from = fits; to = fits'; claim = is.1.fits };
-    })
+    let answer : AnswerIn = record { from = from; to = to; claim = is.0 } in (
+      answer,
+      record {
+        spelled = head_is from to t ∙ ap (λ (x : List ℕ). answer_head ++ (from_line from ++ (to_line to ++ x))) is.1.spelled;
+        fits = record { from = fits; to = fits'; claim = is.1.fits };
+      },
+    )
 
 -- the faulty line of what should be the claim
 pub claim_fault : (text rest : List ℕ) (table : Table) (from to n : ℕ) → FitsFrom (length table.nodes) from → FitsNode (length table.nodes) to
@@ -115,7 +117,7 @@ no_finish text rest table from fits head none =
     (claim_goes_on table from from fits fits (none_line ++ end_line) (some_claim (length table.nodes))))
     (λ t begins is.
     let one = from_unique (length table.nodes) from is.0.from t (to_line is.0.to ++ claim_text is.0.claim) fits is.1.fits.from
-      (append_cancel_left answer_head (from_line from ++ t) (from_line is.0.from ++ (to_line is.0.to ++ claim_text is.0.claim)) (sym (append_assoc answer_head (from_line from) t) ∙ is.1.spelled)) in
+    (append_cancel_left answer_head (from_line from ++ t) (from_line is.0.from ++ (to_line is.0.to ++ claim_text is.0.claim)) (sym (append_assoc answer_head (from_line from) t) ∙ is.1.spelled)) in
     HasNone-begins to_line to_body (FitsNode (length table.nodes)) to_line_is (λ n fits'. Lacks-to_body n (omega (arith, fits'.small))) rest t begins none
     is.0.to (claim_text is.0.claim) is.1.fits.to one.1)
 

@@ -76,7 +76,7 @@ pub route_behind : (nodes cost : ℕ) (steps : List ℕ) (at : List Potential) (
 route_behind nodes cost steps at rest behind read ends some =
     let front = route_front cost steps at ++ end_line in
     let parts : route_whole cost steps at rest ≡ front ++ behind =
-      sym (route_is cost steps at rest) ∙ ap (λ (t : List ℕ). route_front cost steps at ++ t) ends ∙ sym (append_assoc (route_front cost steps at) end_line behind) in
+    sym (route_is cost steps at rest) ∙ ap (λ (t : List ℕ). route_front cost steps at ++ t) ends ∙ sym (append_assoc (route_front cost steps at) end_line behind) in
     stuck (IsClaimText nodes) (route_whole cost steps at rest) front behind [] (1 + (length steps + length at) + 1) parts
     (IsLines-append (1 + (length steps + length at)) 1 (route_front cost steps at) end_line (route_lines nodes cost steps at rest read) end_lines)
     (subst (IsClaimText nodes) (sym (append-nil front)) (route_ended nodes cost steps at rest read))
@@ -122,7 +122,7 @@ pub nothing_behind : (nodes : ℕ) (reached rest behind : List ℕ) → NothingR
 nothing_behind nodes reached rest behind read ends some =
     let front = nothing_front reached ++ end_line in
     let parts : nothing_whole reached rest ≡ front ++ behind =
-      sym (nothing_is reached rest) ∙ ap (λ (t : List ℕ). nothing_front reached ++ t) ends ∙ sym (append_assoc (nothing_front reached) end_line behind) in
+    sym (nothing_is reached rest) ∙ ap (λ (t : List ℕ). nothing_front reached ++ t) ends ∙ sym (append_assoc (nothing_front reached) end_line behind) in
     stuck (IsClaimText nodes) (nothing_whole reached rest) front behind [] (1 + length reached + 1) parts
     (IsLines-append (1 + length reached) 1 (nothing_front reached) end_line (nothing_lines nodes reached rest read) end_lines)
     (subst (IsClaimText nodes) (sym (append-nil front)) (nothing_ended nodes reached rest read))

@@ -75,7 +75,7 @@ route_begins nodes cost steps at rest t begins read = record {
   rises = read.rises;
   no_step = no_step_still at read.no_step;
   no_at = HasNone-begins at_line at_body (FitsBehind (FitsPotential nodes) (λ q. q.node) (next_number (λ q. q.node) 0 at)) at_line_is
-    (λ p fits. Lacks-at_body p (small_potential nodes p fits.fits)) rest t begins read.no_at;
+      (λ p fits. Lacks-at_body p (small_potential nodes p fits.fits)) rest t begins read.no_at;
 } where
   no_step_still : (at : List Potential) → HasNone step_line FitsStep (flat_map at_line at ++ rest) → HasNone step_line FitsStep (flat_map at_line at ++ t)
   no_step_still [] none = HasNone-begins step_line step_body FitsStep step_line_is (λ k fits. Lacks-step_body k (omega (arith, fits))) rest t begins none
@@ -109,7 +109,7 @@ route_of nodes cost steps at rest (Route cost' steps' at') read is =
     let one = route_unique cost cost' (flat_map step_line steps ++ (flat_map at_line at ++ rest)) (flat_map step_line steps' ++ (flat_map at_line at' ++ end_line)) read.cost_fits is.fits.cost_fits is.spelled in
     let two = fronts_agree step_line FitsStep step_unique steps steps' (flat_map at_line at ++ rest) (flat_map at_line at' ++ end_line) read.steps_fit is.fits.steps_fit read.no_step (no_step_end at' []) one.1 in
     let three = rising_agree at_line (FitsPotential nodes) (λ q. q.node) (at_unique nodes) 0 at at' rest end_line read.at_fit is.fits.potentials_fit read.rises
-      (rises_from (λ q. q.node) 0 at' is.fits.ascends (λ some. omega arith)) read.no_at (no_at_end nodes []) two.1 in
+    (rises_from (λ q. q.node) 0 at' is.fits.ascends (λ some. omega arith)) read.no_at (no_at_end nodes []) two.1 in
     (route_same cost cost' steps steps' at at' one.0 two.0 three.0, three.1)
 route_of nodes cost steps at rest (Nothing reached) read is = absurd (no_none_route cost _ _ is.spelled)
 
@@ -128,7 +128,7 @@ nothing_begins nodes reached rest t begins read = record {
   fit = read.fit;
   rises = read.rises;
   no_reach = HasNone-begins reach_line reach_body (FitsBehind (FitsNode nodes) (λ n. n) (next_number (λ n. n) 0 reached)) reach_line_is
-    (λ n fits. Lacks-reach_body n (omega (arith, fits.fits.small))) rest t begins read.no_reach;
+      (λ n fits. Lacks-reach_body n (omega (arith, fits.fits.small))) rest t begins read.no_reach;
 }
 
 pub nothing_ends : (nodes : ℕ) (reached rest tail : List ℕ) → NothingRead nodes reached rest → NothingRead nodes reached (end_line ++ tail)
@@ -147,7 +147,7 @@ nothing_of nodes reached rest (Nothing reached') read is =
     let whole = append_cancel_left none_line (flat_map reach_line reached ++ rest) (flat_map reach_line reached' ++ end_line) is.spelled in
     let rises = rises_from (λ n. n) 0 reached' (subst IsStrictlyIncreasing (sym (map_same reached')) is.fits.ascends) (λ some. omega arith) in
     let both = rising_agree reach_line (FitsNode nodes) (λ n. n) (reach_unique nodes) 0 reached reached' rest end_line read.fit is.fits.reached_fit read.rises rises
-      read.no_reach (no_reach_end nodes []) whole in
+    read.no_reach (no_reach_end nodes []) whole in
     (ap (λ (ns : List ℕ). Nothing ns) both.0, both.1)
 
 -- ---- a text is that of at most one claim

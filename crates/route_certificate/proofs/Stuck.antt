@@ -74,7 +74,7 @@ later k n front rest whole tail one both e =
     let split : whole ≡ early ++ late = both.spelled ∙ ap (flat_map line) (sym (take-append-drop k bodies)) ∙ flat_map-append line (take k bodies) (drop k bodies) in
     let count : length (take k bodies) ≡ k = length-take-le k bodies (omega (arith, both.count)) in
     let same = same_bodies one.bodies (take k bodies) rest (late ++ tail) (omega (arith, count, one.count)) one.apart (All-take k bodies both.apart)
-      (ap (λ (t : List ℕ). t ++ rest) (sym one.spelled) ∙ e ∙ ap (λ (t : List ℕ). t ++ tail) split ∙ append_assoc early late tail) in
+    (ap (λ (t : List ℕ). t ++ rest) (sym one.spelled) ∙ e ∙ ap (λ (t : List ℕ). t ++ tail) split ∙ append_assoc early late tail) in
     let fronts : front ≡ early = one.spelled ∙ ap (flat_map line) same.0 in
     record {
       late = late;
@@ -90,30 +90,30 @@ fault_behind Text Rest text front rest end k n parts lines up down ends fault = 
   some = omega (arith, fault.some);
   other = λ is. fault.other (down rest (subst Text parts is));
   before = λ m low less.
-    elim (leb_tells m k) [
-      | inl early ↦ FitsTo-below Text text m k early.1 (record { front = front; rest = rest; more = end; parts = parts; lines = lines; begun = up end ends })
-      | inr late ↦
-        let j : ℕ = m - k in
-        let fits = fault.before j (omega (arith, late.1)) (omega (arith, late.1, less)) in
-        let whole : FitsTo Text text (k + j) = record {
-          front = front ++ fits.front;
-          rest = fits.rest;
-          more = fits.more;
-          parts = parts ∙ ap (λ (t : List ℕ). front ++ t) fits.parts ∙ sym (append_assoc front fits.front fits.rest);
-          lines = IsLines-append k j front fits.front lines fits.lines;
-          begun = subst Text (sym (append_assoc front fits.front fits.more)) (up (fits.front ++ fits.more) fits.begun);
-        } in
-        let same : k + j ≡ m = omega (arith, late.1) in
-        subst (FitsTo Text text) same whole
-    ];
+      elim (leb_tells m k) [
+        | inl early ↦ FitsTo-below Text text m k early.1 (record { front = front; rest = rest; more = end; parts = parts; lines = lines; begun = up end ends })
+        | inr late ↦
+            let j : ℕ = m - k in
+            let fits = fault.before j (omega (arith, late.1)) (omega (arith, late.1, less)) in
+            let whole : FitsTo Text text (k + j) = record {
+              front = front ++ fits.front;
+              rest = fits.rest;
+              more = fits.more;
+              parts = parts ∙ ap (λ (t : List ℕ). front ++ t) fits.parts ∙ sym (append_assoc front fits.front fits.rest);
+              lines = IsLines-append k j front fits.front lines fits.lines;
+              begun = subst Text (sym (append_assoc front fits.front fits.more)) (up (fits.front ++ fits.more) fits.begun);
+            } in
+            let same : k + j ≡ m = omega (arith, late.1) in
+            subst (FitsTo Text text) same whole
+      ];
   here = λ fits.
-    let split = later k n front rest fits.front fits.rest lines fits.lines (sym parts ∙ fits.parts) in
-    fault.here (record {
-      front = split.late;
-      rest = fits.rest;
-      more = fits.more;
-      parts = split.rest_is;
-      lines = split.lines;
-      begun = down (split.late ++ fits.more) (subst Text (ap (λ (t : List ℕ). t ++ fits.more) split.whole_is ∙ append_assoc front split.late fits.more) fits.begun);
-    });
+      let split = later k n front rest fits.front fits.rest lines fits.lines (sym parts ∙ fits.parts) in
+      fault.here (record {
+        front = split.late;
+        rest = fits.rest;
+        more = fits.more;
+        parts = split.rest_is;
+        lines = split.lines;
+        begun = down (split.late ++ fits.more) (subst Text (ap (λ (t : List ℕ). t ++ fits.more) split.whole_is ∙ append_assoc front split.late fits.more) fits.begun);
+      });
 }

@@ -67,7 +67,7 @@ pub text_behind : (text : List ℕ) (nodes : List FeatureId) (links : List Row) 
 text_behind text nodes links rest behind read ends some =
     let front = front_of nodes links ++ end_line in
     let whole : text ≡ front ++ behind =
-      read.parts ∙ sym (front_is nodes links rest) ∙ ap (λ (t : List ℕ). front_of nodes links ++ t) ends ∙ sym (append_assoc (front_of nodes links) end_line behind) in
+    read.parts ∙ sym (front_is nodes links rest) ∙ ap (λ (t : List ℕ). front_of nodes links ++ t) ends ∙ sym (append_assoc (front_of nodes links) end_line behind) in
     next_faulty IsTableText text front behind [] (1 + (length nodes + length links) + 1) whole
     (IsLines-append (1 + (length nodes + length links)) 1 (front_of nodes links) end_line (front_lines text nodes links rest read)
     (IsLines-one (codes "end") (Lacks-test 10 (codes "end") refl)))

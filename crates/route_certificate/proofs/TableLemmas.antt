@@ -92,7 +92,7 @@ table_of text nodes links rest table read is =
     let tail = flat_map link_line table.links ++ end_line in
     let behind = flat_map link_line links ++ rest in
     let whole : flat_map node_line nodes ++ behind ≡ flat_map node_line table.nodes ++ tail =
-      append_cancel_left table_head (flat_map node_line nodes ++ behind) (flat_map node_line table.nodes ++ tail) (sym read.parts ∙ is.spelled) in
+    append_cancel_left table_head (flat_map node_line nodes ++ behind) (flat_map node_line table.nodes ++ tail) (sym read.parts ∙ is.spelled) in
     let split = fronts_split node_line FitsId node_unique nodes table.nodes behind tail read.nodes_fit is.fits.nodes (no_node_behind table.links []) whole in
     let all : AllByRecursion FitsId (nodes ++ split.others) = subst (AllByRecursion FitsId) split.items is.fits.nodes in
     let few : length (nodes ++ split.others) ≤ 400000 = subst (λ (xs : List FeatureId). length xs ≤ 400000) split.items is.fits.count in
@@ -129,5 +129,11 @@ link_some row = omega (arith, length-append (link_body row) (10 ∷ []))
 
 pub few_links : (text : List ℕ) (nodes : List FeatureId) (links : List Row) (rest : List ℕ) → TableRead text nodes links rest → length text < 2 ^ 32 → length links < 2 ^ 32
 few_links text nodes links rest read small =
-    omega (arith, ap (length {A = ℕ}) read.parts, length-append table_head (flat_map node_line nodes ++ (flat_map link_line links ++ rest)),
-    length-append (flat_map node_line nodes) (flat_map link_line links ++ rest), length-append (flat_map link_line links) rest, length-flat_map-le link_line link_some links)
+    omega (
+      arith,
+      ap (length {A = ℕ}) read.parts,
+      length-append table_head (flat_map node_line nodes ++ (flat_map link_line links ++ rest)),
+      length-append (flat_map node_line nodes) (flat_map link_line links ++ rest),
+      length-append (flat_map link_line links) rest,
+      length-flat_map-le link_line link_some links,
+    )

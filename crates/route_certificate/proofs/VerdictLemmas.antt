@@ -27,9 +27,9 @@ pub holds_more : (Holds : Row → Type 0) (links : List Row) (n : ℕ) (d : Row)
 holds_more Holds links n d before here k row less is =
     elim (leb_tells n k) [
       | inl past ↦
-        let at : k ≡ n = omega (arith, past.1, less) in
-        let same : get_or links n d ≡ row = get_or_from_slice_get links n row d (subst (λ (i : ℕ). slice_get links i ≡ Some row) at is) in
-        subst Holds same here
+          let at : k ≡ n = omega (arith, past.1, less) in
+          let same : get_or links n d ≡ row = get_or_from_slice_get links n row d (subst (λ (i : ℕ). slice_get links i ≡ Some row) at is) in
+          subst Holds same here
       | inr under ↦ before k row (omega (arith, under.1)) is
     ]
 
@@ -71,7 +71,7 @@ route_proves links from to cost steps at judged =
       of.walk,
       of.are,
       certifies_least links_read (Contains links) from to cost (potential potentials_read cost at) of.walk
-      (record { starts = profile.start; ends = profile.finish; links = judged.1 }) of.leads of.costs,
+          (record { starts = profile.start; ends = profile.finish; links = judged.1 }) of.leads of.costs,
     )
 
 pub nothing_proves : (links : List Row) (from to : ℕ) (reached : List ℕ) → IsNothingJudged links from to reached Proved → IsTrueClaim links from to (Nothing reached)

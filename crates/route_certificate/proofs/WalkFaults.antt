@@ -90,7 +90,7 @@ pub text_behind : (text : List ℕ) (table : Table) (from : ℕ) (steps rest beh
 text_behind text table from steps rest behind read ends some =
     let front = front_of from steps ++ end_line in
     let whole : text ≡ front ++ behind =
-      read.parts ∙ sym (front_is from steps rest) ∙ ap (λ (t : List ℕ). front_of from steps ++ t) ends ∙ sym (append_assoc (front_of from steps) end_line behind) in
+    read.parts ∙ sym (front_is from steps rest) ∙ ap (λ (t : List ℕ). front_of from steps ++ t) ends ∙ sym (append_assoc (front_of from steps) end_line behind) in
     next_faulty (IsWalkTextOver table) text front behind [] (1 + (1 + length steps) + 1) whole
     (IsLines-append (1 + (1 + length steps)) 1 (front_of from steps) end_line (front_lines text (length table.nodes) from steps rest read)
     (IsLines-one (codes "end") (Lacks-test 10 (codes "end") refl)))

@@ -78,5 +78,11 @@ step_some k = omega (arith, length-append (step_body k) (10 ∷ []))
 
 pub few_steps : (text : List ℕ) (nodes from : ℕ) (steps rest : List ℕ) → WalkRead text nodes from steps rest → length text < 2 ^ 32 → length steps < 2 ^ 32
 few_steps text nodes from steps rest read small =
-    omega (arith, ap (length {A = ℕ}) read.parts, length-append walk_head (from_line from ++ (flat_map step_line steps ++ rest)),
-    length-append (from_line from) (flat_map step_line steps ++ rest), length-append (flat_map step_line steps) rest, length-flat_map-le step_line step_some steps)
+    omega (
+      arith,
+      ap (length {A = ℕ}) read.parts,
+      length-append walk_head (from_line from ++ (flat_map step_line steps ++ rest)),
+      length-append (from_line from) (flat_map step_line steps ++ rest),
+      length-append (flat_map step_line steps) rest,
+      length-flat_map-le step_line step_some steps,
+    )

@@ -11,6 +11,8 @@ mod pricing;
 mod table;
 mod table_lines;
 mod tables;
+#[cfg(test)]
+mod tests;
 mod verifying;
 mod walk_lines;
 mod walks;

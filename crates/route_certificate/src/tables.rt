@@ -12,7 +12,8 @@ use std::alloc::Global;
 use text_forms::after;
 use venue_types::{Bytes, List, OutOfMemory};
 
-/// The table whose text this is, in one pass over the text.
+/// The table whose text this is, in one pass over the text. It takes 16 bytes a node and 32 a link, and while it
+/// reads up to twice as much.
 ///
 /// A fault names the first line, from 1, such that no table's text begins with the lines up to it.
 pub fn read_table(alloc: Global, text: &[u8]) -> Result<Table, FormFault>
@@ -37,7 +38,7 @@ pub fn read_table(alloc: Global, text: &[u8]) -> Result<Table, FormFault>
     }
 }
 
-/// The one text of a table.
+/// The one text of a table, which reads back to it.
 pub fn write_table(alloc: Global, table: &Table) -> Result<Bytes, OutOfMemory>
     requires { FitsTable table.now }
     ensures { IfOk result (λ bytes. bytes ≡ table_text table.now) }

@@ -4,7 +4,7 @@ use Rattle.std.specs.List.{flat_map, AllByRecursion}
 use Rattle.text_forms.specs.Lines.{line}
 use Rattle.text_forms.specs.Fronts.{Lacks, IsCut, HasNone}
 use Rattle.text_forms.specs.Faults.{IsLines, FitsTo, IsFaultLine}
-use Rattle.text_forms.proofs.LineLemmas.{line_front, lines_unique, same_line}
+use Rattle.text_forms.proofs.LineLemmas.{line_front, lines_unique}
 
 append_nil : (xs : List ℕ) → xs ++ [] ≡ xs
 append_nil [] = refl

@@ -1,8 +1,8 @@
 -- Cuts and fronts are unique.
-use Rattle.std.proofs.Common.{◌≡◌, ℕ, ◌+◌, ◌<◌, ◌≤◌, zero, suc, List, [], ◌∷◌, ◌++◌, length, refl, sym, ap, ◌∙◌, append_assoc, arith, take, get_or}
+use Rattle.std.proofs.Common.{◌≡◌, ℕ, ◌+◌, ◌<◌, ◌≤◌, List, [], ◌∷◌, ◌++◌, length, refl, sym, ap, ◌∙◌, append_assoc, arith, take, get_or}
 use Rattle.std.proofs.lemmas.List.{take_more, length-append}
 use Rattle.std.specs.List.{flat_map, AllByRecursion}
-use Rattle.text_forms.specs.Fronts.{Lacks, HasNone}
+use Rattle.text_forms.specs.Fronts.{Lacks, HasNone, IsUnique, IsFront}
 
 pub Lacks-append : (stop : ℕ) (xs ys : List ℕ) → Lacks stop xs → Lacks stop ys → Lacks stop (xs ++ ys)
 Lacks-append stop [] ys p q = q
@@ -30,10 +30,6 @@ cut_unique stop (c ∷ a) x (d ∷ b) y p q e =
     let rest = cut_unique stop a x b y p.1 q.1 (tail_same c d (a ++ stop ∷ x) (b ++ stop ∷ y) e) in
     let heads : c ≡ d = head_same c d (a ++ stop ∷ x) (b ++ stop ∷ y) e in
     (ap (λ (h : ℕ). h ∷ a) heads ∙ ap (λ (t : List ℕ). d ∷ t) rest.0, rest.1)
-
--- items are spelled so that neither begins the other
-abbrev pub IsUnique : {X : Type 0} → (X → List ℕ) → (X → Type 0) → Type 0
-IsUnique {X} spelling Fits = (x y : X) (a b : List ℕ) → Fits x → Fits y → spelling x ++ a ≡ spelling y ++ b → (x ≡ y) × (a ≡ b)
 
 -- the items that a text begins with are the first of those that it spells before a rest without one
 pub record Splits {X : Type 0} (spelling : X → List ℕ) (xs ys : List X) (rest tail : List ℕ) : Type 0 where
@@ -72,15 +68,9 @@ fronts_agree {X} spelling Fits unique (x ∷ xs) (y ∷ ys) rest tail p q none n
     let others = fronts_agree spelling Fits unique xs ys rest tail p.1 q.1 none none' one.1 in
     (ap (λ (h : X). h ∷ xs) one.0 ∙ ap (λ (t : List X). y ∷ t) others.0, others.1)
 
--- one more item at the end
-pub All-push : {X : Type 0} (P : X → Type 0) (xs : List X) (x : X) → AllByRecursion P xs → P x → AllByRecursion P (xs ++ x ∷ [])
-All-push P [] x p q = (q, tt)
-All-push P (y ∷ xs) x p q = (p.0, All-push P xs x p.1 q)
-
-pub flat_map-push : {X : Type 0} (f : X → List ℕ) (xs : List X) (x : X) (more : List ℕ) → flat_map f (xs ++ x ∷ []) ++ more ≡ flat_map f xs ++ (f x ++ more)
-flat_map-push f [] x more = append_assoc (f x) [] more
-flat_map-push f (y ∷ xs) x more =
-    append_assoc (f y) (flat_map f (xs ++ x ∷ [])) more ∙ ap (λ (t : List ℕ). f y ++ t) (flat_map-push f xs x more) ∙ sym (append_assoc (f y) (flat_map f xs) (f x ++ more))
+pub one_front : {X : Type 0} (spelling : X → List ℕ) (Fits : X → Type 0) → IsUnique spelling Fits → (xs ys : List X) (text rest tail : List ℕ)
+    → IsFront spelling Fits xs text rest → IsFront spelling Fits ys text tail → (xs ≡ ys) × (rest ≡ tail)
+one_front spelling Fits unique xs ys text rest tail p q = fronts_agree spelling Fits unique xs ys rest tail p.fit q.fit p.all q.all (sym p.parts ∙ q.parts)
 
 -- a loop over the bytes takes one more
 pub Lacks_more : (stop : ℕ) (xs : List ℕ) (i : ℕ) → i < length xs → Lacks stop (take i xs) → (get_or xs i 0 ≡ stop → ⊥) → Lacks stop (take (i + 1) xs)

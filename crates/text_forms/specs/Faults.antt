@@ -1,5 +1,5 @@
 -- Where a text of lines stops being of a form.
-use Rattle.std.specs.Prelude.{◌≡◌, ℕ, ◌+◌, ◌<◌, List, ◌++◌, length}
+use Rattle.std.specs.Prelude.{◌≡◌, ℕ, ◌<◌, List, ◌++◌, length}
 use Rattle.std.specs.List.{flat_map, AllByRecursion}
 use Rattle.text_forms.specs.Lines.{line}
 use Rattle.text_forms.specs.Fronts.{Lacks}

@@ -21,3 +21,7 @@ pub record IsFront {X : Type 0} (spelling : X → List ℕ) (Fits : X → Type 0
   pub parts : text ≡ flat_map spelling items ++ rest
   pub fit : AllByRecursion Fits items
   pub all : HasNone spelling Fits rest
+
+-- items are spelled so that no spelling begins another's
+abbrev pub IsUnique : {X : Type 0} → (X → List ℕ) → (X → Type 0) → Type 0
+IsUnique {X} spelling Fits = (x y : X) (a b : List ℕ) → Fits x → Fits y → spelling x ++ a ≡ spelling y ++ b → (x ≡ y) × (a ≡ b)

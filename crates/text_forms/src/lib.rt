@@ -4,7 +4,9 @@
 mod cuts;
 mod laws;
 mod numbers;
+#[cfg(test)]
+mod tests;
 
 pub use cuts::{after, cut_at};
-pub use laws::{Form, fault_line_law};
+pub use laws::{Form, Spelled, fault_line_law, front_law};
 pub use numbers::{number, number_word, push_number};

@@ -47,5 +47,5 @@ is_verified None files' base text status judged table judged' answer verdict sam
 is_verified (Some fs) files' base text status judged table judged' answer verdict same told is told' is' found printed ends =
     let read = told_before (λ gs. IsJudged (AnswerForm table) answer_limit (file_at gs base answer_name) judged') fs files' same told' in
     let whole : VerifyOutput fs base (verdict_text verdict) (verdict_status verdict) = verified table answer verdict (reads IsTable links_limit (file_at fs base links_name) judged table told is)
-      (reads (AnswerForm table) answer_limit (file_at fs base answer_name) judged' answer read is') found in
+    (reads (AnswerForm table) answer_limit (file_at fs base answer_name) judged' answer read is') found in
     subst (VerifyOutput fs base text) (sym ends) (subst (λ (t : List ℕ). VerifyOutput fs base t (verdict_status verdict)) (sym printed) whole)

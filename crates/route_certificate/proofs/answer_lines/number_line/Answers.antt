@@ -32,7 +32,7 @@ returns-else-low-found-clause-none c = λ n more fits e.
     let same = same_line c.args.text.now c.in_ok-body.body.now c.in_ok-body.rest.now (c.args.front.now ++ decimal n) more c.in_ok-body.ensures.found lacks e in
     let number = c.in_ok-found.ensures.found in
     let is : c.in_ok-found.found ≡ n = decimal_injective c.in_ok-found.found n number.1 small
-      (sym number.0 ∙ append_cancel_left c.args.front.now c.in_ok-after.field-0.now (decimal n) (sym c.in_ok-after.ensures.found ∙ same.0)) in
+    (sym number.0 ∙ append_cancel_left c.args.front.now c.in_ok-after.field-0.now (decimal n) (sym c.in_ok-after.ensures.found ∙ same.0)) in
     elim c.else-low-found.branch [
       | else-low-found-via-then-low-found+else-found-below w ↦ omega (arith, is, fits.most)
       | else-low-found-via-else-low-found w ↦ omega (arith, is, fits.least)

@@ -37,7 +37,7 @@ returns-in-Missing-clause-fault c = λ n is.
       line = 1 + length reached + 1;
       behind = omega (arith, named {T = Claim} _ n is, c.len.ensures, c.in_ok-reached.reached.ok.0);
       fault = subst (λ (t : List ℕ). IsFaultLine (IsClaimText c.args.nodes) (none_line ++ t) (1 + length reached + 1)) (sym c.in_ok-reached.ensures.parts)
-        (no_nothing_end c.args.nodes reached rest (nothing_read c.args.nodes reached text rest c.in_ok-reached.ensures) c.in-Missing.ensures);
+          (no_nothing_end c.args.nodes reached rest (nothing_read c.args.nodes reached text rest c.in_ok-reached.ensures) c.in-Missing.ensures);
     }
 
 pub returns-in-TextBehind-clause-fault : goal.returns-in-TextBehind-clause-fault
@@ -50,5 +50,5 @@ returns-in-TextBehind-clause-fault c = λ n is.
       line = 1 + length reached + 1 + 1;
       behind = omega (arith, named {T = Claim} _ n is, c.len.ensures, c.in_ok-reached.reached.ok.0);
       fault = subst (λ (t : List ℕ). IsFaultLine (IsClaimText c.args.nodes) (none_line ++ t) (1 + length reached + 1 + 1)) (sym c.in_ok-reached.ensures.parts)
-        (nothing_behind c.args.nodes reached rest behind.0 (nothing_read c.args.nodes reached text rest c.in_ok-reached.ensures) behind.1 behind.2);
+          (nothing_behind c.args.nodes reached rest behind.0 (nothing_read c.args.nodes reached text rest c.in_ok-reached.ensures) behind.1 behind.2);
     }

@@ -50,7 +50,7 @@ returns-in-Missing-clause-fault c = λ n is.
       line = 1 + (length steps + length at) + 1;
       behind = omega (arith, named {T = Claim} _ n is, c.len.ensures, c.len-2.ensures, c.in_ok-steps.steps.ok.0, c.in_ok-at.at.ok.0);
       fault = subst (λ (t : List ℕ). IsFaultLine (IsClaimText c.args.nodes) t (1 + (length steps + length at) + 1)) (sym parts)
-        (no_route_end c.args.nodes c.args.cost steps at rest read c.in-Missing.ensures);
+          (no_route_end c.args.nodes c.args.cost steps at rest read c.in-Missing.ensures);
     }
 
 pub returns-in-TextBehind-clause-fault : goal.returns-in-TextBehind-clause-fault
@@ -66,5 +66,5 @@ returns-in-TextBehind-clause-fault c = λ n is.
       line = 1 + (length steps + length at) + 1 + 1;
       behind = omega (arith, named {T = Claim} _ n is, c.len.ensures, c.len-2.ensures, c.in_ok-steps.steps.ok.0, c.in_ok-at.at.ok.0);
       fault = subst (λ (t : List ℕ). IsFaultLine (IsClaimText c.args.nodes) t (1 + (length steps + length at) + 1 + 1)) (sym parts)
-        (route_behind c.args.nodes c.args.cost steps at rest behind.0 read behind.1 behind.2);
+          (route_behind c.args.nodes c.args.cost steps at rest behind.0 read behind.1 behind.2);
     }

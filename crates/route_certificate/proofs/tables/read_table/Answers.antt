@@ -25,7 +25,7 @@ returns-in-Missing-clause-fault c = λ n is.
     let count : c.len.result ≡ length nodes = omega (arith, c.len.ensures, c.in_ok-nodes.nodes.ok.0) in
     let read = table_read c.args.text.now c.in-Some.rest.now c.in_ok-nodes.rest.now c.in_ok-links.rest.now nodes links c.len.result c.in-Some.ensures.found c.in_ok-nodes.ensures count c.in_ok-links.ensures in
     let line : 1 + (length nodes + length links) + 1 ≡ n =
-      omega (arith, named {T = Table} _ n is, c.len-2.ensures, c.len-3.ensures, c.in_ok-nodes.nodes.ok.0, c.in_ok-links.links.ok.0) in
+    omega (arith, named {T = Table} _ n is, c.len-2.ensures, c.len-3.ensures, c.in_ok-nodes.nodes.ok.0, c.in_ok-links.links.ok.0) in
     subst (IsFaultLine IsTableText c.args.text.now) line (no_end c.args.text.now nodes links c.in_ok-links.rest.now read c.in-Missing.ensures)
 
 pub returns-in-TextBehind-clause-fault : goal.returns-in-TextBehind-clause-fault
@@ -35,6 +35,6 @@ returns-in-TextBehind-clause-fault c = λ n is.
     let count : c.len.result ≡ length nodes = omega (arith, c.len.ensures, c.in_ok-nodes.nodes.ok.0) in
     let read = table_read c.args.text.now c.in-Some.rest.now c.in_ok-nodes.rest.now c.in_ok-links.rest.now nodes links c.len.result c.in-Some.ensures.found c.in_ok-nodes.ensures count c.in_ok-links.ensures in
     let line : 1 + (length nodes + length links) + 1 + 1 ≡ n =
-      omega (arith, named {T = Table} _ n is, c.len-2.ensures, c.len-3.ensures, c.in_ok-nodes.nodes.ok.0, c.in_ok-links.links.ok.0) in
+    omega (arith, named {T = Table} _ n is, c.len-2.ensures, c.len-3.ensures, c.in_ok-nodes.nodes.ok.0, c.in_ok-links.links.ok.0) in
     let behind = c.in-TextBehind.ensures in
     subst (IsFaultLine IsTableText c.args.text.now) line (text_behind c.args.text.now nodes links c.in_ok-links.rest.now behind.0 read behind.1 behind.2)

@@ -6,7 +6,7 @@ returns-in-Route-clause-proof c =
     let table = c.args.table.now in
     let answer = c.args.answer.now in
     let judged = route_judged table.links c.as_slice-links.result.now answer.from answer.to c.in-Route.cost c.in-Route.steps c.as_slice.result.now c.in-Route.at c.as_slice-in-Route.result.now
-      answer.claim c.judge_route.result c.as_slice-links.ensures c.as_slice.ensures c.as_slice-in-Route.ensures c.in-Route.is c.judge_route.ensures in
+    answer.claim c.judge_route.result c.as_slice-links.ensures c.as_slice.ensures c.as_slice-in-Route.ensures c.in-Route.is c.judge_route.ensures in
     claim_proves table.links answer.from answer.to answer.claim c.judge_route.result judged
 
 pub returns-in-Nothing-clause-judged : goal.returns-in-Nothing-clause-judged

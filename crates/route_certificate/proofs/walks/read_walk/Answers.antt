@@ -24,7 +24,7 @@ pub returns-in-Whole-clause-few : goal.returns-in-Whole-clause-few
 returns-in-Whole-clause-few c =
     let first = c.in-Some-next_from.ensures.found in
     let read = walk_read c.args.text.now c.in-Some.rest.now c.in-Some-next_from.rest.now c.in_ok-steps.rest.now c.len.result c.in-Some-next_from.from c.in_ok-steps.steps.items
-      c.in-Some.ensures.found first.0 first.1 c.in_ok-steps.ensures in
+    c.in-Some.ensures.found first.0 first.1 c.in_ok-steps.ensures in
     rw c.from_vec.ensures (few_steps c.args.text.now c.len.result c.in-Some-next_from.from c.in_ok-steps.steps.items c.in_ok-steps.rest.now read c.requires)
 
 pub returns-in-Missing-clause-fault : goal.returns-in-Missing-clause-fault
