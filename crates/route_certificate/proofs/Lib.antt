@@ -6,3 +6,11 @@ pub mod WalkFaults
 pub mod WrittenLemmas
 pub mod PriceLemmas
 pub mod FaultNames
+pub mod AnswerLines
+pub mod RisingFronts
+pub mod VerdictLemmas
+pub mod AnswerWritten
+pub mod Stuck
+pub mod ClaimLemmas
+pub mod ClaimFaults
+pub mod AnswerFaults

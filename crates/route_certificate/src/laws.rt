@@ -3,7 +3,9 @@
 ghost use Rattle.std.specs.Prelude.{◌≡◌, ℕ, List};
 ghost use Rattle.route_certificate.specs.declared.table.Table.{Table};
 ghost use Rattle.route_certificate.specs.declared.table.WalkIn.{WalkIn};
+ghost use Rattle.route_certificate.specs.declared.answer.AnswerIn.{AnswerIn};
 ghost use Rattle.route_certificate.specs.Forms.{IsTable, IsWalkText};
+ghost use Rattle.route_certificate.specs.Answers.{IsAnswerText};
 
 /// A text is the text of at most one table, and a table has at most one text.
 pub fn table_law()
@@ -15,4 +17,10 @@ pub fn table_law()
 pub fn walk_law()
     ensures one_walk { (text : List ℕ) (table : Table) (a b : WalkIn) → IsWalkText text table a → IsWalkText text table b → a ≡ b }
     ensures one_text { (a b : List ℕ) (table : Table) (walk : WalkIn) → IsWalkText a table walk → IsWalkText b table walk → a ≡ b }
+{}
+
+/// A text is the text of at most one answer over a table, and an answer has at most one text.
+pub fn answer_law()
+    ensures one_answer { (text : List ℕ) (table : Table) (a b : AnswerIn) → IsAnswerText text table a → IsAnswerText text table b → a ≡ b }
+    ensures one_text { (a b : List ℕ) (table : Table) (answer : AnswerIn) → IsAnswerText a table answer → IsAnswerText b table answer → a ≡ b }
 {}

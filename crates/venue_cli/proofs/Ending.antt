@@ -9,8 +9,9 @@ use Rattle.venue_cli.specs.declared.answer.Answer.{Answer}
 use Rattle.venue_cli.specs.declared.status.Status.{Status}
 use Rattle.venue_cli.specs.declared.status.Status.TheVariants.{Done, Negative, Wrong, Fault, Memory}
 use Rattle.venue_cli.specs.Steps.{IsPrinted}
-use Rattle.venue_cli.specs.Commands.{Asked, Price, IsBase, IsAsked, words_of}
-use Rattle.venue_cli.specs.Output.{PriceOutput, Output, other_words, answers_price}
+use Rattle.venue_cli.specs.Commands.{Asked, Price, Verify, IsBase, IsAsked, words_of}
+use Rattle.venue_cli.specs.Output.{PriceOutput, Output, other_words, answers_price, answers_verify}
+use Rattle.venue_cli.specs.Verified.{VerifyOutput}
 use Rattle.venue_cli.specs.Ends.{Wrote, Run, Ends}
 
 pub price_told : (words : List (List ℕ)) (files : Option (List StoredFile)) (base : List ℕ) (r : Result Answer ReadFault) → IsBase base → words ≡ words_of (Price base)
@@ -19,9 +20,17 @@ price_told words files base (Err e) is-base is told = tt
 price_told words None base (Ok a) is-base is told = tt
 price_told words (Some fs) base (Ok a) is-base is told = answers_price base is-base is told
 
+pub verify_told : (words : List (List ℕ)) (files : Option (List StoredFile)) (base : List ℕ) (r : Result Answer ReadFault) → IsBase base → words ≡ words_of (Verify base)
+    → IfOk r (λ a. IfSome files (λ fs. VerifyOutput fs base (string_bytes a.text) a.status)) → IfOk r (λ a. IfSome files (λ fs. Output words fs (string_bytes a.text) a.status))
+verify_told words files base (Err e) is-base is told = tt
+verify_told words None base (Ok a) is-base is told = tt
+verify_told words (Some fs) base (Ok a) is-base is told = answers_verify base is-base is told
+
 -- the words ask for nothing
-pub asks_nothing : (words : List (List ℕ)) → ((base : List ℕ) → IsBase base → words ≡ words_of (Price base) → ⊥) → (asked : Asked) → IsAsked asked → words ≡ words_of asked → ⊥
-asks_nothing words no_price (Price base) is-base is = no_price base is-base is
+pub asks_nothing : (words : List (List ℕ)) → ((base : List ℕ) → IsBase base → words ≡ words_of (Price base) → ⊥) → ((base : List ℕ) → IsBase base → words ≡ words_of (Verify base) → ⊥)
+    → (asked : Asked) → IsAsked asked → words ≡ words_of asked → ⊥
+asks_nothing words no_price no_verify (Price base) is-base is = no_price base is-base is
+asks_nothing words no_price no_verify (Verify base) is-base is = no_verify base is-base is
 
 pub other_told : (words : List (List ℕ)) (files : Option (List StoredFile)) (text : List ℕ) → ((asked : Asked) → IsAsked asked → words ≡ words_of asked → ⊥) → text ≡ line (codes "words")
     → IfSome files (λ fs. Output words fs text Wrong)

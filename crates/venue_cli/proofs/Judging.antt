@@ -28,11 +28,11 @@ malformed_stops Form limit (Some fs) base name file v n told is fault =
     let whole : IsLoaded limit (file_at fs base name) (loaded.Whole v) = subst (IsLoaded limit (file_at fs base name)) is told in
     (v.items, whole.0, whole.1, fault)
 
-stops : {X : Type 0} (Form : List ℕ → X → Type 0) (limit : ℕ) (name : List ℕ) (found : Option (List ℕ)) (judged : Result X Cause) (cause : Cause) (text : List ℕ)
+pub stops : {X : Type 0} (Form : List ℕ → X → Type 0) (limit : ℕ) (name : List ℕ) (found : Option (List ℕ)) (judged : Result X Cause) (cause : Cause) (text : List ℕ)
     → IsJudged Form limit found judged → judged ≡ Err cause → text ≡ stop_text name cause → Stops Form limit name found text
 stops Form limit name found judged cause text told is printed = record { cause = cause; why = subst (IsJudged Form limit found) is told; printed = printed }
 
-reads : {X : Type 0} (Form : List ℕ → X → Type 0) (limit : ℕ) (found : Option (List ℕ)) (judged : Result X Cause) (x : X) → IsJudged Form limit found judged → judged ≡ Ok x → Reads Form limit found x
+pub reads : {X : Type 0} (Form : List ℕ → X → Type 0) (limit : ℕ) (found : Option (List ℕ)) (judged : Result X Cause) (x : X) → IsJudged Form limit found judged → judged ≡ Ok x → Reads Form limit found x
 reads Form limit found judged x told is = subst (IsJudged Form limit found) is told
 
 pub stops_at_links : (files : Option (List StoredFile)) (base text : List ℕ) (status : Status) (judged : Result Table Cause) (cause : Cause)

@@ -12,11 +12,17 @@ links_name = codes "links.txt"
 abbrev pub walk_name : List ℕ
 walk_name = codes "walk.txt"
 
+abbrev pub answer_name : List ℕ
+answer_name = codes "answer.txt"
+
 abbrev pub links_limit : ℕ
 links_limit = 268435456
 
 abbrev pub walk_limit : ℕ
 walk_limit = 33554432
+
+abbrev pub answer_limit : ℕ
+answer_limit = 33554432
 
 -- the file is there, within its limit, and is the text of this value
 pub record Reads {X : Type 0} (Form : List ℕ → X → Type 0) (limit : ℕ) (found : Option (List ℕ)) (x : X) : Type 0 where

@@ -1,5 +1,6 @@
 pub mod Files
 pub mod Commands
+pub mod Verified
 pub mod Output
 pub mod Steps
 pub mod Ends

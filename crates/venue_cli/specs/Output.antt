@@ -11,8 +11,9 @@ use Rattle.route_certificate.specs.Forms.{IsTable, IsWalkText}
 use Rattle.route_certificate.specs.Prices.{IsPriced}
 use Rattle.venue_cli.specs.declared.status.Status.{Status}
 use Rattle.venue_cli.specs.declared.status.Status.TheVariants.{Done, Negative, Wrong}
-use Rattle.venue_cli.specs.Commands.{Asked, Price, IsAsked, words_of}
+use Rattle.venue_cli.specs.Commands.{Asked, Price, Verify, IsAsked, words_of}
 use Rattle.venue_cli.specs.Files.{Reads, Stops, links_limit, links_name, walk_limit, walk_name}
+use Rattle.venue_cli.specs.Verified.{VerifyOutput}
 
 -- a walk's text over a table
 abbrev pub WalkForm : Table → List ℕ → WalkIn → Type 0
@@ -39,4 +40,6 @@ pub data PriceOutput (files : List StoredFile) (base : List ℕ) : List ℕ → 
 pub data Output (words : List (List ℕ)) (files : List StoredFile) : List ℕ → Status → Type 0 where
   other_words : ((asked : Asked) → IsAsked asked → words ≡ words_of asked → ⊥) → Output words files (line (codes "words")) Wrong
   answers_price : {text : List ℕ} {status : Status} (base : List ℕ) → IsAsked (Price base) → words ≡ words_of (Price base) → PriceOutput files base text status
+      → Output words files text status
+  answers_verify : {text : List ℕ} {status : Status} (base : List ℕ) → IsAsked (Verify base) → words ≡ words_of (Verify base) → VerifyOutput files base text status
       → Output words files text status

@@ -9,7 +9,8 @@ ghost use Rattle.venue_cli.specs.Steps.{IsPrinted};
 use crate::base::{table_of, walk_of};
 use crate::load::Cause;
 use crate::status::Status;
-use crate::words::price_base;
+use crate::verifying::verify_answer;
+use crate::words::base_of;
 use route_certificate::{Priced, price};
 use std::alloc::{AllocError, Global};
 use venue_ports::{Folders, ReadFault};
@@ -21,8 +22,8 @@ pub(crate) struct Answer {
     pub text: String,
 }
 
-// The answer where a file of the base stops the command.
-fn stopped(alloc: Global, file: &str, cause: Cause) -> Result<Answer, AllocError>
+/// The answer where a file of the base stops the command.
+pub(crate) fn stopped(alloc: Global, file: &str, cause: Cause) -> Result<Answer, AllocError>
     ensures text { IfOk result (λ answer. string_bytes answer.text ≡ stop_text file.now cause) }
     ensures status { IfOk result (λ answer. answer.status ≡ Status.Wrong) }
 {
@@ -83,11 +84,14 @@ pub(crate) fn answer_to<F: Folders>(
     ensures same { F.files folders.new ≡ F.files folders.old }
     ensures cause { HasReadCause (F.faults folders.old) (F.faults folders.new) result }
 {
-    match price_base(words) {
-        Some(base) => price_answer(alloc, base, folders),
-        None => Ok(Answer {
-            status: Status::Wrong,
-            text: String::from_str(alloc, "words\n")?,
-        }),
+    if let Some(base) = base_of(words, "price") {
+        return price_answer(alloc, base, folders);
     }
+    if let Some(base) = base_of(words, "verify") {
+        return verify_answer(alloc, base, folders);
+    }
+    Ok(Answer {
+        status: Status::Wrong,
+        text: String::from_str(alloc, "words\n")?,
+    })
 }

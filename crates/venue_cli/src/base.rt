@@ -3,18 +3,22 @@
 ghost use Rattle.std.specs.Prelude.{◌≡◌, ◌^◌, ◌<◌, length, IfOk, IfSome};
 ghost use Rattle.venue_ports.specs.Files.{file_at, HasReadCause};
 ghost use Rattle.route_certificate.specs.Forms.{IsTable, FitsTable, FitsWalk};
-ghost use Rattle.venue_cli.specs.Files.{links_limit, links_name, walk_limit, walk_name};
+ghost use Rattle.route_certificate.specs.Answers.{FitsAnswer, HasFewSteps};
+ghost use Rattle.venue_cli.specs.Files.{links_limit, links_name, walk_limit, walk_name, answer_limit, answer_name};
 ghost use Rattle.venue_cli.specs.Output.{WalkForm};
+ghost use Rattle.venue_cli.specs.Verified.{AnswerForm};
 ghost use Rattle.venue_cli.specs.Steps.{IsJudged};
 
 use crate::load::{Cause, Loaded, load};
-use route_certificate::{FormFault, Table, WalkIn, read_table, read_walk};
+use route_certificate::{AnswerIn, FormFault, Table, WalkIn, read_answer, read_table, read_walk};
 use std::alloc::Global;
 use venue_ports::{Folders, ReadFault};
 
 const LINKS_LIMIT: u32 = 268_435_456;
 
 const WALK_LIMIT: u32 = 33_554_432;
+
+const ANSWER_LIMIT: u32 = 33_554_432;
 
 /// The table of the base, or why there is none.
 pub(crate) fn table_of<F: Folders>(
@@ -57,6 +61,30 @@ pub(crate) fn walk_of<F: Folders>(
         Loaded::Large => Ok(Err(Cause::Large)),
         Loaded::Whole(bytes) => match read_walk(alloc, bytes.as_slice(), table) {
             Ok(walk) => Ok(Ok(walk)),
+            Err(FormFault::Line(line)) => Ok(Err(Cause::Malformed(line))),
+            Err(FormFault::OutOfMemory) => Err(ReadFault::OutOfMemory),
+        },
+    }
+}
+
+/// The answer of the base over the table, or why there is none.
+pub(crate) fn answer_of<F: Folders>(
+    alloc: Global,
+    base: &str,
+    table: &Table,
+    folders: &mut F,
+) -> Result<Result<AnswerIn, Cause>, ReadFault>
+    ensures told { IfOk result (λ judged. IfSome (F.files folders.old) (λ files. IsJudged (AnswerForm table.now) answer_limit (file_at files base.now answer_name) judged)) }
+    ensures fits { IfOk result (λ judged. IfOk judged (FitsAnswer (length table.now.nodes))) }
+    ensures few { IfOk result (λ judged. IfOk judged (λ answer. HasFewSteps answer.claim)) }
+    ensures same { F.files folders.new ≡ F.files folders.old }
+    ensures cause { HasReadCause (F.faults folders.old) (F.faults folders.new) result }
+{
+    match load(alloc, folders, base, "answer.txt", ANSWER_LIMIT)? {
+        Loaded::Missing => Ok(Err(Cause::Missing)),
+        Loaded::Large => Ok(Err(Cause::Large)),
+        Loaded::Whole(bytes) => match read_answer(alloc, bytes.as_slice(), table) {
+            Ok(answer) => Ok(Ok(answer)),
             Err(FormFault::Line(line)) => Ok(Err(Cause::Malformed(line))),
             Err(FormFault::OutOfMemory) => Err(ReadFault::OutOfMemory),
         },

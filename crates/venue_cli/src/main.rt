@@ -9,6 +9,7 @@ mod running;
 mod status;
 #[cfg(test)]
 mod tests;
+mod verifying;
 mod words;
 
 pub use running::run;

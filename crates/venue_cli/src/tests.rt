@@ -19,24 +19,37 @@ const ZERO: &str =
 
 const WALK: &str = "imdf-walk 1\nfrom 0\nstep 0\nstep 1\nend\n";
 
-// What lies below the base, which read fails, and what is then printed, with which status.
+// The command, what lies below the base, which read fails, and what is then printed, with which status.
 #[derive(Clone, Copy)]
 struct Case<'a> {
+    command: &'a str,
     links: &'a str,
     walk: &'a str,
+    answer: &'a str,
     failing: u64,
     text: &'a str,
     status: Status,
 }
 
-// A case in which every file is there and no read fails; an empty text stands for a file that is not there.
+// A walk that is priced, where no read fails; an empty text stands for a file that is not there.
 fn over<'a>(links: &'a str, walk: &'a str, text: &'a str, status: Status) -> Case<'a> {
     Case {
+        command: "price",
         links,
         walk,
+        answer: "",
         failing: 0,
         text,
         status,
+    }
+}
+
+// An answer that is verified.
+fn about<'a>(links: &'a str, answer: &'a str, text: &'a str, status: Status) -> Case<'a> {
+    Case {
+        command: "verify",
+        answer,
+        ..over(links, "", text, status)
     }
 }
 
@@ -63,6 +76,7 @@ fn ends(
     let mut files = Vec::new(alloc);
     add(alloc, &mut files, "links.txt", case.links)?;
     add(alloc, &mut files, "walk.txt", case.walk)?;
+    add(alloc, &mut files, "answer.txt", case.answer)?;
     let failing = Vec::from_slice(alloc, &[case.failing])?;
     let folders = MemoryFolders::new(files, failing).expect(rt, "folders");
     let doors = QuietDoors::new(alloc, Vec::new(alloc)).expect(rt, "doors");
@@ -93,7 +107,7 @@ fn console(
 }
 
 #[test]
-fn walks_are_priced(rt: HostRuntime) -> Result<(), Fail> {
+fn commands_answer(rt: HostRuntime) -> Result<(), Fail> {
     let alloc = rt.alloc();
     for case in [
         over(TABLE, WALK, "cost 833\n", Status::Done),
@@ -162,6 +176,91 @@ fn walks_are_priced(rt: HostRuntime) -> Result<(), Fail> {
         over(NODE, WALK, "form links.txt 3\n", Status::Wrong),
         over(LINK, WALK, "form links.txt 3\n", Status::Wrong),
         over(ZERO, WALK, "form links.txt 3\n", Status::Wrong),
+        about(
+            TABLE,
+            "imdf-answer 1\nfrom 0\nto 2\nroute 833\nstep 0\nstep 1\nat 0 0\nat 1 633\nend\n",
+            "proved\n",
+            Status::Done,
+        ),
+        about(
+            TABLE,
+            "imdf-answer 1\nfrom 0\nto 2\nroute 833\nstep 0\nstep 1\nat 0 0\nat 1 634\nend\n",
+            "fails link 0\n",
+            Status::Negative,
+        ),
+        about(
+            TABLE,
+            "imdf-answer 1\nfrom 0\nto 2\nroute 833\nstep 0\nstep 1\nat 0 0\nat 1 632\nend\n",
+            "fails link 1\n",
+            Status::Negative,
+        ),
+        about(
+            TABLE,
+            "imdf-answer 1\nfrom 0\nto 2\nroute 834\nstep 0\nstep 1\nat 0 0\nat 1 633\nend\n",
+            "fails sum\n",
+            Status::Negative,
+        ),
+        about(
+            TABLE,
+            "imdf-answer 1\nfrom 0\nto 2\nroute 833\nstep 0\nstep 0\nat 0 0\nat 1 633\nend\n",
+            "fails step 2\n",
+            Status::Negative,
+        ),
+        about(
+            TABLE,
+            "imdf-answer 1\nfrom 0\nto 1\nroute 833\nstep 0\nstep 1\nat 0 0\nat 1 633\nend\n",
+            "fails end\n",
+            Status::Negative,
+        ),
+        about(
+            TABLE,
+            "imdf-answer 1\nfrom 0\nto 2\nroute 833\nstep 0\nstep 1\nat 1 633\nend\n",
+            "fails start\n",
+            Status::Negative,
+        ),
+        about(
+            TABLE,
+            "imdf-answer 1\nfrom 0\nto 2\nroute 833\nstep 0\nstep 1\nat 0 0\nat 1 633\nat 2 832\nend\n",
+            "fails finish\n",
+            Status::Negative,
+        ),
+        about(
+            TABLE,
+            "imdf-answer 1\nfrom 2\nto 0\nnone\nreach 2\nend\n",
+            "proved\n",
+            Status::Done,
+        ),
+        about(
+            TABLE,
+            "imdf-answer 1\nfrom 2\nto 0\nnone\nreach 1\nend\n",
+            "fails start\n",
+            Status::Negative,
+        ),
+        about(
+            TABLE,
+            "imdf-answer 1\nfrom 2\nto 0\nnone\nreach 0\nreach 2\nend\n",
+            "fails finish\n",
+            Status::Negative,
+        ),
+        about(
+            TABLE,
+            "imdf-answer 1\nfrom 1\nto 0\nnone\nreach 1\nend\n",
+            "fails link 1\n",
+            Status::Negative,
+        ),
+        about(
+            TABLE,
+            "imdf-answer 1\nfrom 0\nto 2\nroute 833\nstep 0\nstep 1\nat 0 0\nat 0 0\nend\n",
+            "form answer.txt 8\n",
+            Status::Wrong,
+        ),
+        about(
+            "imdf-links 1\nend\n",
+            "imdf-answer 1\nfrom 0\n",
+            "form answer.txt 1\n",
+            Status::Wrong,
+        ),
+        about(TABLE, "", "missing answer.txt\n", Status::Wrong),
         Case {
             failing: 1,
             ..over(TABLE, WALK, "fault folder\n", Status::Fault)
@@ -176,7 +275,7 @@ fn walks_are_priced(rt: HostRuntime) -> Result<(), Fail> {
         },
     ] {
         let mut console = console(&rt, alloc, 100, 0)?;
-        let status = ends(&rt, alloc, &["price", "base"], case, &mut console)?;
+        let status = ends(&rt, alloc, &[case.command, "base"], case, &mut console)?;
         assert_eq!(rt;
             console.written(),
             case.text.as_bytes(),

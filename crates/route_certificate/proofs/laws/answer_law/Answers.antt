@@ -1,0 +1,5 @@
+use Rattle.route_certificate.proofs.AnswerFaults.{one_answer}
+use Rattle.route_certificate.proofs.laws.answer_law.Goals as goal
+
+pub returns-clause-one_answer : goal.returns-clause-one_answer
+returns-clause-one_answer c = one_answer

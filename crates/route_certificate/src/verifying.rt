@@ -1,0 +1,157 @@
+//! Whether an answer proves its claim.
+
+ghost use Rattle.std.specs.Prelude.{◌≡◌, ℕ, ◌^◌, ◌<◌, ◌≤◌, length, IfSome, IfNone, IsTrue, ◌↔◌, map};
+ghost use Rattle.std.specs.List.{AllByRecursion};
+ghost use Rattle.std.specs.List.Sorted.{IsStrictlyIncreasing};
+ghost use Rattle.walk_laws.specs.Certificates.{potential, Ascends};
+ghost use Rattle.route_certificate.specs.Forms.{FitsTable};
+ghost use Rattle.route_certificate.specs.Answers.{FitsAnswer, HasFewSteps, potentials_read};
+ghost use Rattle.route_certificate.specs.Verdicts.{IsGentle, IsClosed, HoldsOfLinks, FailsFirstAt, IsRouteJudged, IsNothingJudged, IsJudged, IsTrueAnswer};
+
+use crate::answer::{AnswerIn, Claim, Place, Verdict};
+use crate::pricing::{Followed, follow};
+use crate::table::{Row, Table};
+use venue_types::Potential;
+use walk_laws::{has_node, rises_within};
+
+// The potential of a node: its own, or the cost where it has none.
+fn potential_of(at: &[Potential], cost: u64, node: u32) -> u64
+    requires { Ascends potentials_read at.now }
+    ensures { result ≡ potential potentials_read cost at.now node }
+{
+    match at.binary_search_by_key(&node, |p| p.node) {
+        Ok(place) => at[place].value,
+        Err(_) => cost,
+    }
+}
+
+// Whether the potential rises along a link by no more than its cost.
+fn is_gentle(at: &[Potential], cost: u64, row: Row) -> bool
+    requires { Ascends potentials_read at.now }
+    ensures { IsTrue result ↔ IsGentle cost at.now row }
+{
+    let start = potential_of(at, cost, row.from);
+    let end = potential_of(at, cost, row.to);
+    rises_within(start, end, row.cost)
+}
+
+// Whether a link does not leave what is reached.
+fn is_closed(reached: &[u32], row: Row) -> bool
+    requires { IsStrictlyIncreasing reached.now }
+    ensures { IsTrue result ↔ IsClosed reached.now row }
+{
+    !has_node(reached, row.from) || has_node(reached, row.to)
+}
+
+// The first link along which the potential rises by more than the cost.
+fn first_steep(links: &[Row], at: &[Potential], cost: u64) -> Option<u32>
+    requires few { length links.now < 2 ^ 32 }
+    requires ascends { Ascends potentials_read at.now }
+    ensures found { IfSome result (FailsFirstAt (IsGentle cost at.now) links.now) }
+    ensures none { IfNone result (HoldsOfLinks (IsGentle cost at.now) links.now) }
+{
+    for (place, row) in links.iter().enumerate() {
+        if !is_gentle(at, cost, *row) {
+            return Some(place as u32);
+        }
+    }
+    None
+}
+
+// The first link that leaves what is reached.
+fn first_leaving(links: &[Row], reached: &[u32]) -> Option<u32>
+    requires few { length links.now < 2 ^ 32 }
+    requires ascends { IsStrictlyIncreasing reached.now }
+    ensures found { IfSome result (FailsFirstAt (IsClosed reached.now) links.now) }
+    ensures none { IfNone result (HoldsOfLinks (IsClosed reached.now) links.now) }
+{
+    for (place, row) in links.iter().enumerate() {
+        if !is_closed(reached, *row) {
+            return Some(place as u32);
+        }
+    }
+    None
+}
+
+// The clauses of a route, in order.
+fn judge_route(
+    links: &[Row],
+    from: u32,
+    to: u32,
+    cost: u64,
+    steps: &[u32],
+    at: &[Potential],
+) -> Verdict
+    requires links { length links.now < 2 ^ 32 }
+    requires costs { AllByRecursion (λ row. row.cost ≤ 6700000) links.now }
+    requires steps { length steps.now < 2 ^ 32 }
+    requires ascends { Ascends potentials_read at.now }
+    ensures { IsRouteJudged links.now from to cost steps.now at.now result }
+{
+    let (end, sum) = match follow(links, from, steps) {
+        Followed::To { end, sum } => (end, sum),
+        Followed::Broken(step) => return Verdict::Fails(Place::Step(step)),
+    };
+    if end != to {
+        return Verdict::Fails(Place::End);
+    }
+    if sum != cost {
+        return Verdict::Fails(Place::Sum);
+    }
+    if potential_of(at, cost, from) != 0 {
+        return Verdict::Fails(Place::Start);
+    }
+    if potential_of(at, cost, to) != cost {
+        return Verdict::Fails(Place::Finish);
+    }
+    match first_steep(links, at, cost) {
+        Some(link) => Verdict::Fails(Place::Link(link)),
+        None => Verdict::Proved,
+    }
+}
+
+// The clauses where there is no walk, in order.
+fn judge_nothing(links: &[Row], from: u32, to: u32, reached: &[u32]) -> Verdict
+    requires links { length links.now < 2 ^ 32 }
+    requires ascends { IsStrictlyIncreasing reached.now }
+    ensures { IsNothingJudged links.now from to reached.now result }
+{
+    if !has_node(reached, from) {
+        return Verdict::Fails(Place::Start);
+    }
+    if has_node(reached, to) {
+        return Verdict::Fails(Place::Finish);
+    }
+    match first_leaving(links, reached) {
+        Some(link) => Verdict::Fails(Place::Link(link)),
+        None => Verdict::Proved,
+    }
+}
+
+/// Whether an answer over the table proves its claim, or else the first clause that it does not keep.
+///
+/// The time is that of a search among the listed nodes for each end of each link: links times the logarithm of the
+/// listed nodes. No memory is taken.
+pub fn verify(table: &Table, answer: &AnswerIn) -> Verdict
+    requires table { FitsTable table.now }
+    requires answer { FitsAnswer (length table.now.nodes) answer.now }
+    requires links { length table.now.links < 2 ^ 32 }
+    requires steps { HasFewSteps answer.now.claim }
+    ensures judged { IsJudged table.now answer.now result }
+    ensures proof { result ≡ Verdict.Proved → IsTrueAnswer table.now answer.now }
+{
+    let links = table.links.as_slice();
+    match &answer.claim {
+        Claim::Route { cost, steps, at } => judge_route(
+            links,
+            answer.from,
+            answer.to,
+            *cost,
+            steps.as_slice(),
+            at.as_slice(),
+        ),
+        Claim::Nothing { reached } => {
+            judge_nothing(links, answer.from, answer.to, reached.as_slice())
+        }
+    }
+}

@@ -1,0 +1,66 @@
+//! The command `verify`.
+
+ghost use Rattle.std.specs.Prelude.{◌≡◌, IfOk, IfSome, string_bytes};
+ghost use Rattle.venue_ports.specs.Files.{HasReadCause};
+ghost use Rattle.venue_cli.specs.Verified.{place_text, verdict_text, verdict_status, VerifyOutput};
+ghost use Rattle.venue_cli.specs.Steps.{IsPrinted};
+
+use crate::answer::{Answer, stopped};
+use crate::base::{answer_of, table_of};
+use crate::status::Status;
+use route_certificate::{Place, Verdict, verify};
+use std::alloc::{AllocError, Global};
+use venue_ports::{Folders, ReadFault};
+
+// What is printed where an answer fails.
+fn fails(alloc: Global, place: Place) -> Result<String, AllocError>
+    ensures { IfOk result (λ text. string_bytes text ≡ place_text place) }
+{
+    match place {
+        Place::Step(step) => format!(in alloc; "fails step {step}\n"),
+        Place::End => String::from_str(alloc, "fails end\n"),
+        Place::Sum => String::from_str(alloc, "fails sum\n"),
+        Place::Start => String::from_str(alloc, "fails start\n"),
+        Place::Finish => String::from_str(alloc, "fails finish\n"),
+        Place::Link(link) => format!(in alloc; "fails link {link}\n"),
+    }
+}
+
+// The answer where the answer of the base is judged.
+fn judged(alloc: Global, verdict: Verdict) -> Result<Answer, AllocError>
+    ensures text { IfOk result (λ answer. string_bytes answer.text ≡ verdict_text verdict) }
+    ensures status { IfOk result (λ answer. answer.status ≡ verdict_status verdict) }
+{
+    match verdict {
+        Verdict::Proved => Ok(Answer {
+            status: Status::Done,
+            text: String::from_str(alloc, "proved\n")?,
+        }),
+        Verdict::Fails(place) => Ok(Answer {
+            status: Status::Negative,
+            text: fails(alloc, place)?,
+        }),
+    }
+}
+
+/// The answer to `verify BASE`.
+pub(crate) fn verify_answer<F: Folders>(
+    alloc: Global,
+    base: &str,
+    folders: &mut F,
+) -> Result<Answer, ReadFault>
+    ensures told { IfOk result (λ answer. IfSome (F.files folders.old) (λ files. VerifyOutput files base.now (string_bytes answer.text) answer.status)) }
+    ensures plain { IfOk result (λ answer. IsPrinted answer.status) }
+    ensures same { F.files folders.new ≡ F.files folders.old }
+    ensures cause { HasReadCause (F.faults folders.old) (F.faults folders.new) result }
+{
+    let table = match table_of(alloc, base, folders)? {
+        Ok(table) => table,
+        Err(cause) => return Ok(stopped(alloc, "links.txt", cause)?),
+    };
+    let answer = match answer_of(alloc, base, &table, folders)? {
+        Ok(answer) => answer,
+        Err(cause) => return Ok(stopped(alloc, "answer.txt", cause)?),
+    };
+    Ok(judged(alloc, verify(&table, &answer))?)
+}
