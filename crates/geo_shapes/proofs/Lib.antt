@@ -1,0 +1,6 @@
+mod Positions
+mod Lists
+mod Rings
+mod Gatherings
+mod Polygons
+mod Geometries

@@ -1,0 +1,17 @@
+//! Points, lines and polygons of GeoJSON (RFC 7946, section 3.1), read from a JSON tree with exact rules and counts.
+#![tactic(auto)]
+
+mod gathered;
+mod geometry;
+mod laws;
+mod polygon;
+mod position;
+mod ring;
+mod shaped;
+#[cfg(test)]
+mod tests;
+mod values;
+
+pub use geometry::{line, point, shape};
+pub use laws::{has_one_line, has_one_point, has_one_shape};
+pub use shaped::Shaped;
