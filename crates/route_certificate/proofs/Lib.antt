@@ -14,3 +14,4 @@ pub mod Stuck
 pub mod ClaimLemmas
 pub mod ClaimFaults
 pub mod AnswerFaults
+pub mod MoreNodes

@@ -3,11 +3,19 @@ use Rattle.std.proofs.Common.{◌≡◌, ℕ, ◌+◌, ◌<◌, ◌≤◌, zero,
 use Rattle.std.specs.Prelude.{slice_index}
 use Rattle.std.specs.List.{flat_map, AllByRecursion}
 use Rattle.std.specs.List.Sorted.{IsStrictlyIncreasing}
-use Rattle.text_forms.specs.Fronts.{HasNone}
-use Rattle.text_forms.proofs.ListLemmas.{IsUnique, All-push, flat_map-push}
+use Rattle.text_forms.specs.Fronts.{HasNone, IsUnique}
 use Rattle.route_certificate.specs.AnswerFronts.{Rises, next_number, FitsBehind}
 
 -- one more item
+All-push : {X : Type 0} (P : X → Type 0) (xs : List X) (x : X) → AllByRecursion P xs → P x → AllByRecursion P (xs ++ x ∷ [])
+All-push P [] x p q = (q, tt)
+All-push P (y ∷ xs) x p q = (p.0, All-push P xs x p.1 q)
+
+flat_map-push : {X : Type 0} (f : X → List ℕ) (xs : List X) (x : X) (more : List ℕ) → flat_map f (xs ++ x ∷ []) ++ more ≡ flat_map f xs ++ (f x ++ more)
+flat_map-push f [] x more = append_assoc (f x) [] more
+flat_map-push f (y ∷ xs) x more =
+    append_assoc (f y) (flat_map f (xs ++ x ∷ [])) more ∙ ap (λ (t : List ℕ). f y ++ t) (flat_map-push f xs x more) ∙ sym (append_assoc (f y) (flat_map f xs) (f x ++ more))
+
 pub Rises-push : {X : Type 0} (number : X → ℕ) (low : ℕ) (xs : List X) (x : X) → Rises number low xs → next_number number low xs ≤ number x → Rises number low (xs ++ x ∷ [])
 Rises-push number low [] x rises above = (above, tt)
 Rises-push number low (y ∷ xs) x rises above = (rises.0, Rises-push number (number y + 1) xs x rises.1 above)

@@ -1,11 +1,11 @@
 //! What follows from the forms alone.
 
-ghost use Rattle.std.specs.Prelude.{◌≡◌, ℕ, List};
+ghost use Rattle.std.specs.Prelude.{◌≡◌, ◌≤◌, ℕ, List};
 ghost use Rattle.route_certificate.specs.declared.table.Table.{Table};
 ghost use Rattle.route_certificate.specs.declared.table.WalkIn.{WalkIn};
 ghost use Rattle.route_certificate.specs.declared.answer.AnswerIn.{AnswerIn};
 ghost use Rattle.route_certificate.specs.Forms.{IsTable, IsWalkText};
-ghost use Rattle.route_certificate.specs.Answers.{IsAnswerText};
+ghost use Rattle.route_certificate.specs.Answers.{IsAnswerText, FitsAnswer};
 
 /// A text is the text of at most one table, and a table has at most one text.
 pub fn table_law()
@@ -19,8 +19,10 @@ pub fn walk_law()
     ensures one_text { (a b : List ℕ) (table : Table) (walk : WalkIn) → IsWalkText a table walk → IsWalkText b table walk → a ≡ b }
 {}
 
-/// A text is the text of at most one answer over a table, and an answer has at most one text.
+/// A text is the text of at most one answer over a table, an answer has at most one text, and what is an answer over
+/// a table is one over every table with as many nodes or more.
 pub fn answer_law()
     ensures one_answer { (text : List ℕ) (table : Table) (a b : AnswerIn) → IsAnswerText text table a → IsAnswerText text table b → a ≡ b }
     ensures one_text { (a b : List ℕ) (table : Table) (answer : AnswerIn) → IsAnswerText a table answer → IsAnswerText b table answer → a ≡ b }
+    ensures more_nodes { (m n : ℕ) (answer : AnswerIn) → m ≤ n → FitsAnswer m answer → FitsAnswer n answer }
 {}

@@ -4,9 +4,11 @@ ghost use Rattle.std.specs.Prelude.{◌^◌, ◌<◌, length, IfOk};
 ghost use Rattle.route_certificate.specs.Forms.{FitsTable};
 
 use crate::{
-    FormFault, Priced, Table, price, read_table, read_walk, table_law, walk_law, write_table,
+    FormFault, Priced, Table, Verdict, answer_law, price, read_answer, read_table, read_walk,
+    table_law, verify, walk_law, write_answer, write_table,
 };
 use std::alloc::Global;
+use venue_types::Bytes;
 
 const THREE: &str = "imdf-links 1
 node 00000000-0000-4000-8000-000000000001
@@ -56,6 +58,25 @@ fn priced(alloc: Global, text: &str, table: &Table) -> Result<Priced, u64>
     }
     match read_walk(alloc, text.as_bytes(), table) {
         Ok(walk) => Ok(price(table, &walk)),
+        Err(FormFault::Line(line)) => Err(line),
+        Err(FormFault::OutOfMemory) => Err(98),
+    }
+}
+
+// What is written of the answer that was read, and the verdict on it.
+fn rewritten(alloc: Global, text: &str, table: &Table) -> Result<(Bytes, Verdict), u64>
+    requires fits { FitsTable table.now }
+    requires few { length table.now.links < 2 ^ 32 }
+{
+    if text.len() >= 1_000_000 {
+        return Err(99);
+    }
+    answer_law();
+    match read_answer(alloc, text.as_bytes(), table) {
+        Ok(answer) => match write_answer(alloc, &answer) {
+            Ok(bytes) => Ok((bytes, verify(table, &answer))),
+            Err(_) => Err(98),
+        },
         Err(FormFault::Line(line)) => Err(line),
         Err(FormFault::OutOfMemory) => Err(98),
     }
@@ -114,6 +135,14 @@ fn judges_texts(rt: HostRuntime) {
         ("imdf-walk 1\nfrom 0\nstep 0\nend\nend\n", Err(5)),
     ] {
         assert_eq!(rt; priced(alloc, text, &table), want, "{text}");
+    }
+    for text in [
+        "imdf-answer 1\nfrom 2\nto 0\nnone\nreach 2\nend\n",
+        "imdf-answer 1\nfrom 0\nto 2\nroute 833\nstep 0\nstep 1\nat 0 0\nat 1 633\nend\n",
+    ] {
+        let (bytes, verdict) = rewritten(alloc, text, &table).expect(&rt, "an answer");
+        assert!(rt; bytes.as_slice() == text.as_bytes(), "{text}");
+        assert_eq!(rt; verdict, Verdict::Proved);
     }
     table_law();
     walk_law();

@@ -1,0 +1,115 @@
+#!/usr/bin/env python3
+"""Compares `venue verify` with check_route.py over the examples and over some hundred made answers, right and wrong.
+
+usage: compare_checkers.py [PROGRAM]   (without PROGRAM the launcher ./venue, which builds the program if need be)
+It prints one line, and ends with status 1 at a difference.
+"""
+import heapq
+import os
+import random
+import subprocess
+import sys
+import tempfile
+
+HERE = os.path.dirname(os.path.abspath(__file__))
+CHECKER = [sys.executable, os.path.join(HERE, "check_route.py")]
+NODE = "00000000-0000-4000-8000-{:012x}"
+TABLES, ANSWERS = 25, 14
+
+
+def made_table(chance):
+    """Some nodes, and links between them as (from, to, cost)."""
+    nodes = chance.choice([1, 2, 3, 4, 6, 9])
+    links = [(chance.randrange(nodes), chance.randrange(nodes), chance.choice([0, 1, 5, 633, 6_700_000])) for _ in range(chance.randrange(2 * nodes + 1))]
+    text = ["imdf-links 1"] + ["node " + NODE.format(n) for n in range(nodes)]
+    text += [f"link {a} {b} {cost} " + NODE.format(k) for k, (a, b, cost) in enumerate(links)] + ["end"]
+    return nodes, links, text
+
+
+def least_walks(nodes, links, start):
+    """Dijkstra's least costs from the start, and the last link of a least walk to each node."""
+    cost, last, queue = {start: 0}, {}, [(0, start)]
+    while queue:
+        here, node = heapq.heappop(queue)
+        if here > cost[node]:
+            continue
+        for k, (a, b, c) in enumerate(links):
+            if a == node and here + c < cost.get(b, here + c + 1):
+                cost[b], last[b] = here + c, k
+                heapq.heappush(queue, (here + c, b))
+    return cost, last
+
+
+def true_answer(nodes, links, start, end):
+    cost, last = least_walks(nodes, links, start)
+    text = ["imdf-answer 1", f"from {start}", f"to {end}"]
+    if end not in cost:
+        return text + ["none"] + [f"reach {n}" for n in sorted(cost)] + ["end"]
+    steps, at = [], end
+    while at != start:
+        steps.append(last[at])
+        at = links[last[at]][0]
+    text += [f"route {cost[end]}"] + [f"step {k}" for k in reversed(steps)]
+    return text + [f"at {n} {cost[n]}" for n in sorted(cost) if cost[n] < cost[end]] + ["end"]
+
+
+def spoiled(chance, text):
+    """The text with one mistake, or none."""
+    text = list(text)
+    place = chance.randrange(len(text))
+    words = text[place].split(" ")
+    kind = chance.randrange(9)
+    if kind == 0:
+        del text[place]
+    elif kind == 1:
+        text.insert(place, text[place])
+    elif kind == 2 and place:
+        text[place - 1], text[place] = text[place], text[place - 1]
+    elif kind in (3, 4, 5) and words[-1].isdigit():
+        words[-1] = str(max(0, int(words[-1]) + chance.choice([-1, 1, 2, 4_398_046_511_103, 4_294_967_296])))
+        text[place] = " ".join(words)
+    elif kind == 6 and len(words) == 3:
+        words[1] = str(int(words[1]) + 1)
+        text[place] = " ".join(words)
+    elif kind == 7:
+        text[place] = chance.choice([text[place] + " ", "0" + text[place], text[place].upper(), text[place].replace(" ", " 0", 1), "none", "end"])
+    return text
+
+
+def answers_of(command, base):
+    ran = subprocess.run(command + [base], capture_output=True)
+    return ran.stdout, ran.returncode
+
+
+def main():
+    program = [sys.argv[1]] if len(sys.argv) > 1 else [os.path.join(HERE, "..", "venue")]
+    bases = sorted(entry.path for entry in os.scandir(HERE) if entry.is_dir())
+    chance, seen, differ = random.Random(7), {}, 0
+    with tempfile.TemporaryDirectory() as folder:
+        bases.append(os.path.join(folder, "missing"))
+        for table in range(TABLES):
+            nodes, links, table_text = made_table(chance)
+            for number in range(ANSWERS):
+                base = os.path.join(folder, f"{table}-{number}")
+                os.mkdir(base)
+                answer = true_answer(nodes, links, chance.randrange(nodes), chance.randrange(nodes))
+                for _ in range(chance.choice([0, 1, 1, 1, 2])):
+                    answer = spoiled(chance, answer)
+                written = spoiled(chance, table_text) if number == 0 else table_text
+                for name, text in (("links.txt", written), ("answer.txt", answer)):
+                    with open(os.path.join(base, name), "w") as file:
+                        file.write("\n".join(text) + chance.choice(["\n"] * 12 + ["", "\n\n"]))
+                bases.append(base)
+        for base in bases:
+            found, wanted = answers_of(program + ["verify"], base), answers_of(CHECKER, base)
+            kind = b" ".join(wanted[0].split()[:2]).decode() if wanted[0] else ""
+            seen[kind] = seen.get(kind, 0) + 1
+            if found != wanted:
+                differ += 1
+                print(f"{base}: the program {found}, check_route.py {wanted}", file=sys.stderr)
+    kinds = ", ".join(f"{count} {kind}" for kind, count in sorted(seen.items()))
+    print(f"compare_checkers: {len(bases)} answers, {differ} differences ({kinds})")
+    return 1 if differ else 0
+
+
+sys.exit(main())
