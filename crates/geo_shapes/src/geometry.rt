@@ -15,6 +15,7 @@ use exact_json::Tree;
 use std::alloc::Global;
 use venue_types::{Line, List, OutOfMemory, Point, Shape};
 
+// What it has by that name, if it is an object that has it.
 fn coordinates<'a, 'b>(tree: &'a Tree<'b>) -> Option<&'a Tree<'b>>
     ensures { unwrap_or (option_map (λ t. tree_view t.now) result) null ≡ coordinates (tree_view tree.now) }
 {
@@ -68,6 +69,7 @@ fn drawn(points: Option<Vec<Point>>, bad_form: bool) -> Option<Line>
     }
 }
 
+// Reads the positions of a line.
 fn line_of(alloc: Global, tree: &Tree) -> Result<Shaped<Line>, OutOfMemory>
     ensures { IfOk result (ReadsLine (tree_view tree.now)) }
 {

@@ -11,14 +11,12 @@ use exact_json::Tree;
 use std::alloc::Global;
 use venue_types::{List, OutOfMemory, Part, Ring, Shape};
 
-// The first ring is the border, the others are holes.
+// Where the rings keep both rules, the first is the border and the others are holes.
 fn part(mut rings: Vec<Ring>, bad_position: bool, bad_form: bool) -> Option<Part>
     requires { bad_position ≡ false → bad_form ≡ false → 0 < length rings.items }
     ensures { Encloses rings.items (bad_position || bad_form) result }
 {
-    if bad_position {
-        None
-    } else if bad_form {
+    if bad_position || bad_form {
         None
     } else {
         let outer = rings.remove(0);
@@ -29,13 +27,14 @@ fn part(mut rings: Vec<Ring>, bad_position: bool, bad_form: bool) -> Option<Part
     }
 }
 
+// One of its figures breaks its form, or it has none.
 fn breaks_form(bad_form: bool, trees: &[Tree]) -> bool
     ensures { IsTrue result ↔ IsBadList bad_form (map tree_view trees.now) }
 {
     bad_form || trees.is_empty()
 }
 
-/// Reads a polygon.
+// Reads a polygon.
 fn polygon(alloc: Global, tree: &Tree) -> Result<Shaped<Part>, OutOfMemory>
     ensures { IfOk result (ReadsPolygon (tree_view tree.now)) }
 {
@@ -72,7 +71,8 @@ fn polygons(alloc: Global, trees: &[Tree]) -> Result<Gathered<Part>, OutOfMemory
     Ok(parts)
 }
 
-fn parts(parts: Vec<Part>, bad_position: bool, bad_form: bool) -> Option<Shape>
+// The shape of the polygons, where they keep both rules.
+fn shape_of(parts: Vec<Part>, bad_position: bool, bad_form: bool) -> Option<Shape>
     ensures { Holds parts.items (bad_position || bad_form) result }
 {
     if bad_position || bad_form {
@@ -97,7 +97,7 @@ pub(crate) fn several(alloc: Global, trees: &[Tree]) -> Result<Shaped<Shape>, Ou
     } = polygons(alloc, trees)?;
     let bad_form = breaks_form(bad_form, trees);
     Ok(Shaped {
-        value: parts(figures, bad_position, bad_form),
+        value: shape_of(figures, bad_position, bad_form),
         bad_position,
         bad_form,
         positions,
@@ -110,10 +110,10 @@ fn one_part(alloc: Global, part: Option<Part>) -> Result<Option<Shape>, OutOfMem
 {
     match part {
         Some(part) => {
-            let mut parts = Vec::with_capacity(alloc, 1)?;
-            parts.push(part)?;
+            let mut one = Vec::with_capacity(alloc, 1)?;
+            one.push(part)?;
             Ok(Some(Shape {
-                parts: List::from_vec(parts),
+                parts: List::from_vec(one),
             }))
         }
         None => Ok(None),

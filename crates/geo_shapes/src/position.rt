@@ -16,6 +16,7 @@ const QUARTER_TURN: i64 = 90_000_000_000;
 fn longitude(tree: &Tree) -> Option<i64>
     ensures { ReadsAngle half_turn (tree_view tree.now) result }
 {
+    // The law that no number has two values. It does nothing when it runs.
     has_one_value();
     match tree.as_number() {
         Some(token) => nano(token).ok(),
@@ -63,7 +64,7 @@ pub(crate) fn maybe_position(tree: Option<&Tree>) -> Option<Point>
     }
 }
 
-/// The positions that the values are, if all of them are.
+/// The positions that the values are, if all of them are. It stops at the first that is none.
 pub(crate) fn points(alloc: Global, trees: &[Tree]) -> Result<Option<Vec<Point>>, OutOfMemory>
     ensures { IfOk result (ReadsPositions (map tree_view trees.now)) }
 {
@@ -77,7 +78,7 @@ pub(crate) fn points(alloc: Global, trees: &[Tree]) -> Result<Option<Vec<Point>>
     Ok(Some(points))
 }
 
-/// How many they are.
+/// How many values they are.
 pub(crate) fn count(trees: &[Tree]) -> u64
     ensures { result ≡ length (map tree_view trees.now) }
 {

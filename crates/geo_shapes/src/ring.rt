@@ -13,6 +13,7 @@ use geo_decimal::has_one_value;
 use std::alloc::Global;
 use venue_types::{List, OutOfMemory, Point, Ring};
 
+// Two positions that differ.
 fn are_apart(start: Option<Point>, end: Option<Point>) -> bool
     ensures { IsTrue result ↔ AreApart start end }
 {
@@ -34,6 +35,7 @@ fn is_open(trees: &[Tree], points: &Option<Vec<Point>>) -> bool
     }
 }
 
+// It is too short or open.
 fn breaks_form(trees: &[Tree], points: &Option<Vec<Point>>) -> bool
     requires { ReadsPositions (map tree_view trees.now) points.now }
     ensures { IsTrue result ↔ IsBadRing (map tree_view trees.now) }
