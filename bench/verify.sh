@@ -1,0 +1,23 @@
+#!/usr/bin/env bash
+# `verify` over 41,000 nodes and 2,000,000 links with a true certificate, beside a plain loop over the same rows in C++.
+# The time after reading is that of `verify` less that of `price` with a walk of one step, and that of the yardstick less
+# that of its reading alone.
+set -e
+cd "$(dirname "$0")/.."
+program=crates/venue_cli/out/venue_cli
+[ -x "$program" ] || ./venue verify examples/table >/dev/null
+work=$(mktemp -d)
+trap 'rm -rf "$work"' EXIT
+g++ -O2 -std=c++17 -o "$work/make_table" bench/make_table.cpp
+g++ -O2 -std=c++17 -o "$work/check_answer" bench/check_answer.cpp
+mkdir "$work/base"
+"$work/make_table" "$work/base" 41000 2000000 1
+"$work/check_answer" make "$work/base" 20500
+wanted=$("$work/check_answer" check "$work/base")
+found=$("$program" verify "$work/base")
+[ "$wanted" = "$found" ] || { echo "the answers differ: $wanted, $found"; exit 1; }
+echo "$found, $(grep -c '^at ' "$work/base/answer.txt") potentials; wanted: a ratio after reading of at most 2"
+python3 bench/measure.py 5 verify "$program verify $work/base" check "$work/check_answer check $work/base" \
+    price "$program price $work/base" read "$work/check_answer read $work/base" array "$work/check_answer array $work/base" |
+    awk '{ print; sub(":", "", $1); time[$1] = $2 }
+         END { printf "ratio after reading: %.2f; beside an array of potentials: %.2f\n", (time["verify"] - time["price"]) / (time["check"] - time["read"]), (time["verify"] - time["price"]) / (time["array"] - time["read"]) }'
