@@ -1,0 +1,6 @@
+pub mod Files
+pub mod Values
+pub mod Properties
+pub mod Forms
+pub mod Items
+pub mod Contents

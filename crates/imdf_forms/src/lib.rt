@@ -1,0 +1,15 @@
+//! What a venue's folder may hold (IMDF 1.0.0): its files, the table of properties, the forms that members have, and
+//! small readers of a member.
+#![tactic(auto)]
+
+mod features;
+mod files;
+mod forms;
+mod table;
+mod values;
+
+pub use files::{FEATURE_FILES, File, Geometry, file_of_type};
+pub use forms::{Form, fits, is_reference, item_fits, list_of, type_of};
+pub use features::{fits_geometry, geometry, is_collection, is_feature, items, property};
+pub use table::{Named, Property, PropertyRow, properties};
+pub use values::{id, is_id, is_list, is_null, is_object, is_text, is_word, list, member, object, text};

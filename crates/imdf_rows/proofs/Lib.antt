@@ -1,0 +1,7 @@
+pub mod Texts
+pub mod FirstDot
+pub mod Tags
+pub mod Billionths
+pub mod Zips
+pub mod Shown
+pub mod Moved

@@ -1,0 +1,5 @@
+use Rattle.imdf_rows.proofs.Tags.{object_labels}
+use Rattle.imdf_rows.proofs.labels.labels_of.Goals as goal
+
+pub returns : goal.returns
+returns c = object_labels c.labels_among.result c.args.members.now c.deref.result.now c.deref.ensures.value c.labels_among.ensures

@@ -1,0 +1,30 @@
+//! One way to read rows of all kinds.
+
+ghost use Rattle.std.specs.Prelude.{IfOk};
+ghost use Rattle.exact_json.specs.View.{tree_view};
+ghost use Rattle.exact_json.specs.Json.{Json, HasTexts};
+ghost use Rattle.imdf_forms.specs.declared.files.Geometry.{Geometry};
+ghost use Rattle.imdf_rows.specs.Figures.{HasFigure};
+
+use crate::figure::Figure;
+use exact_json::Tree;
+use std::alloc::Global;
+use venue_types::OutOfMemory;
+
+/// A row of features of one type.
+pub trait FeatureRow: Drop {
+    /// What the geometry of these features is.
+    ghost geometry: { Geometry };
+
+    /// The row is that of the item.
+    ghost is_row: { Json → Self → Type 0 };
+
+    /// Reads the row of an item, given the figure that its geometry stands for.
+    ///
+    /// Where a member isn't of its form, the row has a default in its place. The texts of a JSON text are UTF-8; in
+    /// those of another tree, U+FFFD stands for what isn't. It takes time that grows with the item's properties.
+    fn read_row(alloc: Global, item: &Tree, figure: Figure) -> Result<Self, OutOfMemory>
+        ensures { IfOk result (λ row.
+            HasTexts (tree_view item.now) → HasFigure geometry (tree_view item.now) figure
+            → is_row (tree_view item.now) row) };
+}

@@ -1,0 +1,23 @@
+//! The rows of a folder's features, each field taken from its member.
+#![tactic(auto)]
+
+mod display;
+mod feature_row;
+mod fields;
+mod figure;
+mod gather;
+mod labels;
+mod laws;
+mod levels;
+mod members;
+mod ordinals;
+mod rows;
+#[cfg(test)]
+mod tests;
+mod ways;
+
+pub use feature_row::FeatureRow;
+pub use figure::Figure;
+pub use gather::push_row;
+pub use laws::items_have_texts;
+pub use ordinals::ordinal;
