@@ -20,7 +20,7 @@ TABLES, ANSWERS = 25, 14
 def made_table(chance):
     """Some nodes, and links between them as (from, to, cost)."""
     nodes = chance.choice([1, 2, 3, 4, 6, 9])
-    links = [(chance.randrange(nodes), chance.randrange(nodes), chance.choice([0, 1, 5, 633, 6_700_000])) for _ in range(chance.randrange(2 * nodes + 1))]
+    links = [(chance.randrange(nodes), chance.randrange(nodes), chance.choice([0, 1, 5, 633, 6_700_000])) for _ in range(chance.randrange(nodes, 3 * nodes + 1))]
     text = ["imdf-links 1"] + ["node " + NODE.format(n) for n in range(nodes)]
     text += [f"link {a} {b} {cost} " + NODE.format(k) for k, (a, b, cost) in enumerate(links)] + ["end"]
     return nodes, links, text
@@ -53,26 +53,42 @@ def true_answer(nodes, links, start, end):
     return text + [f"at {n} {cost[n]}" for n in sorted(cost) if cost[n] < cost[end]] + ["end"]
 
 
-def spoiled(chance, text):
-    """The text with one mistake, or none."""
+def spoiled_line(chance, text):
+    """The text with one line that is left out, repeated, exchanged or misspelled."""
     text = list(text)
     place = chance.randrange(len(text))
-    words = text[place].split(" ")
-    kind = chance.randrange(9)
+    kind = chance.randrange(4)
     if kind == 0:
         del text[place]
     elif kind == 1:
         text.insert(place, text[place])
     elif kind == 2 and place:
         text[place - 1], text[place] = text[place], text[place - 1]
-    elif kind in (3, 4, 5) and words[-1].isdigit():
-        words[-1] = str(max(0, int(words[-1]) + chance.choice([-1, 1, 2, 4_398_046_511_103, 4_294_967_296])))
+    else:
+        line = text[place]
+        text[place] = chance.choice([line + " ", "0" + line, line.upper(), line.replace(" ", " 0", 1), "none", "end"])
+    return text
+
+
+def spoiled_number(chance, text):
+    """The text with one number that is another."""
+    text = list(text)
+    place = chance.choice([place for place, line in enumerate(text) if line.split(" ")[-1].isdigit() and place])
+    words = text[place].split(" ")
+    word = chance.randrange(1, len(words))
+    words[word] = str(max(0, int(words[word]) + chance.choice([-1, -1, -1, 1, 1, 1, 2, 4_398_046_511_103, 4_294_967_296])))
+    text[place] = " ".join(words)
+    return text
+
+
+def cheaper(chance, links_text):
+    """The table's text with one link that costs less."""
+    text = list(links_text)
+    places = [place for place, line in enumerate(text) if line.startswith("link ")]
+    if places:
+        words = text[place := chance.choice(places)].split(" ")
+        words[3] = str(chance.randrange(int(words[3]) + 1))
         text[place] = " ".join(words)
-    elif kind == 6 and len(words) == 3:
-        words[1] = str(int(words[1]) + 1)
-        text[place] = " ".join(words)
-    elif kind == 7:
-        text[place] = chance.choice([text[place] + " ", "0" + text[place], text[place].upper(), text[place].replace(" ", " 0", 1), "none", "end"])
     return text
 
 
@@ -93,12 +109,17 @@ def main():
                 base = os.path.join(folder, f"{table}-{number}")
                 os.mkdir(base)
                 answer = true_answer(nodes, links, chance.randrange(nodes), chance.randrange(nodes))
-                for _ in range(chance.choice([0, 1, 1, 1, 2])):
-                    answer = spoiled(chance, answer)
-                written = spoiled(chance, table_text) if number == 0 else table_text
+                written = spoiled_line(chance, table_text) if number == 0 else table_text
+                spoil = chance.choice(["", "number", "number", "number", "cheaper", "cheaper", "line"])
+                if spoil == "number":
+                    answer = spoiled_number(chance, answer)
+                elif spoil == "line":
+                    answer = spoiled_line(chance, answer)
+                elif spoil == "cheaper":
+                    written = cheaper(chance, written)
                 for name, text in (("links.txt", written), ("answer.txt", answer)):
                     with open(os.path.join(base, name), "w") as file:
-                        file.write("\n".join(text) + chance.choice(["\n"] * 12 + ["", "\n\n"]))
+                        file.write("\n".join(text) + chance.choice(["\n"] * 30 + ["", "\n\n"]))
                 bases.append(base)
         for base in bases:
             found, wanted = answers_of(program + ["verify"], base), answers_of(CHECKER, base)
