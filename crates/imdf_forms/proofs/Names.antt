@@ -69,7 +69,7 @@ last_text : (ms ns : Members) (name : List ℕ) (j : Json) → list_all (passes 
 last_text ms no_pairs name j all at same = cc
 last_text ms (pair k v rest) name j all at same =
     found ms k name v j (last_member name rest) (bytes_eq k name) refl at (first_both (passes ms (k, v)) _ all) same
-      (λ e. last_text ms rest name j (second_both (passes ms (k, v)) _ all) e same)
+    (λ e. last_text ms rest name j (second_both (passes ms (k, v)) _ all) e same)
 
 -- a name that is there has a last value
 some_behind : (o p : Option Json) → first_of_two o p ≡ None → o ≡ None
@@ -89,8 +89,8 @@ all_counts : (ms ns : Members) → ((name : List ℕ) → last_member name ms �
 all_counts ms no_pairs within last = refl
 all_counts ms (pair k v rest) within last =
     both_from (counts ms (k, v)) _
-      (text_of_last ms k (last_member k ms) refl (λ e. none_here (last_member k rest) k v (within k e)) (last k))
-      (all_counts ms rest (λ name e. some_behind (last_member name rest) _ (within name e)) last)
+    (text_of_last ms k (last_member k ms) refl (λ e. none_here (last_member k rest) k v (within k e)) (last k))
+    (all_counts ms rest (λ name e. some_behind (last_member name rest) _ (within name e)) last)
 
 pub passes_counts : (ms : Members) → list_all (passes ms) (members_list ms) ≡ true → list_all (counts ms) (members_list ms) ≡ true
 passes_counts ms all = all_counts ms ms (λ name e. e) (λ name j e. last_text ms ms name j all e e)

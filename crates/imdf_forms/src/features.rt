@@ -28,8 +28,7 @@ pub fn items<'a, 'b>(value: Option<&'a Tree<'b>>) -> Option<&'a [Tree<'b>]>
 pub fn is_feature(item: &Tree) -> bool
     ensures { result ≡ specs.is_feature (tree_view item.now) }
 {
-    is_word(member(Some(item), b"type"), b"Feature")
-        && is_object(member(Some(item), b"properties"))
+    is_word(member(Some(item), b"type"), b"Feature") && is_object(member(Some(item), b"properties"))
 }
 
 /// The geometry of a feature.

@@ -7,7 +7,9 @@ ghost use Rattle.imdf_forms.specs.Values.{seen, listed, has_texts};
 ghost use Rattle.imdf_forms.specs.Forms as specs;
 
 use crate::files::{File, file_of_type};
-use crate::values::{is_id, is_list, is_null, is_object, is_text, is_word, list, member, object, text};
+use crate::values::{
+    is_id, is_list, is_null, is_object, is_text, is_word, list, member, object, text,
+};
 use exact_json::{Members, Tree};
 use geo_shapes::point;
 
@@ -59,8 +61,7 @@ pub fn is_reference(value: Option<&Tree>) -> bool
 fn is_door(value: Option<&Tree>) -> bool
     ensures { result ≡ specs.is_door (seen value.entry) }
 {
-    is_object(value)
-        && (is_null(member(value, b"type")) || is_text(member(value, b"type")))
+    is_object(value) && (is_null(member(value, b"type")) || is_text(member(value, b"type")))
 }
 
 /// The items of a value whose form is a list.

@@ -6,10 +6,14 @@ mod features;
 mod files;
 mod forms;
 mod table;
+#[cfg(test)]
+mod tests;
 mod values;
 
+pub use features::{fits_geometry, geometry, is_collection, is_feature, items, property};
 pub use files::{FEATURE_FILES, File, Geometry, file_of_type};
 pub use forms::{Form, fits, is_reference, item_fits, list_of, type_of};
-pub use features::{fits_geometry, geometry, is_collection, is_feature, items, property};
 pub use table::{Named, Property, PropertyRow, properties};
-pub use values::{id, is_id, is_list, is_null, is_object, is_text, is_word, list, member, object, text};
+pub use values::{
+    id, is_id, is_list, is_null, is_object, is_text, is_word, list, member, object, text,
+};

@@ -18,9 +18,9 @@ returns-then-not-is_text-2 c =
     let within : i < length xs = subst (λ (ys : List Pair). i < length ys) items (omega arith) in
     let is : x ≡ get_or xs i x = subst (λ (ys : List Pair). x ≡ get_or ys i x) items c.pair-item.is in
     let last : c.is_text-then-not-is_text.result ≡ counts ms (pair_view x) =
-      c.is_text-then-not-is_text.ensures
-      ∙ ap (λ o. is_text (unwrap_or o null)) c.get.ensures
-      ∙ ap (λ (name : List ℕ). is_text (unwrap_or (last_member name ms) null)) c.bytes.ensures in
+    c.is_text-then-not-is_text.ensures
+    ∙ ap (λ o. is_text (unwrap_or o null)) c.get.ensures
+    ∙ ap (λ (name : List ℕ). is_text (unwrap_or (last_member name ms) null)) c.bytes.ensures in
     sym (stops ms xs i x c.is_text.result c.is_text-then-not-is_text.result within is c.is_text.ensures last c.if-not-is_text.true c.if-not-is_text-2.true)
     ∙ c.loop-pair.invariant ∙ passes_are (map pair_view xs)
 

@@ -36,10 +36,11 @@ returns-then-is_word c =
     let v = tree_view c.in-Some.tree.now in
     let same : v ≡ seen c.args.value = sym (ap seen c.in-Some.is) in
     let word : is_word (member (seen c.args.value) (codes "type")) (codes "Point") ≡ true = ap (λ (w : Json). is_word w (codes "Point")) (sym c.member.ensures) ∙ sym c.is_word.ensures ∙ c.if-is_word.true in
-    let Has : Json → Type 0 = λ w. (p : Point) × HasPoint w p in
-    ((λ h.
-        let fits = not_true c.point.result.bad_position h in
-        (word, subst Has same (given c.point.result.value (HasPoint v) (c.point.ensures.there.1 (fits, c.point.ensures.bad_form)) c.point.ensures.value))),
-     (λ place.
-        let here : Has v = subst Has (sym same) place.1 in
-        not_false c.point.result.bad_position (fine c.point.result.bad_position (BreaksPositions (point_places v)) c.point.ensures.bad_position.0 (λ bad. sound_place v here.0 here.1 bad))))
+    let Has : Json → Type 0 = λ w. (p : Point) × HasPoint w p in (
+      (λ h.
+          let fits = not_true c.point.result.bad_position h in
+          (word, subst Has same (given c.point.result.value (HasPoint v) (c.point.ensures.there.1 (fits, c.point.ensures.bad_form)) c.point.ensures.value))),
+      (λ place.
+          let here : Has v = subst Has (sym same) place.1 in
+          not_false c.point.result.bad_position (fine c.point.result.bad_position (BreaksPositions (point_places v)) c.point.ensures.bad_position.0 (λ bad. sound_place v here.0 here.1 bad))),
+    )
