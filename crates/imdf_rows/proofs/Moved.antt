@@ -1,5 +1,5 @@
 -- What is read of a property, whose texts are UTF-8 where those of its item are.
-use Rattle.std.proofs.Common.{◌≡◌, ℕ, List, Result, Ok, Err, IfOk, codes, subst, sym}
+use Rattle.std.proofs.Common.{◌≡◌, Result, Ok, Err, IfOk, codes, subst}
 use Rattle.exact_json.specs.Json.{Json, member, HasTexts}
 use Rattle.imdf_forms.specs.declared.table.Property.{Property}
 use Rattle.imdf_forms.specs.Properties.{property_name}

@@ -1,5 +1,5 @@
 -- Display points, from what is read of a Point.
-use Rattle.std.proofs.Common.{◌≡◌, ℕ, zero, suc, Bool, true, false, List, [], ◌∷◌, Option, Some, None, Any, IfSome, IsSome, IsTrue, ◌↔◌, refl, sym, subst, arith, length}
+use Rattle.std.proofs.Common.{◌≡◌, zero, suc, Bool, true, false, Option, Some, None, IfSome, IsSome, IsTrue, ◌↔◌, refl, sym, subst, arith}
 use Rattle.exact_json.specs.Json.{Json}
 use Rattle.venue_types.specs.declared.point.Point.{Point}
 use Rattle.geo_shapes.specs.Position.{IsNoPosition, BreaksPositions}

@@ -1,5 +1,5 @@
 -- A map by texts, seen as a list by their bytes, and the labels of it.
-use Rattle.std.proofs.Common.{◌≡◌, ℕ, List, [], ◌∷◌, map, Option, Some, None, unwrap_or, option_map, Result, Ok, Err, IfOk, Vec, Ordering, Less, Equal, Greater, refl, ap, ap₂, sym, ◌∙◌, subst}
+use Rattle.std.proofs.Common.{◌≡◌, ℕ, List, [], ◌∷◌, map, Some, None, unwrap_or, option_map, Result, Ok, Err, IfOk, Vec, Ordering, Less, Equal, Greater, refl, ap, ap₂, sym, ◌∙◌}
 use Rattle.std.specs.Prelude.{String}
 use Rattle.std.specs.Global.{Global}
 use Rattle.std.specs.Ordering.{nat_cmp, match_ordering}
@@ -7,7 +7,6 @@ use Rattle.std.specs.Cmp.Lexicographic.{slice_cmp}
 use Rattle.std.specs.BTreeMap.{insert_entry}
 use Rattle.std.specs.List.{AllByRecursion}
 use Rattle.std.specs.String.{string_cmp}
-use Rattle.std.specs.Str.Lossy.{utf8_lossy}
 use Rattle.std.proofs.lemmas.Str.{utf8_lossy-IsUtf8}
 use Rattle.exact_json.specs.Json.{Json, Members, members_list, object_members, HasTexts}
 use Rattle.exact_json.specs.View.{members_of, pair_view, object_view}

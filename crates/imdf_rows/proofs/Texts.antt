@@ -1,5 +1,5 @@
 -- In a value whose texts are UTF-8, so are those of each part of it.
-use Rattle.std.proofs.Common.{◌≡◌, ℕ, Bool, true, false, cond, List, [], ◌∷◌, Option, Some, None, IfSome, unwrap_or, option_map}
+use Rattle.std.proofs.Common.{ℕ, Bool, true, false, cond, List, [], Option, Some, None, IfSome, unwrap_or}
 use Rattle.std.specs.List.{AllByRecursion}
 use Rattle.std.specs.Str.{bytes_eq, IsUtf8}
 use Rattle.std.proofs.lemmas.Str.{IsUtf8-nil}

@@ -1,5 +1,5 @@
 -- What a field of a row is taken from. Where a member isn't of its form, an identifier is 0, and a text or a list is empty.
-use Rattle.std.specs.Prelude.{◌≡◌, ℕ, ◌==◌, List, [], ◌∷◌, Option, Some, None, Bool, true, false, not, option_and_then, unwrap_or, map, pos, ℤ, ◌*ℤ◌, codes}
+use Rattle.std.specs.Prelude.{◌≡◌, ℕ, ◌==◌, List, [], ◌∷◌, Option, Some, None, Bool, unwrap_or, map, pos, ℤ, ◌*ℤ◌, codes}
 use Rattle.std.specs.List.{filter_map, before_first, list_any}
 use Rattle.std.specs.Str.{bytes_eq}
 use Rattle.std.specs.Cmp.Lexicographic.{slice_cmp}

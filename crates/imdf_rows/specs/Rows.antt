@@ -1,5 +1,5 @@
 -- The row of a feature, each field taken from its member.
-use Rattle.std.specs.Prelude.{◌≡◌, ℤ, Bool, not, codes}
+use Rattle.std.specs.Prelude.{◌≡◌, ℤ, not, codes}
 use Rattle.exact_json.specs.Json.{Json, member}
 use Rattle.geo_shapes.specs.Geometry.{HasPoint, HasLine, HasShape}
 use Rattle.venue_types.specs.declared.feature_id.FeatureId.{FeatureId}

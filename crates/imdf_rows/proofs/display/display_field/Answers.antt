@@ -1,4 +1,4 @@
-use Rattle.std.proofs.Common.{Some, sym, ap, subst}
+use Rattle.std.proofs.Common.{sym, ap, subst}
 use Rattle.exact_json.specs.Json.{Json}
 use Rattle.exact_json.specs.View.{tree_view}
 use Rattle.imdf_forms.specs.Values.{seen}
