@@ -20,4 +20,8 @@ echo "$found, $(grep -c '^at ' "$work/base/answer.txt") potentials; wanted: a ra
 python3 bench/measure.py 5 verify "$program verify $work/base" check "$work/check_answer check $work/base" \
     price "$program price $work/base" read "$work/check_answer read $work/base" array "$work/check_answer array $work/base" |
     awk '{ print; sub(":", "", $1); time[$1] = $2 }
-         END { printf "ratio after reading: %.2f; beside an array of potentials: %.2f\n", (time["verify"] - time["price"]) / (time["check"] - time["read"]), (time["verify"] - time["price"]) / (time["array"] - time["read"]) }'
+         END {
+             ours = time["verify"] - time["price"]; searched = time["check"] - time["read"]; indexed = time["array"] - time["read"]
+             printf "after reading: verify %.3f s, check %.3f s, ratio %.2f\n", ours, searched, ours / searched
+             printf "an array of potentials takes %.3f s after reading\n", (indexed > 0) ? indexed : 0
+         }'
