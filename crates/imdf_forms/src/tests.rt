@@ -1,12 +1,12 @@
 //! Values beside what the forms say of them, and each reader once.
 
 use crate::{
-    File, Form, Geometry, Named, Property, file_of_type, fits, fits_geometry, geometry, id,
-    is_collection, is_feature, item_fits, items, list_of, properties, property, text, type_of,
+    File, Form, Geometry, Property, file_of_type, fits, fits_geometry, geometry, id, is_collection,
+    is_feature, is_word, item_fits, items, list_of, properties, property, text, type_of,
 };
-use exact_json::read;
+use exact_json::{Tree, read};
+use std::process::Abort;
 use std::test::Fail;
-use venue_types::FeatureId;
 
 #[test]
 fn forms_say_what_fits(rt: HostRuntime) -> Result<(), Fail> {
@@ -39,33 +39,32 @@ fn forms_say_what_fits(rt: HostRuntime) -> Result<(), Fail> {
     Ok(())
 }
 
+// A feature of the category `room`, with one item that is no identifier in its list of units.
+fn has_its_members(rt: &impl Abort, item: &Tree) {
+    assert!(rt; is_feature(item));
+    assert!(rt; fits_geometry(Geometry::Point, geometry(item)));
+    assert!(rt; is_word(property(item, Property::Category), b"room"));
+    assert!(rt; text(property(item, Property::Category)).is_some());
+    assert!(rt; type_of(property(item, Property::Category)).is_none());
+    assert!(rt; id(property(item, Property::LevelId)).is_none());
+    for unit in list_of(Form::Ids, property(item, Property::UnitIds)).expect(rt, "a list") {
+        assert!(rt; !item_fits(Form::Ids, unit));
+    }
+}
+
 #[test]
 fn a_feature_has_its_members(rt: HostRuntime) -> Result<(), Fail> {
     let bytes =
         b"{\"type\":\"FeatureCollection\",\"features\":[{\"type\":\"Feature\",\"id\":\"00000000-0000-4000-8000-000000000007\",\"geometry\":{\"type\":\"Point\"},\"properties\":{\"category\":\"room\",\"unit_ids\":[1]}}]}";
     let tree = read(rt.alloc(), bytes).expect(&rt, "JSON");
     assert!(rt; is_collection(Some(&tree)));
-    let list = items(Some(&tree)).expect(&rt, "a list");
-    let item = list.first().expect(&rt, "an item");
-    assert!(rt; is_feature(item));
-    assert!(rt; fits_geometry(Geometry::Point, geometry(item)));
-    assert_eq!(rt;
-        text(property(item, Property::Category)),
-        Some(b"room".as_slice())
-    );
-    let units = list_of(Form::Ids, property(item, Property::UnitIds)).expect(&rt, "a list");
-    assert_eq!(rt; units.len(), 1);
-    assert!(rt; !item_fits(Form::Ids, units.first().expect(&rt, "an item")));
-    assert_eq!(rt; type_of(property(item, Property::Category)), None);
+    for item in items(Some(&tree)).expect(&rt, "a list") {
+        has_its_members(&rt, item);
+    }
     assert_eq!(rt; file_of_type(b"kiosk"), Some(File::Kiosk));
     assert_eq!(rt; File::Kiosk.number(), 9);
     assert_eq!(rt; File::Opening.geometry(), Geometry::Line);
     assert_eq!(rt; properties().len(), 31);
-    assert_eq!(rt;
-        properties().first().map(|row| row.names),
-        Some(Named::Address)
-    );
     assert_eq!(rt; Property::Name.number(), 16);
-    assert_eq!(rt; id(None), None::<FeatureId>);
     Ok(())
 }

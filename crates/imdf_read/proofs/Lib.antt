@@ -1,0 +1,11 @@
+mod Adding
+mod ItemRules
+mod FolderReports
+mod Folders
+mod ItemLists
+mod Manifests
+mod Narrow
+mod NoteRules
+mod PlainRules
+mod PropertyRule
+mod Slots

@@ -1,0 +1,11 @@
+use Rattle.std.proofs.Common.{true}
+use Rattle.imdf_read.proofs.Adding.{Adds-found, on_ok}
+use Rattle.imdf_read.proofs.Manifests.{absent_adds}
+use Rattle.imdf_read.proofs.manifest.judge_absent.Goals as goal
+
+pub returns : goal.returns
+returns c =
+    let a = c.args.findings.now.items in
+    let b = c.add.new.places.items in
+    on_ok c.add.result _ _ c.add.ensures.ok (λ is.
+    absent_adds c.whole.result a b c.whole.ensures (λ P into back. Adds-found P true c.whole.result a b is into back))

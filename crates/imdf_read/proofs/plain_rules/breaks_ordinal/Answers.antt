@@ -1,0 +1,12 @@
+use Rattle.std.proofs.Common.{rules, sym}
+use denote.Enum.Bare.{same_true}
+use Rattle.exact_json.specs.View.{tree_view}
+use Rattle.imdf_forms.specs.contracts.files.File.{the_type}
+use Rattle.imdf_forms.specs.declared.files.File.TheVariants as file
+use Rattle.imdf_forms.specs.Values.{seen}
+use Rattle.imdf_read.proofs.PlainRules.{ordinal_rule}
+use Rattle.imdf_read.proofs.plain_rules.breaks_ordinal.Goals as goal
+
+pub returns-then-eq : goal.returns-then-eq
+returns-then-eq c = ordinal_rule c.args.file (tree_view c.args.item.now) (seen c.further.result) c.is_ordinal.result
+    (same_true the_type (search rules) c.args.file file.Level (sym c.if-eq.ensures)) c.requires c.further.ensures c.is_ordinal.ensures

@@ -1,0 +1,10 @@
+use Rattle.std.proofs.Common.{map}
+use Rattle.exact_json.specs.View.{tree_view}
+use Rattle.imdf_read.specs.Gathering.{Adds}
+use Rattle.imdf_read.proofs.Adding.{Below}
+use Rattle.imdf_read.proofs.PropertyRule.{BadItem}
+use Rattle.imdf_read.proofs.property_rule.judge_list.Given as goal
+
+-- what the items before add
+abbrev pub invariant-loop-k : goal.invariant-loop-k
+invariant-loop-k l = Adds (Below (BadItem l.row l.place.file l.place.index) (map tree_view l.items) l.k) l.initial.findings.items l.findings.items

@@ -1,0 +1,132 @@
+-- What one pass adds to what was gathered before it.
+use Rattle.std.specs.Prelude.{◌≡◌, ◌⊎◌, ℕ, ℤ, ◌+◌, ◌*◌, ◌^◌, List, [], ◌∷◌, Option, Some, None, Bool, true, false, Contains, length, slice_get, IsTrue, ◌↔◌, min, sum_by, take, if◌then◌else◌}
+use Rattle.std.specs.List.{AllZip}
+use Rattle.exact_json.specs.Json.{Json, IsNarrow}
+use Rattle.geo_shapes.specs.Position.{BreaksPositions}
+use Rattle.venue_types.specs.declared.files.Slot.{Slot}
+use Rattle.venue_types.specs.declared.finding.Finding.{Finding}
+use Rattle.venue_types.specs.declared.finding.Note.{Note}
+use Rattle.imdf_forms.specs.declared.files.File.{File}
+use Rattle.imdf_forms.specs.declared.table.PropertyRow.{PropertyRow}
+use Rattle.imdf_forms.specs.Files.{file_number, geometry_of}
+use Rattle.imdf_forms.specs.Properties.{property_number}
+use Rattle.imdf_forms.specs.Forms.{item_fits}
+use Rattle.imdf_forms.specs.Items.{is_feature, geometry, property}
+use Rattle.imdf_forms.specs.Contents.{IsContent, content_items}
+use Rattle.imdf_read.specs.declared.rules.Rule.{Rule}
+use Rattle.imdf_read.specs.declared.rules.Rule.TheVariants.{F1, F2, F3, F4, M1, M2, M3, C1, C2, C3, C4, C5, C6, V1, L1, Q1, S1, S2, S3, S4, G1, G2}
+use Rattle.imdf_read.specs.declared.rules.NoteKind.{NoteKind}
+use Rattle.imdf_read.specs.Rules.{rule_number, note_number}
+use Rattle.imdf_read.specs.Broken.{IsMisformed, FileBreaks, ItemBreaks, IsAt}
+use Rattle.imdf_read.specs.Noted.{ItemNotes}
+
+-- the new list has what the old one had, and what has the property
+pub record Adds {A : Type 0} (P : A → Type 0) (old new : List A) : Type 0 where
+  pub kept : (x : A) → Contains old x → Contains new x
+  pub only : (x : A) → Contains new x → Contains old x ⊎ P x
+  pub whole : (x : A) → P x → Contains new x
+
+abbrev pub finding_at : Rule → File → ℕ → ℕ → Finding
+finding_at r f k place = record { rule = rule_number r; file = file_number f; index = k; member = place }
+
+abbrev pub note_at : NoteKind → File → ℕ → Note
+note_at kind f k = record { note = note_number kind; file = file_number f; index = k; member = 0 }
+
+-- whether a rule on items takes a test of the item alone, and is told of the feature itself
+abbrev pub is_plain : Rule → Bool
+is_plain C3 = true
+is_plain C4 = true
+is_plain C5 = true
+is_plain L1 = true
+is_plain Q1 = true
+is_plain S4 = true
+is_plain _ = false
+
+abbrev pub plain_rules : List Rule
+plain_rules = C3 ∷ C4 ∷ C5 ∷ L1 ∷ Q1 ∷ S4 ∷ []
+
+-- the rule is broken by the item at this place
+pub record FindsRule (f : File) (k : ℕ) (item : Json) (rule : Rule) (x : Finding) : Type 0 where
+  pub breaks : ItemBreaks rule f item x.member
+  pub is : x ≡ finding_at rule f k x.member
+
+-- one of these rules is
+pub record FindsBy (rules : List Rule) (f : File) (k : ℕ) (item : Json) (x : Finding) : Type 0 where
+  pub rule : Rule
+  pub listed : Contains rules rule
+  pub finds : FindsRule f k item rule x
+
+-- a rule on its geometry is
+abbrev pub FindsInGeometry : File → ℕ → Json → Finding → Type 0
+FindsInGeometry f k item x = FindsRule f k item S3 x ⊎ (FindsRule f k item G1 x ⊎ FindsRule f k item G2 x)
+
+-- a rule is
+pub record FindsInItem (f : File) (k : ℕ) (item : Json) (x : Finding) : Type 0 where
+  pub rule : Rule
+  pub finds : FindsRule f k item rule x
+
+-- an item of a property's list isn't of its form
+pub record FindsBadItem (row : PropertyRow) (f : File) (k : ℕ) (items : List Json) (x : Finding) : Type 0 where
+  pub place : ℕ
+  pub item : Json
+  pub there : slice_get items place ≡ Some item
+  pub unfit : item_fits row.form item ≡ false
+  pub is : x ≡ finding_at C6 f k (property_number row.property + 64 * place)
+
+-- a property of the item at this place isn't of its form
+pub record FindsMisformed (f : File) (k : ℕ) (item : Json) (row : PropertyRow) (x : Finding) : Type 0 where
+  pub of_file : row.file ≡ f
+  pub breaks : IsMisformed row (property item row.property) x.member
+  pub is : x ≡ finding_at C6 f k x.member
+
+-- one of these properties isn't
+pub record FindsMisformedOf (rows : List PropertyRow) (f : File) (k : ℕ) (item : Json) (x : Finding) : Type 0 where
+  pub row : PropertyRow
+  pub listed : Contains rows row
+  pub finds : FindsMisformed f k item row x
+
+-- a value whose lists are short enough for the numbers of a finding
+abbrev pub IsShort : Json → Type 0
+IsShort v = IsNarrow (2 ^ 25) v
+
+-- a rule is broken by an item of the list
+pub record FindsInItems (f : File) (items : List Json) (x : Finding) : Type 0 where
+  pub place : ℕ
+  pub item : Json
+  pub there : slice_get items place ≡ Some item
+  pub finds : FindsInItem f place item x
+
+-- a rule is broken by the file as a whole
+pub record FindsInSlot (f : File) (slot : Slot) (x : Finding) : Type 0 where
+  pub rule : Rule
+  pub breaks : FileBreaks rule f slot
+  pub is : x ≡ finding_at rule f 0 0
+
+-- a rule is broken by the file as a whole, or by an item of its
+abbrev pub FindsInFile : File → Slot → Finding → Type 0
+FindsInFile f slot x = FindsInSlot f slot x ⊎ ((content : Option Json) × IsContent slot content × FindsInItems f (content_items content) x)
+
+-- a note of these kinds is due to the item at this place
+pub record NotesBy (kinds : List NoteKind) (f : File) (k : ℕ) (item : Json) (x : Note) : Type 0 where
+  pub kind : NoteKind
+  pub listed : Contains kinds kind
+  pub due : ItemNotes kind f item
+  pub is : x ≡ note_at kind f k
+
+-- a note is due to the item at this place
+pub record NotesInItem (f : File) (k : ℕ) (item : Json) (x : Note) : Type 0 where
+  pub kind : NoteKind
+  pub sound : is_feature item ≡ true
+  pub due : ItemNotes kind f item
+  pub is : x ≡ note_at kind f k
+
+-- a note is due to an item of the list
+pub record NotesInItems (f : File) (items : List Json) (x : Note) : Type 0 where
+  pub place : ℕ
+  pub item : Json
+  pub there : slice_get items place ≡ Some item
+  pub notes : NotesInItem f place item x
+
+-- a note is due to an item of the file
+abbrev pub NotesInFile : File → Slot → Note → Type 0
+NotesInFile f slot x = (content : Option Json) × IsContent slot content × NotesInItems f (content_items content) x

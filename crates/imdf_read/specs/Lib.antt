@@ -1,0 +1,9 @@
+pub mod Rules
+pub mod Counts
+pub mod Broken
+pub mod Noted
+pub mod Gathering
+pub mod Judging
+pub mod Taking
+pub mod Progress
+pub mod Out

@@ -1,0 +1,23 @@
+//! Reads the files of a venue's folder: its features as rows, the first phase of rules, and notes.
+#![tactic(auto)]
+
+mod figures;
+mod file;
+mod folder;
+mod item;
+mod items;
+mod manifest;
+mod note_rules;
+mod place;
+mod plain_rules;
+mod progress;
+mod property_rule;
+mod read_out;
+mod rows;
+mod rules;
+#[cfg(test)]
+mod tests;
+
+pub use folder::read_folder;
+pub use read_out::ReadOut;
+pub use rules::{NoteKind, Rule};

@@ -1,0 +1,41 @@
+//! The place of an item.
+
+ghost use Rattle.std.specs.Prelude.{◌≡◌};
+ghost use Rattle.imdf_read.specs.Gathering.{finding_at, note_at};
+
+use crate::rules::{NoteKind, Rule};
+use imdf_forms::File;
+use venue_types::{Finding, Note};
+
+/// An item's file, and its index in the list of features.
+#[derive(Clone, Copy, Debug, PartialEq, Eq)]
+pub(crate) struct Place {
+    pub file: File,
+    pub index: u32,
+}
+
+impl Place {
+    /// The finding that the rule is broken there.
+    pub(crate) fn finding(self, rule: Rule, member: u32) -> Finding
+        ensures { result ≡ finding_at rule self.file self.index member }
+    {
+        Finding {
+            rule: rule.number(),
+            file: self.file.number(),
+            index: self.index,
+            member,
+        }
+    }
+
+    /// The note that is due there.
+    pub(crate) fn note(self, kind: NoteKind) -> Note
+        ensures { result ≡ note_at kind self.file self.index }
+    {
+        Note {
+            note: kind.number(),
+            file: self.file.number(),
+            index: self.index,
+            member: 0,
+        }
+    }
+}

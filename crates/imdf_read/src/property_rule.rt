@@ -1,0 +1,82 @@
+//! The rule on properties: each is of its form.
+
+ghost use Rattle.std.specs.Prelude.{◌≡◌, ◌≤◌, ◌^◌, OnOk, map, length};
+ghost use Rattle.exact_json.specs.View.{tree_view};
+ghost use Rattle.imdf_forms.specs.Properties.{properties};
+ghost use Rattle.imdf_read.specs.Gathering.{Adds, FindsBadItem, FindsMisformed, FindsMisformedOf, IsShort};
+
+use crate::place::Place;
+use crate::rules::Rule;
+use exact_json::Tree;
+use imdf_forms::{PropertyRow, fits, item_fits, list_of, properties, property};
+use report_laws::add;
+use venue_types::{Finding, OutOfMemory};
+
+// At each item of a list.
+fn judge_list(
+    findings: &mut Vec<Finding>,
+    place: Place,
+    row: &PropertyRow,
+    items: &[Tree],
+) -> Result<(), OutOfMemory>
+    requires { length items.now ≤ 2 ^ 25 }
+    ensures { OnOk result (Adds (FindsBadItem row.now place.file place.index (map tree_view items.now)) findings.old.items findings.new.items) }
+{
+    for (k, item) in items.iter().enumerate() {
+        let member = row.property.number() as u32 + 64 * k as u32;
+        let unfit = !item_fits(row.form, item);
+        add(findings, unfit, place.finding(Rule::C6, member))?;
+    }
+    Ok(())
+}
+
+// At one property.
+fn judge_property(
+    findings: &mut Vec<Finding>,
+    place: Place,
+    item: &Tree,
+    row: &PropertyRow,
+) -> Result<(), OutOfMemory>
+    requires { IsShort (tree_view item.now) }
+    ensures { OnOk result (Adds (FindsMisformed place.file place.index (tree_view item.now) row.now) findings.old.items findings.new.items) }
+{
+    if row.file != place.file {
+        return Ok(());
+    }
+    let value = property(item, row.property);
+    let unfit = !fits(row.form, value);
+    let member = row.property.number() as u32;
+    add(findings, unfit, place.finding(Rule::C6, member))?;
+    match list_of(row.form, value) {
+        Some(items) => judge_list(findings, place, row, items),
+        None => Ok(()),
+    }
+}
+
+// At each property of a table.
+fn judge_table(
+    findings: &mut Vec<Finding>,
+    place: Place,
+    item: &Tree,
+    table: &[PropertyRow],
+) -> Result<(), OutOfMemory>
+    requires { IsShort (tree_view item.now) }
+    ensures { OnOk result (Adds (FindsMisformedOf table.now place.file place.index (tree_view item.now)) findings.old.items findings.new.items) }
+{
+    for row in table {
+        judge_property(findings, place, item, row)?;
+    }
+    Ok(())
+}
+
+/// At each property of the item.
+pub(crate) fn judge_properties(
+    findings: &mut Vec<Finding>,
+    place: Place,
+    item: &Tree,
+) -> Result<(), OutOfMemory>
+    requires { IsShort (tree_view item.now) }
+    ensures { OnOk result (Adds (FindsMisformedOf properties place.file place.index (tree_view item.now)) findings.old.items findings.new.items) }
+{
+    judge_table(findings, place, item, properties())
+}
