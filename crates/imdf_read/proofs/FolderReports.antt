@@ -1,23 +1,22 @@
 -- What a folder's report, notes and rows are, once all files are read.
-use Rattle.std.proofs.Common.{◌≡◌, ◌≢◌, ◌∙◌, ℕ, ◌-◌, ◌^◌, ◌<◌, ◌≤◌, zero, suc, min, List, [], ◌∷◌, Option, Some, Bool, true, false, nat_lt, length, take, drop, refl, sym, ap, subst, arith, ◌⊎◌, inl, inr}
+use Rattle.std.proofs.Common.{◌≡◌, ◌≢◌, ◌∙◌, ℕ, ◌-◌, ◌^◌, ◌<◌, ◌≤◌, zero, suc, min, List, [], ◌∷◌, Option, Some, true, nat_lt, length, take, drop, refl, sym, ap, subst, arith, ◌⊎◌, inl, inr}
 use Rattle.std.specs.Prelude.{Contains, slice_get, sum_by}
 use Rattle.std.specs.List.{AllZip}
 use Rattle.std.proofs.lemmas.Bool.Decides.{Decides-ltb}
-use Rattle.std.specs.declared.cmp.Ordering.{Ordering}
 use Rattle.exact_json.specs.Json.{Json}
 use Rattle.venue_types.specs.declared.files.Files.{Files}
 use Rattle.venue_types.specs.declared.files.Slot.{Slot}
 use Rattle.venue_types.specs.declared.features.Features.{Features}
 use Rattle.venue_types.specs.declared.finding.Finding.{Finding}
 use Rattle.venue_types.specs.declared.finding.Note.{Note}
-use Rattle.report_laws.specs.Reports.{Lists, IsReport, IsNoteList}
+use Rattle.report_laws.specs.Reports.{IsReport, IsNoteList}
 use Rattle.report_laws.proofs.Phases.{Lists-same}
 use Rattle.report_laws.proofs.Members.{Contains-nil}
 use Rattle.report_laws.specs.Order.{finding_cmp, note_cmp}
 use Rattle.imdf_forms.specs.declared.files.File.{File}
 use Rattle.imdf_forms.specs.declared.files.File.TheVariants as file
 use Rattle.imdf_forms.specs.Files.{file_number, feature_files}
-use Rattle.imdf_forms.specs.Contents.{IsContent, content_items, HasContent}
+use Rattle.imdf_forms.specs.Contents.{IsContent, content_items}
 use Rattle.imdf_rows.specs.Folder.{AreRows, AreFeatures}
 use Rattle.imdf_read.specs.declared.rules.Rule.{Rule}
 use Rattle.imdf_read.specs.declared.rules.Rule.TheVariants.{F1, F2, F3, F4, M1, M2, M3, C1, C2, C3, C4, C5, C6, V1, L1, Q1, S1, S2, S3, S4, G1, G2}
@@ -25,11 +24,11 @@ use Rattle.imdf_read.specs.declared.rules.NoteKind.{NoteKind}
 use Rattle.imdf_read.specs.declared.rules.NoteKind.TheVariants.{N1, N2, N5}
 use Rattle.imdf_read.specs.declared.progress.Progress.{Progress}
 use Rattle.imdf_read.specs.Rules.{rule_number, note_number}
-use Rattle.imdf_read.specs.Counts.{collected, total_positions, AreContents}
-use Rattle.imdf_read.specs.Broken.{FolderBreaks, BreaksInFolder, BreaksInFile, BreaksInItem, IsBroken, IsAt}
+use Rattle.imdf_read.specs.Counts.{collected, total_positions}
+use Rattle.imdf_read.specs.Broken.{FolderBreaks, BreaksInFolder, BreaksInFile, BreaksInItem, IsBroken}
 use Rattle.imdf_read.specs.Noted.{ItemNotes, IsNoted}
-use Rattle.imdf_read.specs.Gathering.{Adds, finding_at, note_at, FindsInSlot, FindsInItems, FindsInFile, NotesInFile}
-use Rattle.imdf_read.specs.Progress.{FindsAt, FoundUpTo, NotedUpTo, CountsUpTo, IsUpTo, HasRows, HaveRows}
+use Rattle.imdf_read.specs.Gathering.{Adds, finding_at, note_at, FindsInFile}
+use Rattle.imdf_read.specs.Progress.{FoundUpTo, NotedUpTo, CountsUpTo, IsUpTo, HasRows, HaveRows}
 use Rattle.imdf_read.proofs.Adding.{Adds-then}
 use Rattle.imdf_read.proofs.Folders.{below_17, finds_at}
 

@@ -1,6 +1,6 @@
 -- The items of a file, put together from one after the other.
-use Rattle.std.proofs.Common.{◌≡◌, ◌∙◌, ℕ, ◌+◌, ◌-◌, ◌^◌, ◌<◌, ◌≤◌, zero, suc, min, List, [], ◌∷◌, ◌++◌, Option, Some, None, Bool, true, false, cond, ◌&&◌, zero-add, length, get_or, take, map, refl, sym, ap, subst, arith, ◌⊎◌, inl, inr, IsTrue, ◌↔◌}
-use Rattle.std.specs.Prelude.{slice_get, sum_by}
+use Rattle.std.proofs.Common.{◌≡◌, ◌∙◌, ℕ, ◌+◌, ◌-◌, ◌^◌, ◌<◌, ◌≤◌, zero, suc, min, List, [], ◌∷◌, ◌++◌, Bool, true, false, cond, ◌&&◌, zero-add, length, get_or, take, map, refl, sym, ap, subst, arith, inl, inr}
+use Rattle.std.specs.Prelude.{sum_by}
 use Rattle.std.proofs.lemmas.Bool.{cases_Bool}
 use Rattle.std.proofs.lemmas.List.{take_more, length-map}
 use Rattle.std.proofs.lemmas.List.Sums.{sum_by-append}
@@ -11,7 +11,6 @@ use Rattle.imdf_read.proofs.Adding.{Below}
 use Rattle.venue_types.specs.declared.finding.Finding.{Finding}
 use Rattle.venue_types.specs.declared.finding.Note.{Note}
 use Rattle.exact_json.specs.Json.{Json}
-use Rattle.geo_shapes.specs.Position.{BreaksPositions}
 use Rattle.imdf_forms.specs.declared.files.File.{File}
 use Rattle.imdf_forms.specs.declared.files.Geometry.{Geometry}
 use Rattle.imdf_forms.specs.declared.files.Geometry.TheVariants as kind
@@ -23,7 +22,7 @@ use Rattle.imdf_read.specs.declared.rules.Rule.TheVariants.{C2, C5, G1, G2}
 use Rattle.imdf_read.specs.declared.figures.Judged.{Judged}
 use Rattle.imdf_read.specs.Counts.{places_of, is_judged, item_positions}
 use Rattle.imdf_read.specs.Gathering.{Adds, FindsInItem, FindsInItems, NotesInItem, NotesInItems, finding_at}
-use Rattle.imdf_read.specs.Judging.{IsJudged, IsRead, StandsFor}
+use Rattle.imdf_read.specs.Judging.{IsJudged, StandsFor}
 use Rattle.imdf_read.proofs.Adding.{Adds-same, Among}
 
 flag_down : (b : Bool) → (b ≡ true → ⊥) → b ≡ false

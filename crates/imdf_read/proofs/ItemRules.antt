@@ -1,23 +1,20 @@
 -- The rules on an item, put together.
-use Rattle.std.proofs.Common.{◌≡◌, ◌∙◌, ℕ, ◌<◌, ◌≤◌, List, [], ◌∷◌, Bool, true, false, ◌&&◌, nat_lt, IsTrue, ◌↔◌, refl, sym, ap, subst, arith, ◌⊎◌, inl, inr}
+use Rattle.std.proofs.Common.{◌≡◌, ◌∙◌, ℕ, ◌<◌, List, Bool, true, false, ◌&&◌, nat_lt, refl, sym, ap, subst, arith, ◌⊎◌, inl, inr}
 use Rattle.std.specs.Prelude.{Contains}
 use Rattle.std.proofs.lemmas.Bool.{cases_Bool}
 use Rattle.std.proofs.lemmas.Bool.Decides.{Decides-ltb}
 use Rattle.venue_types.specs.declared.finding.Finding.{Finding}
 use Rattle.exact_json.specs.Json.{Json}
-use Rattle.geo_shapes.specs.Position.{BreaksPositions}
 use Rattle.imdf_forms.specs.declared.files.File.{File}
-use Rattle.imdf_forms.specs.declared.table.PropertyRow.{PropertyRow}
-use Rattle.imdf_forms.specs.Files.{geometry_of}
-use Rattle.imdf_forms.specs.Items.{is_feature, geometry}
+use Rattle.imdf_forms.specs.Items.{is_feature}
 use Rattle.imdf_forms.specs.Properties.{properties}
 use Rattle.imdf_read.specs.declared.rules.Rule.{Rule}
 use Rattle.imdf_read.specs.declared.rules.Rule.TheVariants.{F1, F2, F3, F4, M1, M2, M3, C1, C2, C3, C4, C5, C6, V1, L1, Q1, S1, S2, S3, S4, G1, G2}
 use Rattle.imdf_read.specs.declared.figures.Judged.{Judged}
-use Rattle.imdf_read.specs.Counts.{places_of, is_judged, longest_ring}
-use Rattle.imdf_read.specs.Broken.{ItemBreaks, BreaksForm}
-use Rattle.imdf_read.specs.Gathering.{Adds, FindsBy, FindsRule, FindsInGeometry, FindsInItem, FindsMisformed, FindsMisformedOf, finding_at, plain_rules}
-use Rattle.imdf_read.specs.Judging.{IsJudged, IsRead, IsPassed}
+use Rattle.imdf_read.specs.Counts.{is_judged}
+use Rattle.imdf_read.specs.Broken.{ItemBreaks}
+use Rattle.imdf_read.specs.Gathering.{Adds, FindsBy, FindsRule, FindsInGeometry, FindsInItem, FindsMisformedOf, finding_at, plain_rules}
+use Rattle.imdf_read.specs.Judging.{IsJudged, IsPassed}
 use Rattle.imdf_read.proofs.Adding.{Adds-same, Adds-then}
 
 -- a test of a rule that is told of the feature itself

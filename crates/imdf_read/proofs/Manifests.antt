@@ -1,10 +1,9 @@
 -- The rules on the manifest, put together.
-use Rattle.std.proofs.Common.{◌≡◌, ◌≢◌, ◌∙◌, ℕ, List, Bool, true, false, not, ◌&&◌, ◌||◌, refl, sym, ap, subst, ◌⊎◌, inl, inr, codes}
+use Rattle.std.proofs.Common.{◌≡◌, ◌∙◌, List, Bool, true, false, not, ◌&&◌, ◌||◌, refl, sym, ap, subst, ◌⊎◌, inl, inr, codes}
 use Rattle.venue_types.specs.declared.finding.Finding.{Finding}
 use Rattle.venue_types.specs.declared.files.Slot.{Slot}
-use Rattle.venue_types.specs.declared.files.Slot.TheVariants.{Absent, Held}
+use Rattle.venue_types.specs.declared.files.Slot.TheVariants.{Absent}
 use Rattle.exact_json.specs.Json.{Json, member}
-use Rattle.imdf_forms.specs.declared.files.File.{File}
 use Rattle.imdf_forms.specs.declared.files.File.TheVariants as file
 use Rattle.imdf_forms.specs.Values.{is_null, is_object, is_text, is_word}
 use Rattle.imdf_forms.specs.Contents.{HasValue, IsLarge, IsNoText, IsDeep}

@@ -1,5 +1,5 @@
 -- The notes on an item, put together.
-use Rattle.std.proofs.Common.{◌≡◌, ◌∙◌, ℕ, List, [], ◌∷◌, Bool, true, false, IsTrue, ◌↔◌, refl, sym, ap, subst, arith}
+use Rattle.std.proofs.Common.{◌≡◌, ◌∙◌, ℕ, List, [], ◌∷◌, Bool, true, false, IsTrue, ◌↔◌, refl, sym, arith}
 use Rattle.std.specs.Prelude.{Contains}
 use Rattle.venue_types.specs.declared.finding.Note.{Note}
 use Rattle.exact_json.specs.Json.{Json}

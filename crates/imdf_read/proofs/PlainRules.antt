@@ -1,5 +1,5 @@
 -- The rules of one test, put together.
-use Rattle.std.proofs.Common.{◌≡◌, ◌∙◌, ℕ, ℤ, ◌+◌, ◌<◌, suc, List, [], ◌∷◌, Bool, true, false, not, ◌&&◌, ◌||◌, length, get_or, drop, drop-cons, IsTrue, ◌↔◌, refl, sym, ap, subst, arith, codes}
+use Rattle.std.proofs.Common.{◌≡◌, ◌∙◌, ℕ, ℤ, ◌+◌, ◌<◌, suc, List, ◌∷◌, Bool, true, false, not, ◌&&◌, length, get_or, drop, drop-cons, IsTrue, ◌↔◌, refl, sym, ap, subst, arith, codes}
 use Rattle.std.specs.List.{list_all}
 use Rattle.venue_types.specs.declared.finding.Finding.{Finding}
 use Rattle.exact_json.specs.Json.{Json}

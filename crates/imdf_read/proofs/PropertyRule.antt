@@ -1,6 +1,6 @@
 -- The rule on properties, put together from its tests.
-use Rattle.std.proofs.Common.{◌≡◌, ◌∙◌, ℕ, ◌+◌, ◌*◌, ◌≤◌, ◌^◌, List, [], Option, Some, None, Bool, true, false, not, length, map, option_map, unwrap_or, refl, sym, ap, subst, arith, ◌⊎◌, inl, inr, ◌↔◌, IsTrue}
-use Rattle.std.specs.Prelude.{Contains, slice_get}
+use Rattle.std.proofs.Common.{◌≡◌, ◌∙◌, ℕ, ◌+◌, ◌*◌, List, [], Some, None, Bool, true, false, not, refl, sym, ap, subst, inl, inr, ◌↔◌, IsTrue}
+use Rattle.std.specs.Prelude.{slice_get}
 use Rattle.venue_types.specs.declared.finding.Finding.{Finding}
 use Rattle.exact_json.specs.Json.{Json}
 use Rattle.imdf_forms.specs.declared.files.File.{File}
@@ -9,9 +9,8 @@ use Rattle.imdf_forms.specs.Properties.{property_number}
 use Rattle.imdf_forms.specs.Forms.{Fits, items_of, item_fits}
 use Rattle.imdf_forms.specs.Items.{property}
 use Rattle.imdf_read.specs.declared.rules.Rule.TheVariants.{C6}
-use Rattle.imdf_read.specs.Broken.{IsMisformed}
 use Rattle.imdf_read.specs.Gathering.{Adds, finding_at, FindsBadItem, FindsMisformed, FindsMisformedOf}
-use Rattle.imdf_read.proofs.Adding.{Adds-same, Adds-found, Adds-then, Below, Among, Adds-none, at_member, member_at}
+use Rattle.imdf_read.proofs.Adding.{Adds-same, Adds-then, Among, Adds-none, at_member, member_at}
 
 -- an item of the list at this place in it isn't of its form
 abbrev pub BadItem : PropertyRow → File → ℕ → ℕ → Json → Finding → Type 0

@@ -1,6 +1,6 @@
 -- The rules on a file as a whole, and those on its items, put together.
-use Rattle.std.proofs.Common.{◌≡◌, ◌≢◌, ◌∙◌, ℕ, ◌-◌, ◌^◌, ◌<◌, ◌≤◌, min, List, [], ◌∷◌, Option, Some, None, Bool, true, false, not, cond, length, refl, sym, ap, subst, arith, ◌⊎◌, inl, inr, IsTrue, ◌↔◌}
-use Rattle.std.specs.Prelude.{slice_get, sum_by, Contains}
+use Rattle.std.proofs.Common.{◌≡◌, ◌≢◌, ◌∙◌, ℕ, ◌^◌, ◌<◌, ◌≤◌, List, [], Option, Some, None, Bool, true, false, not, cond, length, refl, sym, ap, subst, arith, ◌⊎◌, inl, inr, IsTrue, ◌↔◌}
+use Rattle.std.specs.Prelude.{slice_get}
 use Rattle.std.specs.List.{AllZip}
 use Rattle.venue_types.specs.declared.finding.Finding.{Finding}
 use Rattle.venue_types.specs.declared.finding.Note.{Note}
@@ -16,7 +16,6 @@ use Rattle.imdf_read.specs.declared.items.Taken.{Taken}
 use Rattle.imdf_read.specs.declared.rules.Rule.{Rule}
 use Rattle.imdf_read.specs.declared.rules.Rule.TheVariants.{F1, F2, F3, F4, M1, M2, M3, C1, C2, C3, C4, C5, C6, V1, L1, Q1, S1, S2, S3, S4, G1, G2}
 use Rattle.imdf_read.specs.Broken.{FileBreaks}
-use Rattle.imdf_read.specs.Counts.{collected, file_positions, item_positions}
 use Rattle.imdf_read.specs.Gathering.{Adds, finding_at, FindsInSlot, FindsInItems, FindsInFile, NotesInItems, NotesInFile}
 use Rattle.imdf_read.specs.Taking.{Takes, TakesItems, TakesNothing, HasOnlyValue, HasFault, IsTextOf}
 use Rattle.imdf_read.proofs.Adding.{Adds-same, Adds-then, Adds-none}

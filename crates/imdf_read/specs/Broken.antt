@@ -1,11 +1,11 @@
 -- The rules of the first phase: where each is broken. Each rule stands in one of three tables: those on the folder, those on a file, and those on an item.
-use Rattle.std.specs.Prelude.{◌≡◌, ◌≢◌, ℕ, ℤ, ◌+◌, ◌*◌, ◌<◌, ◌⊎◌, List, [], ◌∷◌, Option, Some, None, Bool, true, false, not, ◌||◌, length, slice_get, Contains, sum_by, codes}
+use Rattle.std.specs.Prelude.{◌≡◌, ◌≢◌, ℕ, ℤ, ◌+◌, ◌*◌, ◌<◌, ◌⊎◌, List, Option, Some, true, false, ◌||◌, length, slice_get, Contains, sum_by, codes}
 use Rattle.exact_json.specs.Json.{Json, member}
 use Rattle.geo_shapes.specs.Position.{BreaksPositions}
 use Rattle.geo_shapes.specs.Geometry.{BreaksLineForm, BreaksShapeForm}
 use Rattle.venue_types.specs.declared.files.Files.{Files}
 use Rattle.venue_types.specs.declared.files.Slot.{Slot}
-use Rattle.venue_types.specs.declared.files.Slot.TheVariants.{Absent, Held}
+use Rattle.venue_types.specs.declared.files.Slot.TheVariants.{Absent}
 use Rattle.venue_types.specs.declared.finding.Finding.{Finding}
 use Rattle.imdf_forms.specs.declared.files.File.{File}
 use Rattle.imdf_forms.specs.declared.files.File.TheVariants as file

@@ -1,14 +1,14 @@
 -- What is counted: the items of a folder, the positions of its judged geometries, and the elements of a relationship.
-use Rattle.std.specs.Prelude.{◌≡◌, ℕ, ◌+◌, List, [], ◌∷◌, length, drop, Option, Some, None, Bool, true, false, not, ◌&&◌, sum_by, filter, if◌then◌else◌, codes}
+use Rattle.std.specs.Prelude.{ℕ, ◌+◌, List, [], ◌∷◌, length, drop, Option, Some, None, Bool, ◌&&◌, sum_by, if◌then◌else◌}
 use Rattle.std.specs.List.{AllZip}
-use Rattle.exact_json.specs.Json.{Json, member}
+use Rattle.exact_json.specs.Json.{Json}
 use Rattle.geo_shapes.specs.Geometry.{point_places, line_places, shape_places, ring_places, longest_of}
 use Rattle.venue_types.specs.declared.files.Files.{Files}
 use Rattle.imdf_forms.specs.declared.files.File.{File}
 use Rattle.imdf_forms.specs.declared.files.Geometry.{Geometry}
 use Rattle.imdf_forms.specs.declared.files.Geometry.TheVariants as kind
 use Rattle.imdf_forms.specs.declared.table.Property.TheVariants as property
-use Rattle.imdf_forms.specs.Files.{geometry_of, feature_files}
+use Rattle.imdf_forms.specs.Files.{geometry_of}
 use Rattle.imdf_forms.specs.Values.{is_null, listed}
 use Rattle.imdf_forms.specs.Items.{is_collection, is_feature, items_in, geometry, fits_geometry}
 use Rattle.imdf_forms.specs.Items as item

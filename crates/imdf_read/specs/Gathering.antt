@@ -1,23 +1,21 @@
 -- What one pass adds to what was gathered before it.
-use Rattle.std.specs.Prelude.{◌≡◌, ◌⊎◌, ℕ, ℤ, ◌+◌, ◌*◌, ◌^◌, List, [], ◌∷◌, Option, Some, None, Bool, true, false, Contains, length, slice_get, IsTrue, ◌↔◌, min, sum_by, take, if◌then◌else◌}
-use Rattle.std.specs.List.{AllZip}
+use Rattle.std.specs.Prelude.{◌≡◌, ◌⊎◌, ℕ, ◌+◌, ◌*◌, ◌^◌, List, [], ◌∷◌, Option, Some, Bool, true, false, Contains, slice_get}
 use Rattle.exact_json.specs.Json.{Json, IsNarrow}
-use Rattle.geo_shapes.specs.Position.{BreaksPositions}
 use Rattle.venue_types.specs.declared.files.Slot.{Slot}
 use Rattle.venue_types.specs.declared.finding.Finding.{Finding}
 use Rattle.venue_types.specs.declared.finding.Note.{Note}
 use Rattle.imdf_forms.specs.declared.files.File.{File}
 use Rattle.imdf_forms.specs.declared.table.PropertyRow.{PropertyRow}
-use Rattle.imdf_forms.specs.Files.{file_number, geometry_of}
+use Rattle.imdf_forms.specs.Files.{file_number}
 use Rattle.imdf_forms.specs.Properties.{property_number}
 use Rattle.imdf_forms.specs.Forms.{item_fits}
-use Rattle.imdf_forms.specs.Items.{is_feature, geometry, property}
+use Rattle.imdf_forms.specs.Items.{is_feature, property}
 use Rattle.imdf_forms.specs.Contents.{IsContent, content_items}
 use Rattle.imdf_read.specs.declared.rules.Rule.{Rule}
-use Rattle.imdf_read.specs.declared.rules.Rule.TheVariants.{F1, F2, F3, F4, M1, M2, M3, C1, C2, C3, C4, C5, C6, V1, L1, Q1, S1, S2, S3, S4, G1, G2}
+use Rattle.imdf_read.specs.declared.rules.Rule.TheVariants.{C3, C4, C5, C6, L1, Q1, S3, S4, G1, G2}
 use Rattle.imdf_read.specs.declared.rules.NoteKind.{NoteKind}
 use Rattle.imdf_read.specs.Rules.{rule_number, note_number}
-use Rattle.imdf_read.specs.Broken.{IsMisformed, FileBreaks, ItemBreaks, IsAt}
+use Rattle.imdf_read.specs.Broken.{IsMisformed, FileBreaks, ItemBreaks}
 use Rattle.imdf_read.specs.Noted.{ItemNotes}
 
 -- the new list has what the old one had, and what has the property

@@ -1,5 +1,5 @@
 -- What was read of a geometry.
-use Rattle.std.specs.Prelude.{◌≡◌, ◌^◌, ◌-◌, ℕ, Bool, true, false, IsTrue, ◌↔◌, min, length}
+use Rattle.std.specs.Prelude.{◌≡◌, ◌^◌, ◌-◌, true, false, IsTrue, ◌↔◌, min, length}
 use Rattle.exact_json.specs.Json.{Json}
 use Rattle.geo_shapes.specs.Position.{BreaksPositions}
 use Rattle.imdf_forms.specs.declared.files.File.{File}

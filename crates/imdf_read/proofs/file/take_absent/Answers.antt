@@ -1,4 +1,4 @@
-use Rattle.std.proofs.Common.{◌∙◌, rules, refl, inl, sym, true}
+use Rattle.std.proofs.Common.{◌∙◌, rules, refl, inl, sym}
 use denote.Enum.Bare.{same_true, true_same}
 use Rattle.venue_types.specs.declared.files.Slot.TheVariants.{Absent}
 use Rattle.imdf_forms.specs.contracts.files.File.{the_type}

@@ -1,11 +1,9 @@
-use Rattle.std.proofs.Common.{◌≡◌, ◌<◌, ◌≤◌, ◌^◌, List, ℕ, Result, Ok, Err, length, sym, ap, subst}
+use Rattle.std.proofs.Common.{◌<◌, ◌^◌, Result, Ok, Err, length, ap, subst}
 use Rattle.std.specs.Result.{IfOk}
 use Rattle.exact_json.specs.Json.{Json, depth}
 use Rattle.exact_json.specs.Grammar.{IsJson, Misread}
 use Rattle.exact_json.specs.View.{tree_view}
 use Rattle.exact_json.specs.declared.fault.JsonFault.{JsonFault}
-use Rattle.imdf_read.specs.declared.rules.Rule.TheVariants.{F3, F4}
-use Rattle.imdf_read.specs.Taking.{HasOnlyValue, HasFault}
 use Rattle.imdf_read.proofs.Adding.{on_ok}
 use Rattle.imdf_read.proofs.Narrow.{wider}
 use Rattle.imdf_read.proofs.Slots.{value_known, text_fault, deep_fault}

@@ -1,9 +1,7 @@
-use Rattle.std.proofs.Common.{◌≡◌, ◌∙◌, ℕ, ◌≤◌, ◌^◌, List, Some, not, length, refl, sym, ap, subst, codes, if◌then◌else◌}
+use Rattle.std.proofs.Common.{◌≡◌, ◌≤◌, ◌^◌, List, Some, not, length, sym, subst, codes}
 use Rattle.std.specs.Prelude.{slice_get}
 use Rattle.exact_json.specs.Json.{Json, member}
 use Rattle.exact_json.specs.View.{tree_view}
-use Rattle.venue_types.specs.declared.finding.Note.{Note}
-use Rattle.venue_types.specs.declared.finding.Finding.{Finding}
 use Rattle.imdf_forms.specs.Items.{items_in}
 use Rattle.imdf_read.specs.Gathering.{Adds, FindsInItems, NotesInItems}
 use Rattle.imdf_read.specs.Taking.{TakesItems}

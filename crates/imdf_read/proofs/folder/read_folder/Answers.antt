@@ -1,4 +1,4 @@
-use Rattle.std.proofs.Common.{◌≡◌, List, nat_lt, subst}
+use Rattle.std.proofs.Common.{List, nat_lt, subst}
 use Rattle.venue_types.specs.declared.files.Slot.{Slot}
 use Rattle.imdf_read.specs.Progress.{IsUpTo, HaveRows}
 use Rattle.imdf_read.proofs.Adding.{Adds-found}

@@ -1,4 +1,4 @@
-use Rattle.std.proofs.Common.{◌≡◌, ◌<◌, Err, ap, subst}
+use Rattle.std.proofs.Common.{◌<◌, Err, ap, subst}
 use Rattle.exact_json.specs.Json.{Json, depth}
 use Rattle.exact_json.specs.Grammar.{IsJson, Misread}
 use Rattle.exact_json.specs.View.{tree_view}

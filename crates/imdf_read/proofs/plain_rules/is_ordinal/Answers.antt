@@ -1,4 +1,4 @@
-use Rattle.std.proofs.Common.{◌≡◌, ◌∙◌, ℤ, Option, Some, None, Bool, true, false, is_some, IsTrue, IfSome, IfNone, ◌↔◌, refl, sym, subst}
+use Rattle.std.proofs.Common.{ℤ, Option, Some, None, Bool, is_some, IsTrue, IfSome, IfNone, ◌↔◌, refl, sym, subst}
 use Rattle.exact_json.specs.Json.{Json}
 use Rattle.imdf_forms.specs.Values.{seen}
 use Rattle.imdf_rows.specs.Fields.{IsOrdinal}

@@ -1,9 +1,8 @@
-use Rattle.std.proofs.Common.{◌≡◌, ◌∙◌, ℕ, ◌≤◌, ◌^◌, List, [], not, map, rules, sym, ap, subst, ◌↔◌, IsTrue, Result, Ok, Err}
+use Rattle.std.proofs.Common.{◌≡◌, ◌∙◌, ◌^◌, [], not, map, rules, sym, ap, subst, ◌↔◌, IsTrue, Result, Ok, Err}
 use Rattle.std.specs.Result.{OnOk}
 use denote.Enum.Bare.{differs_true, differs_false}
 use Rattle.exact_json.specs.Json.{Json}
 use Rattle.exact_json.specs.View.{tree_view}
-use Rattle.venue_types.specs.declared.finding.Finding.{Finding}
 use Rattle.imdf_forms.specs.contracts.files.File.{the_type}
 use Rattle.imdf_forms.specs.Forms.{Fits, items_of}
 use Rattle.imdf_forms.specs.Items.{property}
