@@ -27,9 +27,10 @@ use Rattle.imdf_read.specs.Rules.{rule_number, note_number}
 use Rattle.imdf_read.specs.Counts.{collected, total_positions}
 use Rattle.imdf_read.specs.Broken.{FolderBreaks, BreaksInFolder, BreaksInFile, BreaksInItem, IsBroken}
 use Rattle.imdf_read.specs.Noted.{ItemNotes, IsNoted}
-use Rattle.imdf_read.specs.Gathering.{Adds, finding_at, note_at, FindsInFile}
+use Rattle.report_laws.specs.Passes.{Adds}
+use Rattle.imdf_read.specs.Gathering.{finding_at, note_at, FindsInFile}
 use Rattle.imdf_read.specs.Progress.{FoundUpTo, NotedUpTo, CountsUpTo, IsUpTo, HasRows, HaveRows}
-use Rattle.imdf_read.proofs.Adding.{Adds-then}
+use Rattle.report_laws.proofs.Adding.{Adds-then}
 use Rattle.imdf_read.proofs.Folders.{below_17, finds_at}
 
 abbrev build : ℕ → ℕ → ℕ → ℕ → Finding

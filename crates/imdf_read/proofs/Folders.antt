@@ -17,7 +17,8 @@ use Rattle.imdf_forms.specs.Contents.{IsContent, content_items}
 use Rattle.imdf_read.specs.declared.items.Taken.{Taken}
 use Rattle.imdf_read.specs.declared.progress.Progress.{Progress}
 use Rattle.imdf_read.specs.Counts.{collected, file_positions, total_positions}
-use Rattle.imdf_read.specs.Gathering.{Adds, FindsInSlot, FindsInFile, NotesInFile}
+use Rattle.report_laws.specs.Passes.{Adds}
+use Rattle.imdf_read.specs.Gathering.{FindsInSlot, FindsInFile, NotesInFile}
 use Rattle.imdf_read.specs.Progress.{FindsAt, FoundUpTo, NotedUpTo, CountsUpTo, IsUpTo, HasRows}
 use Rattle.imdf_read.specs.Taking.{Takes}
 use Rattle.imdf_read.proofs.ItemLists.{sum_push}

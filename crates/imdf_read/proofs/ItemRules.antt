@@ -13,9 +13,10 @@ use Rattle.imdf_read.specs.declared.rules.Rule.TheVariants.{F1, F2, F3, F4, M1, 
 use Rattle.imdf_read.specs.declared.figures.Judged.{Judged}
 use Rattle.imdf_read.specs.Counts.{is_judged}
 use Rattle.imdf_read.specs.Broken.{ItemBreaks}
-use Rattle.imdf_read.specs.Gathering.{Adds, FindsBy, FindsRule, FindsInGeometry, FindsInItem, FindsMisformedOf, finding_at, plain_rules}
+use Rattle.report_laws.specs.Passes.{Adds}
+use Rattle.imdf_read.specs.Gathering.{FindsBy, FindsRule, FindsInGeometry, FindsInItem, FindsMisformedOf, finding_at, plain_rules}
 use Rattle.imdf_read.specs.Judging.{IsJudged, IsPassed}
-use Rattle.imdf_read.proofs.Adding.{Adds-same, Adds-then}
+use Rattle.report_laws.proofs.Adding.{Adds-same, Adds-then}
 
 -- a test of a rule that is told of the feature itself
 pub adds_one : (r : Rule) (f : File) (i : ℕ) (item : Json) (broken : Bool) (place : Finding) (old new : List Finding)

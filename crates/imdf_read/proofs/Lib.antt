@@ -1,4 +1,3 @@
-mod Adding
 mod ItemRules
 mod FolderReports
 mod Folders

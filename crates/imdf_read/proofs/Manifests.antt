@@ -10,9 +10,10 @@ use Rattle.imdf_forms.specs.Contents.{HasValue, IsLarge, IsNoText, IsDeep}
 use Rattle.imdf_read.specs.declared.rules.Rule.{Rule}
 use Rattle.imdf_read.specs.declared.rules.Rule.TheVariants.{F1, F2, F3, F4, M1, M2, M3, C1, C2, C3, C4, C5, C6, V1, L1, Q1, S1, S2, S3, S4, G1, G2}
 use Rattle.imdf_read.specs.Broken.{FileBreaks}
-use Rattle.imdf_read.specs.Gathering.{Adds, finding_at, FindsInSlot}
+use Rattle.report_laws.specs.Passes.{Adds}
+use Rattle.imdf_read.specs.Gathering.{finding_at, FindsInSlot}
 use Rattle.imdf_read.specs.Taking.{HasOnlyValue, HasFault}
-use Rattle.imdf_read.proofs.Adding.{Adds-same, Adds-then}
+use Rattle.report_laws.proofs.Adding.{Adds-same, Adds-then}
 use Rattle.imdf_read.proofs.Slots.{Whole, adds_whole, text_of, not_absent, not_large, some_text, not_deep, fault_value, fault_there, large_text, large_deep, text_deep}
 
 abbrev One : Slot → Rule → Finding → Type 0

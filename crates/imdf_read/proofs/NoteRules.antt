@@ -8,8 +8,9 @@ use Rattle.imdf_forms.specs.Items.{is_feature}
 use Rattle.imdf_read.specs.declared.rules.NoteKind.{NoteKind}
 use Rattle.imdf_read.specs.declared.rules.NoteKind.TheVariants.{N1, N2, N5}
 use Rattle.imdf_read.specs.Noted.{ItemNotes}
-use Rattle.imdf_read.specs.Gathering.{Adds, NotesBy, NotesInItem, note_at}
-use Rattle.imdf_read.proofs.Adding.{Adds-same, Adds-none, Among, at_member, member_at}
+use Rattle.report_laws.specs.Passes.{Adds}
+use Rattle.imdf_read.specs.Gathering.{NotesBy, NotesInItem, note_at}
+use Rattle.report_laws.proofs.Adding.{Adds-same, Adds-none, Among, at_member, member_at}
 
 -- a note of this kind is due
 abbrev pub Due : File → ℕ → Json → NoteKind → Note → Type 0

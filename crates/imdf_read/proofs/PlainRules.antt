@@ -10,8 +10,9 @@ use Rattle.imdf_rows.specs.Fields.{IsOrdinal}
 use Rattle.imdf_read.specs.declared.rules.Rule.{Rule}
 use Rattle.imdf_read.specs.declared.rules.Rule.TheVariants.{F1, F2, F3, F4, M1, M2, M3, C1, C2, C3, C4, C5, C6, V1, L1, Q1, S1, S2, S3, S4, G1, G2}
 use Rattle.imdf_read.specs.Broken.{ItemBreaks, further}
-use Rattle.imdf_read.specs.Gathering.{Adds, FindsBy, FindsRule, finding_at, is_plain}
-use Rattle.imdf_read.proofs.Adding.{Adds-same, Among, at_member, member_at}
+use Rattle.report_laws.specs.Passes.{Adds}
+use Rattle.imdf_read.specs.Gathering.{FindsBy, FindsRule, finding_at, is_plain}
+use Rattle.report_laws.proofs.Adding.{Adds-same, Among, at_member, member_at}
 
 -- a plain rule is broken by the feature itself
 at_zero : (r : Rule) (f : File) (item : Json) (place : ℕ) → is_plain r ≡ true → ItemBreaks r f item place → (place ≡ 0) × ItemBreaks r f item 0

@@ -9,8 +9,9 @@ use Rattle.imdf_forms.specs.Properties.{property_number}
 use Rattle.imdf_forms.specs.Forms.{Fits, items_of, item_fits}
 use Rattle.imdf_forms.specs.Items.{property}
 use Rattle.imdf_read.specs.declared.rules.Rule.TheVariants.{C6}
-use Rattle.imdf_read.specs.Gathering.{Adds, finding_at, FindsBadItem, FindsMisformed, FindsMisformedOf}
-use Rattle.imdf_read.proofs.Adding.{Adds-same, Adds-then, Among, Adds-none, at_member, member_at}
+use Rattle.report_laws.specs.Passes.{Adds}
+use Rattle.imdf_read.specs.Gathering.{finding_at, FindsBadItem, FindsMisformed, FindsMisformedOf}
+use Rattle.report_laws.proofs.Adding.{Adds-same, Adds-then, Among, Adds-none, at_member, member_at}
 
 -- an item of the list at this place in it isn't of its form
 abbrev pub BadItem : PropertyRow → File → ℕ → ℕ → Json → Finding → Type 0

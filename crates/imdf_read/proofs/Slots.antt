@@ -16,9 +16,10 @@ use Rattle.imdf_read.specs.declared.items.Taken.{Taken}
 use Rattle.imdf_read.specs.declared.rules.Rule.{Rule}
 use Rattle.imdf_read.specs.declared.rules.Rule.TheVariants.{F1, F2, F3, F4, M1, M2, M3, C1, C2, C3, C4, C5, C6, V1, L1, Q1, S1, S2, S3, S4, G1, G2}
 use Rattle.imdf_read.specs.Broken.{FileBreaks}
-use Rattle.imdf_read.specs.Gathering.{Adds, finding_at, FindsInSlot, FindsInItems, FindsInFile, NotesInItems, NotesInFile}
+use Rattle.report_laws.specs.Passes.{Adds}
+use Rattle.imdf_read.specs.Gathering.{finding_at, FindsInSlot, FindsInItems, FindsInFile, NotesInItems, NotesInFile}
 use Rattle.imdf_read.specs.Taking.{Takes, TakesItems, TakesNothing, HasOnlyValue, HasFault, IsTextOf}
-use Rattle.imdf_read.proofs.Adding.{Adds-same, Adds-then, Adds-none}
+use Rattle.report_laws.proofs.Adding.{Adds-same, Adds-then, Adds-none}
 
 -- one rule on the file
 abbrev pub Whole : File → Slot → Rule → Finding → Type 0

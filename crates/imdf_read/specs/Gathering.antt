@@ -18,12 +18,6 @@ use Rattle.imdf_read.specs.Rules.{rule_number, note_number}
 use Rattle.imdf_read.specs.Broken.{IsMisformed, FileBreaks, ItemBreaks}
 use Rattle.imdf_read.specs.Noted.{ItemNotes}
 
--- the new list has what the old one had, and what has the property
-pub record Adds {A : Type 0} (P : A → Type 0) (old new : List A) : Type 0 where
-  pub kept : (x : A) → Contains old x → Contains new x
-  pub only : (x : A) → Contains new x → Contains old x ⊎ P x
-  pub whole : (x : A) → P x → Contains new x
-
 abbrev pub finding_at : Rule → File → ℕ → ℕ → Finding
 finding_at r f k place = record { rule = rule_number r; file = file_number f; index = k; member = place }
 

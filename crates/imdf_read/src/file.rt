@@ -6,7 +6,8 @@ ghost use Rattle.exact_json.specs.View.{tree_view};
 ghost use Rattle.venue_types.specs.declared.files.Slot.{Slot as ASlot};
 ghost use Rattle.venue_types.specs.declared.files.Slot.TheVariants.{Absent};
 ghost use Rattle.imdf_forms.specs.Files.{geometry_of};
-ghost use Rattle.imdf_read.specs.Gathering.{Adds, finding_at, FindsInFile, FindsInItems, NotesInFile, NotesInItems, IsShort};
+ghost use Rattle.report_laws.specs.Passes.{Adds};
+ghost use Rattle.imdf_read.specs.Gathering.{finding_at, FindsInFile, FindsInItems, NotesInFile, NotesInItems, IsShort};
 ghost use Rattle.imdf_read.specs.Taking.{Serves, Takes, TakesItems, HasOnlyValue, HasFault, TakesNothing, AreShort, AreTexts, trees_of};
 
 use crate::items::{Gathered, Taken, take_items};

@@ -3,7 +3,8 @@
 ghost use Rattle.std.specs.Prelude.{◌≡◌, OnOk, IfOk, true, nat_lt};
 ghost use Rattle.exact_json.specs.View.{tree_view};
 ghost use Rattle.imdf_forms.specs.Items.{is_feature as feature_is};
-ghost use Rattle.imdf_read.specs.Gathering.{Adds, FindsRule, FindsInGeometry, FindsInItem, IsShort};
+ghost use Rattle.report_laws.specs.Passes.{Adds};
+ghost use Rattle.imdf_read.specs.Gathering.{FindsRule, FindsInGeometry, FindsInItem, IsShort};
 ghost use Rattle.imdf_read.specs.Judging.{IsJudged};
 
 use crate::figures::{Judged, judged_geometry};

@@ -6,7 +6,8 @@ ghost use Rattle.exact_json.specs.View.{tree_view};
 ghost use Rattle.imdf_forms.specs.Values as values;
 ghost use Rattle.venue_types.specs.declared.files.Slot.{Slot as ASlot};
 ghost use Rattle.venue_types.specs.declared.files.Slot.TheVariants.{Absent};
-ghost use Rattle.imdf_read.specs.Gathering.{Adds, FindsInSlot};
+ghost use Rattle.report_laws.specs.Passes.{Adds};
+ghost use Rattle.imdf_read.specs.Gathering.{FindsInSlot};
 ghost use Rattle.imdf_read.specs.Taking.{HasOnlyValue, HasFault};
 
 use crate::file::{MAX_BYTES, whole};

@@ -6,7 +6,8 @@ ghost use Rattle.exact_json.specs.View.{tree_view};
 ghost use Rattle.imdf_access.specs.Categories.{is_known_unit, passage_of};
 ghost use Rattle.imdf_forms.specs.Values.{seen};
 ghost use Rattle.imdf_read.specs.Noted.{ItemNotes};
-ghost use Rattle.imdf_read.specs.Gathering.{Adds, NotesBy, NotesInItem};
+ghost use Rattle.report_laws.specs.Passes.{Adds};
+ghost use Rattle.imdf_read.specs.Gathering.{NotesBy, NotesInItem};
 
 use crate::place::Place;
 use crate::rules::NoteKind;

@@ -8,7 +8,8 @@ ghost use Rattle.imdf_forms.specs.Values.{seen, is_word as word_is};
 ghost use Rattle.imdf_rows.specs.Fields.{IsOrdinal};
 ghost use Rattle.imdf_read.specs.Counts.{one_unless_null as one_of, elements as elements_of};
 ghost use Rattle.imdf_read.specs.Broken.{ItemBreaks, further as further_of};
-ghost use Rattle.imdf_read.specs.Gathering.{Adds, FindsBy, IsShort, is_plain, plain_rules};
+ghost use Rattle.report_laws.specs.Passes.{Adds};
+ghost use Rattle.imdf_read.specs.Gathering.{FindsBy, IsShort, is_plain, plain_rules};
 
 use crate::place::Place;
 use crate::rules::Rule;

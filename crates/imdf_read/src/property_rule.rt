@@ -3,7 +3,8 @@
 ghost use Rattle.std.specs.Prelude.{◌≡◌, ◌≤◌, ◌^◌, OnOk, map, length};
 ghost use Rattle.exact_json.specs.View.{tree_view};
 ghost use Rattle.imdf_forms.specs.Properties.{properties};
-ghost use Rattle.imdf_read.specs.Gathering.{Adds, FindsBadItem, FindsMisformed, FindsMisformedOf, IsShort};
+ghost use Rattle.report_laws.specs.Passes.{Adds};
+ghost use Rattle.imdf_read.specs.Gathering.{FindsBadItem, FindsMisformed, FindsMisformedOf, IsShort};
 
 use crate::place::Place;
 use crate::rules::Rule;

@@ -1,6 +1,6 @@
 use Rattle.exact_json.specs.View.{tree_view}
-use Rattle.imdf_read.specs.Gathering.{Adds}
-use Rattle.imdf_read.proofs.Adding.{Below}
+use Rattle.report_laws.specs.Passes.{Adds}
+use Rattle.report_laws.proofs.Adding.{Below}
 use Rattle.imdf_read.proofs.NoteRules.{Due}
 use Rattle.imdf_read.proofs.note_rules.judge_kinds.Given as goal
 

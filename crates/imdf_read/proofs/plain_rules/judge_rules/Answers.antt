@@ -3,7 +3,7 @@ use Rattle.std.proofs.lemmas.Option.{slice_get-get_or}
 use Rattle.exact_json.specs.View.{tree_view}
 use Rattle.imdf_read.specs.declared.rules.Rule.TheVariants.{C3}
 use Rattle.imdf_read.specs.Gathering.{FindsRule}
-use Rattle.imdf_read.proofs.Adding.{Adds-step, Adds-end, Adds-found}
+use Rattle.report_laws.proofs.Adding.{Adds-step, Adds-end, Adds-found}
 use Rattle.imdf_read.proofs.PlainRules.{adds_rule, finds_by, next_plain}
 use Rattle.imdf_read.proofs.plain_rules.judge_rules.Goals as goal
 

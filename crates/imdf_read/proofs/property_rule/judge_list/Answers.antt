@@ -5,7 +5,7 @@ use Rattle.exact_json.specs.View.{tree_view}
 use Rattle.imdf_forms.specs.Properties.{property_number}
 use Rattle.imdf_read.specs.declared.rules.Rule.TheVariants.{C6}
 use Rattle.imdf_read.specs.Gathering.{finding_at}
-use Rattle.imdf_read.proofs.Adding.{Adds-start, Adds-step, Adds-end, Adds-found, at_map}
+use Rattle.report_laws.proofs.Adding.{Adds-start, Adds-step, Adds-end, Adds-found, at_map}
 use Rattle.imdf_read.proofs.PropertyRule.{BadItem, adds_bad_item, bad_items}
 use Rattle.imdf_read.proofs.property_rule.judge_list.Goals as goal
 

@@ -8,8 +8,9 @@ use Rattle.imdf_forms.specs.Forms.{Fits, items_of}
 use Rattle.imdf_forms.specs.Items.{property}
 use Rattle.imdf_forms.specs.Properties.{property_number}
 use Rattle.imdf_read.specs.declared.rules.Rule.TheVariants.{C6}
-use Rattle.imdf_read.specs.Gathering.{Adds, finding_at}
-use Rattle.imdf_read.proofs.Adding.{Adds-found}
+use Rattle.report_laws.specs.Passes.{Adds}
+use Rattle.imdf_read.specs.Gathering.{finding_at}
+use Rattle.report_laws.proofs.Adding.{Adds-found}
 use Rattle.imdf_read.proofs.Narrow.{narrow_property, few_items}
 use Rattle.imdf_read.proofs.PropertyRule.{BadWhole, adds_bad_whole, misformed, no_items, not_ours}
 use Rattle.imdf_read.proofs.property_rule.judge_property.Goals as goal

@@ -1,6 +1,7 @@
 use Rattle.exact_json.specs.View.{tree_view}
-use Rattle.imdf_read.specs.Gathering.{Adds, FindsMisformed}
-use Rattle.imdf_read.proofs.Adding.{Below}
+use Rattle.report_laws.specs.Passes.{Adds}
+use Rattle.imdf_read.specs.Gathering.{FindsMisformed}
+use Rattle.report_laws.proofs.Adding.{Below}
 use Rattle.imdf_read.proofs.property_rule.judge_table.Given as goal
 
 -- what the rows before add

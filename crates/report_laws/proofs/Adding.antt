@@ -5,9 +5,8 @@ use Rattle.std.specs.Result.{OnOk}
 use Rattle.std.proofs.lemmas.Option.{slice_get_within, slice_get_read, get_or_from_slice_get}
 use Rattle.std.proofs.lemmas.Bool.{cases_lt}
 use Rattle.std.proofs.lemmas.List.Elements.{Contains-append_left, Contains-append_right, Contains-append_cases}
-use Rattle.report_laws.specs.Passes.{found}
+use Rattle.report_laws.specs.Passes.{found, Adds}
 use Rattle.report_laws.proofs.Passes.{Contains-found}
-use Rattle.imdf_read.specs.Gathering.{Adds}
 
 -- what holds where it went well
 pub on_ok : {T E : Type 0} (r : Result T E) (P Q : Type 0) → OnOk r P → (P → Q) → OnOk r Q

@@ -1,0 +1,96 @@
+-- The rules on what holds what: a level its units and openings, a unit its anchors and amenities; and the third and fourth phase of rules.
+use Rattle.std.specs.Prelude.{◌≡◌, ℕ, ◌⊎◌, Contains, slice_get, Some}
+use Rattle.venue_types.specs.declared.feature_id.FeatureId.{FeatureId}
+use Rattle.venue_types.specs.declared.features.Features.{Features}
+use Rattle.venue_types.specs.declared.features.AmenityRow.{AmenityRow}
+use Rattle.venue_types.specs.declared.features.AnchorRow.{AnchorRow}
+use Rattle.venue_types.specs.declared.features.LevelRow.{LevelRow}
+use Rattle.venue_types.specs.declared.features.OpeningRow.{OpeningRow}
+use Rattle.venue_types.specs.declared.features.UnitRow.{UnitRow}
+use Rattle.venue_types.specs.declared.finding.Finding.{Finding}
+use Rattle.venue_types.specs.declared.point.Point.{Point}
+use Rattle.venue_types.specs.declared.point.Shape.{Shape}
+use Rattle.imdf_forms.specs.declared.files.File.{File}
+use Rattle.imdf_forms.specs.declared.files.File.TheVariants as file
+use Rattle.imdf_forms.specs.Files.{file_number}
+use Rattle.plane_exact.specs.Figure.{IsInside, IsNear, vertices}
+use Rattle.report_laws.specs.Reports.{First}
+use Rattle.ring_rules.specs.Rules.{BreaksSpread, BreaksInRing}
+use Rattle.contain_rules.specs.declared.rules.HoldRule.{HoldRule}
+use Rattle.contain_rules.specs.declared.rules.HoldRule.TheVariants.{K1, K2, K3, K4}
+
+-- the position is inside the shape, or near its border, within the tolerance
+abbrev pub IsHeld : ℕ → Shape → Point → Type 0
+IsHeld tolerance shape p = IsInside p shape ⊎ IsNear p shape tolerance
+
+-- a level of the folder, by its identifier
+pub record IsLevel (features : Features) (id : FeatureId) (level : LevelRow) : Type 0 where
+  pub has : Contains features.levels level
+  pub named : level.id ≡ id
+
+-- a unit of the folder, by its identifier
+pub record IsUnit (features : Features) (id : FeatureId) (unit : UnitRow) : Type 0 where
+  pub has : Contains features.units unit
+  pub named : unit.id ≡ id
+
+abbrev pub hold_rule_number : HoldRule → ℕ
+hold_rule_number K1 = 30
+hold_rule_number K2 = 31
+hold_rule_number K3 = 32
+hold_rule_number K4 = 33
+
+-- the file of the features that a rule judges
+abbrev pub file_judged : HoldRule → File
+file_judged K1 = file.Unit
+file_judged K2 = file.Anchor
+file_judged K3 = file.Amenity
+file_judged K4 = file.Opening
+
+-- a vertex of the unit is not held by its level
+pub record UnitLeaves (features : Features) (tolerance : ℕ) (unit : UnitRow) : Type 0 where
+  pub level : LevelRow
+  pub its : IsLevel features unit.level level
+  pub vertex : Point
+  pub has : Contains (vertices unit.shape) vertex
+  pub outside : ¬ IsHeld tolerance level.shape vertex
+
+-- the anchor's point is not held by its unit
+pub record AnchorLeaves (features : Features) (tolerance : ℕ) (anchor : AnchorRow) : Type 0 where
+  pub unit : UnitRow
+  pub its : IsUnit features anchor.unit unit
+  pub outside : ¬ IsHeld tolerance unit.shape anchor.point
+
+-- the amenity's point is held by none of its units
+pub record AmenityLeaves (features : Features) (tolerance : ℕ) (amenity : AmenityRow) : Type 0 where
+  pub outside : (id : FeatureId) (unit : UnitRow) → Contains amenity.units id → IsUnit features id unit → ¬ IsHeld tolerance unit.shape amenity.point
+
+-- a vertex of the opening is not held by its level
+pub record OpeningLeaves (features : Features) (tolerance : ℕ) (opening : OpeningRow) : Type 0 where
+  pub level : LevelRow
+  pub its : IsLevel features opening.level level
+  pub vertex : Point
+  pub has : Contains opening.line.points vertex
+  pub outside : ¬ IsHeld tolerance level.shape vertex
+
+-- the rule is broken by the feature at this place of its file
+abbrev pub HoldBreaks : HoldRule → Features → ℕ → ℕ → Type 0
+HoldBreaks K1 features tolerance k = (unit : UnitRow) × (slice_get features.units k ≡ Some unit) × UnitLeaves features tolerance unit
+HoldBreaks K2 features tolerance k = (anchor : AnchorRow) × (slice_get features.anchors k ≡ Some anchor) × AnchorLeaves features tolerance anchor
+HoldBreaks K3 features tolerance k = (amenity : AmenityRow) × (slice_get features.amenities k ≡ Some amenity) × AmenityLeaves features tolerance amenity
+HoldBreaks K4 features tolerance k = (opening : OpeningRow) × (slice_get features.openings k ≡ Some opening) × OpeningLeaves features tolerance opening
+
+-- something is not held by what is to hold it, which is told of the feature
+pub record BreaksHold (features : Features) (tolerance : ℕ) (x : Finding) : Type 0 where
+  pub rule : HoldRule
+  pub number : x.rule ≡ hold_rule_number rule
+  pub breaks : HoldBreaks rule features tolerance x.index
+  pub in_file : x.file ≡ file_number (file_judged rule)
+  pub at_member : x.member ≡ 0
+
+-- a rule of the fourth phase is broken there
+abbrev pub IsMisplaced : Features → ℕ → Finding → Type 0
+IsMisplaced features tolerance x = BreaksInRing features x ⊎ BreaksHold features tolerance x
+
+-- the third phase, and, where it has nothing, the fourth
+abbrev pub IsPlaneBroken : Features → ℕ → Finding → Type 0
+IsPlaneBroken features tolerance = First (BreaksSpread features) (IsMisplaced features tolerance)

@@ -1,0 +1,10 @@
+//! The rules on the spread of a folder's positions, and on its rings.
+#![tactic(auto)]
+
+mod ring_findings;
+mod rules;
+mod spread;
+
+pub use ring_findings::add_ring_findings;
+pub use rules::RingRule;
+pub use spread::is_spread;
