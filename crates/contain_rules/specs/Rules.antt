@@ -1,4 +1,4 @@
--- The rules on what holds what: a level its units and openings, a unit its anchors and amenities; and the third and fourth phase of rules.
+-- The rules on what holds what: a level its units and openings, a unit its anchors and amenities.
 use Rattle.std.specs.Prelude.{◌≡◌, ℕ, ◌⊎◌, Contains, slice_get, Some}
 use Rattle.venue_types.specs.declared.feature_id.FeatureId.{FeatureId}
 use Rattle.venue_types.specs.declared.features.Features.{Features}
@@ -14,8 +14,6 @@ use Rattle.imdf_forms.specs.declared.files.File.{File}
 use Rattle.imdf_forms.specs.declared.files.File.TheVariants as file
 use Rattle.imdf_forms.specs.Files.{file_number}
 use Rattle.plane_exact.specs.Figure.{IsInside, IsNear, vertices}
-use Rattle.report_laws.specs.Reports.{First}
-use Rattle.ring_rules.specs.Rules.{BreaksSpread, BreaksInRing}
 use Rattle.contain_rules.specs.declared.rules.HoldRule.{HoldRule}
 use Rattle.contain_rules.specs.declared.rules.HoldRule.TheVariants.{K1, K2, K3, K4}
 
@@ -86,11 +84,3 @@ pub record BreaksHold (features : Features) (tolerance : ℕ) (x : Finding) : Ty
   pub breaks : HoldBreaks rule features tolerance x.index
   pub in_file : x.file ≡ file_number (file_judged rule)
   pub at_member : x.member ≡ 0
-
--- a rule of the fourth phase is broken there
-abbrev pub IsMisplaced : Features → ℕ → Finding → Type 0
-IsMisplaced features tolerance x = BreaksInRing features x ⊎ BreaksHold features tolerance x
-
--- the third phase, and, where it has nothing, the fourth
-abbrev pub IsPlaneBroken : Features → ℕ → Finding → Type 0
-IsPlaneBroken features tolerance = First (BreaksSpread features) (IsMisplaced features tolerance)

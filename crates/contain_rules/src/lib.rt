@@ -1,8 +1,8 @@
-//! The third and the fourth phase of rules: positions that lie too far apart, rings, and what holds what.
+//! The rules on what holds what.
 #![tactic(auto)]
 
-mod plane;
+mod holding;
 mod rules;
 
-pub use plane::plane_findings;
+pub use holding::add_hold_findings;
 pub use rules::HoldRule;
