@@ -1,0 +1,22 @@
+-- The report of a folder, phase after phase, and the rows in which none finds anything.
+use Rattle.venue_types.specs.declared.files.Files.{Files}
+use Rattle.venue_types.specs.declared.features.Features.{Features}
+use Rattle.venue_types.specs.declared.settings.Settings.{Settings}
+use Rattle.venue_types.specs.declared.finding.Finding.{Finding}
+use Rattle.report_laws.specs.Reports.{First}
+use Rattle.sound_rows.specs.Sound.{AreSound}
+use Rattle.imdf_read.specs.Broken.{IsBroken}
+use Rattle.imdf_refs.specs.Rules.{IsMisnamed}
+
+-- the phases after the first, which judge rows: identifiers and references
+abbrev pub IsLaterBroken : Features → Settings → Finding → Type 0
+IsLaterBroken features settings = IsMisnamed features
+
+-- all phases: one is judged only where those before it find nothing
+abbrev pub IsWrong : Files → Features → Settings → Finding → Type 0
+IsWrong files features settings = First (IsBroken files) (IsLaterBroken features settings)
+
+-- rows that every phase accepts
+pub record AreValid (features : Features) (settings : Settings) : Type 0 where
+  pub sound : AreSound features
+  pub unbroken : (x : Finding) → ¬ IsLaterBroken features settings x

@@ -1,0 +1,10 @@
+//! Makes a venue of a folder, or the report of what is wrong with it.
+#![tactic(auto)]
+
+mod building;
+mod built;
+mod venue;
+
+pub use building::build;
+pub use built::Built;
+pub use venue::Venue;
