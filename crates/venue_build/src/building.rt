@@ -1,6 +1,14 @@
 //! One phase of rules after another.
 
 ghost use Rattle.std.specs.Prelude.{◌≡◌, IfOk, length};
+ghost use Rattle.venue_types.specs.declared.features.Features.{Features as TheFeatures};
+ghost use Rattle.venue_types.specs.declared.files.Files.{Files as TheFiles};
+ghost use Rattle.venue_types.specs.declared.finding.Finding.{Finding as AFinding};
+ghost use Rattle.imdf_rows.specs.Folder.{AreFeatures};
+ghost use Rattle.imdf_read.specs.Broken.{IsBroken};
+ghost use Rattle.sound_rows.specs.Sound.{AreSound};
+ghost use Rattle.report_laws.specs.Reports.{IsReport};
+ghost use Rattle.venue_build.specs.Report.{IsLaterBroken};
 ghost use Rattle.venue_build.specs.Built.{IsBuilt};
 
 use crate::{Built, Venue};
@@ -8,14 +16,40 @@ use imdf_read::{ReadOut, read_folder};
 use imdf_refs::reference_findings;
 use report_laws::shortened;
 use std::alloc::Global;
-use venue_types::{Files, OutOfMemory, Settings};
+use venue_types::{Features, Files, Finding, List, OutOfMemory, Settings};
+
+// What the phases after the first find.
+fn later_findings(
+    alloc: Global,
+    features: &Features,
+    _settings: &Settings,
+) -> Result<List<Finding>, OutOfMemory>
+    requires { AreSound features.now }
+    ensures { IfOk result (IsReport (IsLaterBroken features.now _settings.now)) }
+{
+    reference_findings(alloc, features)
+}
 
 /// Makes a venue of the seventeen files of a folder, or the report of the first phase of rules that finds something.
 ///
-/// A report has its first 500 findings, and their whole number.
+/// A report has its first 500 findings, and their whole number. The time is that of reading the files and that of
+/// judging the rows, one phase after another.
 pub fn build(alloc: Global, files: &Files, settings: &Settings) -> Result<Built, OutOfMemory>
-    requires { length files.now.slots ≡ 17 }
+    requires slots { length files.now.slots ≡ 17 }
+    requires law { (fs : TheFiles) (features : TheFeatures) → length fs.slots ≡ 17 → ((x : AFinding) → ¬ IsBroken fs x) → AreFeatures fs features → AreSound features }
     ensures { IfOk result (IsBuilt files.now settings.now) }
 {
-    Err(OutOfMemory)
+    let ReadOut {
+        features,
+        findings,
+        notes,
+    } = read_folder(alloc, files)?;
+    if !findings.is_empty() {
+        return Ok(Built::Rejected(shortened(findings)));
+    }
+    let later = later_findings(alloc, &features, settings)?;
+    if !later.is_empty() {
+        return Ok(Built::Rejected(shortened(later)));
+    }
+    Ok(Built::Venue(Venue::new(features, notes)))
 }
