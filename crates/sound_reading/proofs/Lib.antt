@@ -1,3 +1,8 @@
 mod Lists
 mod Nothing
 mod Figures
+mod Elements
+mod Shapes
+mod Counts
+mod OnEarth
+mod Folders
