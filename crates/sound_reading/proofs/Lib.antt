@@ -6,3 +6,6 @@ mod Shapes
 mod Counts
 mod OnEarth
 mod Folders
+mod SameRows
+mod Unique
+mod OneReading

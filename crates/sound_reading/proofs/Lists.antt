@@ -1,5 +1,5 @@
 -- What two lists, place by place, say of the second.
-use Rattle.std.proofs.Common.{◌≡◌, ◌∙◌, ℕ, suc, ◌+◌, ◌≤◌, List, [], ◌∷◌, ◌++◌, length, Option, Some, refl, arith}
+use Rattle.std.proofs.Common.{◌≡◌, ◌∙◌, ℕ, suc, ◌+◌, ◌≤◌, List, [], ◌∷◌, ◌++◌, length, Option, Some, refl, ap, arith}
 use Rattle.std.specs.Prelude.{slice_get, sum_by, All}
 use Rattle.std.specs.List.{AllZip, flat_map}
 use Rattle.std.proofs.lemmas.List.{length-append}
@@ -61,3 +61,15 @@ zip_flat_count R h g step (x ∷ xs) (y ∷ ys) zip =
     let sum : sum_by h (x ∷ xs) ≡ h x + sum_by h xs = sum_by-cons h x xs in
     let long : length (g y ++ flat_map g ys) ≡ length (g y) + length (flat_map g ys) = length-append (g y) (flat_map g ys) in
     omega arith
+
+-- the things of a list, place by place, are one list at most
+pub zip_one : {A B : Type 0} (R : A → B → Type 0) → ((x : A) (y z : B) → R x y → R x z → y ≡ z) → (xs : List A) (ys zs : List B) → AllZip R xs ys → AllZip R xs zs → ys ≡ zs
+zip_one R one [] [] [] h k = refl
+zip_one R one [] [] (z ∷ zs) h k = absurd k
+zip_one R one [] (y ∷ ys) zs h k = absurd h
+zip_one R one (x ∷ xs) [] zs h k = absurd h
+zip_one R one (x ∷ xs) (y ∷ ys) [] h k = absurd k
+zip_one R one (x ∷ xs) (y ∷ ys) (z ∷ zs) h k =
+    let front : y ≡ z = one x y z h.0 k.0 in
+    let rest : ys ≡ zs = zip_one R one xs ys zs h.1 k.1 in
+    ap (λ w. w ∷ ys) front ∙ ap (λ ws. z ∷ ws) rest
