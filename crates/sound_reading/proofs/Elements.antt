@@ -1,7 +1,7 @@
 -- The elements of a relationship, in its item and in its row.
-use Rattle.std.proofs.Common.{◌≡◌, ◌∙◌, ℕ, ◌+◌, ◌<◌, ◌≤◌, List, [], ◌∷◌, length, Option, Some, None, refl, ap, arith}
-use Rattle.std.specs.Prelude.{All, sum_by}
-use Rattle.std.specs.List.{AllZip, filter_map, cons_option}
+use Rattle.std.proofs.Common.{◌≡◌, ℕ, ◌+◌, ◌<◌, ◌≤◌, List, [], ◌∷◌, length, Option, Some, None, refl, ap, arith}
+use Rattle.std.specs.Prelude.{sum_by}
+use Rattle.std.specs.List.{filter_map, cons_option}
 use Rattle.std.proofs.lemmas.List.Sums.{sum_by-cons}
 use Rattle.exact_json.specs.Json.{Json, null, boolean, number, text, items, object}
 use Rattle.venue_types.specs.declared.features.Ref.{Ref}
@@ -10,7 +10,7 @@ use Rattle.imdf_forms.specs.declared.files.File.TheVariants as file
 use Rattle.imdf_forms.specs.declared.table.Property.TheVariants as property
 use Rattle.imdf_forms.specs.Values.{listed}
 use Rattle.imdf_forms.specs.Items as item
-use Rattle.imdf_rows.specs.Fields.{ref_of, refs_field}
+use Rattle.imdf_rows.specs.Fields.{ref_of}
 use Rattle.imdf_rows.specs.Rows.{IsRelationshipRow}
 use Rattle.imdf_read.specs.declared.rules.Rule.TheVariants.{S4}
 use Rattle.imdf_read.specs.Counts.{one_unless_null, elements}

@@ -1,7 +1,6 @@
 -- The rows of a folder in which the first phase finds nothing are sound.
-use Rattle.std.proofs.Common.{◌≡◌, ◌≢◌, ◌∙◌, ℕ, ◌≤◌, List, [], ◌∷◌, length, map, Option, None, refl, arith}
+use Rattle.std.proofs.Common.{◌≡◌, ◌≢◌, ◌∙◌, ◌≤◌, length, Option, None, refl, arith}
 use Rattle.std.specs.Prelude.{All}
-use Rattle.std.specs.List.{AllZip, flat_map}
 use Rattle.std.proofs.lemmas.List.{length-map}
 use Rattle.std.proofs.lemmas.List.Elements.{All-nil, All-append, All-map}
 use Rattle.std.proofs.lemmas.Slice.Zip.{AllZip-long}
@@ -10,13 +9,6 @@ use Rattle.venue_types.specs.declared.files.Files.{Files}
 use Rattle.venue_types.specs.declared.features.Features.{Features}
 use Rattle.venue_types.specs.declared.features.AmenityRow.{AmenityRow}
 use Rattle.venue_types.specs.declared.features.AnchorRow.{AnchorRow}
-use Rattle.venue_types.specs.declared.features.FixtureRow.{FixtureRow}
-use Rattle.venue_types.specs.declared.features.FootprintRow.{FootprintRow}
-use Rattle.venue_types.specs.declared.features.LevelRow.{LevelRow}
-use Rattle.venue_types.specs.declared.features.OpeningRow.{OpeningRow}
-use Rattle.venue_types.specs.declared.features.RelationshipRow.{RelationshipRow}
-use Rattle.venue_types.specs.declared.features.UnitRow.{UnitRow}
-use Rattle.venue_types.specs.declared.features.VenueRow.{VenueRow}
 use Rattle.geo_shapes.specs.Geometry.{coordinates}
 use Rattle.imdf_forms.specs.declared.files.File.{File}
 use Rattle.imdf_forms.specs.declared.files.File.TheVariants as file
@@ -24,17 +16,15 @@ use Rattle.imdf_forms.specs.Files.{feature_files}
 use Rattle.imdf_forms.specs.Items.{geometry}
 use Rattle.imdf_forms.specs.Contents.{content_items}
 use Rattle.imdf_rows.specs.Rows.{IsPlainRow, IsAmenityRow, IsAnchorRow, IsBuildingRow, IsDetailRow, IsFixtureRow, IsFootprintRow, IsKioskRow, IsLevelRow, IsOccupantRow, IsOpeningRow, IsRelationshipRow, IsUnitRow, IsVenueRow}
-use Rattle.imdf_rows.specs.Folder.{AreRows, AreFeatures}
-use Rattle.sound_rows.specs.Rows.{ids_of}
+use Rattle.imdf_rows.specs.Folder.{AreFeatures}
 use Rattle.sound_rows.specs.Figures.{shapes_of, positions_of, positions, judged_positions}
 use Rattle.sound_rows.specs.Sound.{IsOnEarth, IsSoundShape, AreSound, element_count}
-use Rattle.sound_reading.proofs.Lists.{zip_all, zip_flat_all}
+use Rattle.sound_reading.proofs.Lists.{zip_all, zip_flat_all, all_flat}
 use Rattle.sound_reading.proofs.Nothing.{FindsNothing, one_venue}
-use Rattle.sound_reading.proofs.Figures.{position_on_earth, line_on_earth, line_count}
+use Rattle.sound_reading.proofs.Figures.{position_on_earth, line_on_earth, line_count, displays_on_earth}
 use Rattle.sound_reading.proofs.Elements.{few_elements}
 use Rattle.sound_reading.proofs.Shapes.{all_kept, points_counted, several_counted, shapes_counted, shapes_on_earth, sound_shapes}
 use Rattle.sound_reading.proofs.Counts.{IsCounted, counted, few_features, few_positions}
-use Rattle.sound_reading.proofs.OnEarth.{all_flat, displays_on_earth}
 
 module _ (files : Files) (features : Features) (none : FindsNothing files) (rows : AreFeatures files features) where
   -- the content of each feature file

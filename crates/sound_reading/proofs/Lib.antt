@@ -4,7 +4,6 @@ mod Figures
 mod Elements
 mod Shapes
 mod Counts
-mod OnEarth
 mod Folders
 mod SameRows
 mod Unique

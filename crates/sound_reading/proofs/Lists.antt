@@ -1,5 +1,5 @@
 -- What two lists, place by place, say of the second.
-use Rattle.std.proofs.Common.{◌≡◌, ◌∙◌, ℕ, suc, ◌+◌, ◌≤◌, List, [], ◌∷◌, ◌++◌, length, Option, Some, refl, ap, arith}
+use Rattle.std.proofs.Common.{◌≡◌, ◌∙◌, ℕ, suc, ◌+◌, ◌≤◌, List, [], ◌∷◌, ◌++◌, length, Some, refl, ap, arith}
 use Rattle.std.specs.Prelude.{slice_get, sum_by, All}
 use Rattle.std.specs.List.{AllZip, flat_map}
 use Rattle.std.proofs.lemmas.List.{length-append}
@@ -73,3 +73,7 @@ zip_one R one (x ∷ xs) (y ∷ ys) (z ∷ zs) h k =
     let front : y ≡ z = one x y z h.0 k.0 in
     let rest : ys ≡ zs = zip_one R one xs ys zs h.1 k.1 in
     ap (λ w. w ∷ ys) front ∙ ap (λ ws. z ∷ ws) rest
+
+pub all_flat : {X Y : Type 0} (Q : Y → Type 0) (g : X → List Y) → ((x : X) → All Q (g x)) → (xs : List X) → All Q (flat_map g xs)
+all_flat Q g each [] = All-nil Q
+all_flat Q g each (x ∷ xs) = All-append Q (g x) (flat_map g xs) (each x) (all_flat Q g each xs)

@@ -73,10 +73,13 @@ venue_there files Absent none at empty = file_keeps files V1 file.Venue Absent n
 venue_there files (Held bytes) none at empty =
     let large : ¬ (2 ^ 25 < length bytes) = λ h. file_keeps files F2 file.Venue (Held bytes) none at h in
     let few : length bytes ≤ 2 ^ 25 = omega (arith, large) in
-    file_keeps files F3 file.Venue (Held bytes) none at (few, λ v json.
-      let flat : ¬ (depth v ≤ 64) = λ d. empty v (few, json, d) in
-      let deep : 64 < depth v = omega (arith, flat) in
-      file_keeps files F4 file.Venue (Held bytes) none at (few, (v, json, deep)))
+    file_keeps files F3 file.Venue (Held bytes) none at (
+      few,
+      λ v json.
+          let flat : ¬ (depth v ≤ 64) = λ d. empty v (few, json, d) in
+          let deep : 64 < depth v = omega (arith, flat) in
+          file_keeps files F4 file.Venue (Held bytes) none at (few, (v, json, deep)),
+    )
 
 -- there is one venue
 pub one_venue : (files : Files) (c : Option Json) → FindsNothing files → HasContent files file.Venue c → length (content_items c) ≡ 1

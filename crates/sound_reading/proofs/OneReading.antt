@@ -1,5 +1,5 @@
 -- Files in which the first phase finds nothing have one reading.
-use Rattle.std.proofs.Common.{◌≡◌, ◌≢◌, ℕ, List, Option, Some, None, refl, sym, ap, subst}
+use Rattle.std.proofs.Common.{◌≡◌, ◌≢◌, ℕ, List, Option, Some, None, refl, ap, subst}
 use Rattle.std.specs.List.{AllZip}
 use Rattle.exact_json.specs.Json.{Json}
 use Rattle.exact_json.specs.Grammar.{IsJson}

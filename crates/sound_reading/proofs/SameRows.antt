@@ -46,17 +46,22 @@ same_level a b id address buildings ordinal shape = grind arith
 pub same_occupant : (a b : OccupantRow) → a.id ≡ b.id → a.anchor ≡ b.anchor → a.name ≡ b.name → a ≡ b
 same_occupant a b id anchor name = grind arith
 
-pub same_opening : (a b : OpeningRow) → a.id ≡ b.id → a.level ≡ b.level → a.line ≡ b.line → a.revolving ≡ b.revolving → a.turnstile ≡ b.turnstile → a.marked ≡ b.marked → a.out ≡ b.out → a ≡ b
+pub same_opening : (a b : OpeningRow) → a.id ≡ b.id → a.level ≡ b.level → a.line ≡ b.line → a.revolving ≡ b.revolving → a.turnstile ≡ b.turnstile → a.marked ≡ b.marked
+    → a.out ≡ b.out → a ≡ b
 same_opening a b id level line revolving turnstile marked out = grind arith
 
-pub same_relationship : (a b : RelationshipRow) → a.id ≡ b.id → a.kind ≡ b.kind → a.directed ≡ b.directed → a.origin ≡ b.origin → a.between ≡ b.between → a.destination ≡ b.destination → a ≡ b
+pub same_relationship : (a b : RelationshipRow) → a.id ≡ b.id → a.kind ≡ b.kind → a.directed ≡ b.directed → a.origin ≡ b.origin → a.between ≡ b.between
+    → a.destination ≡ b.destination → a ≡ b
 same_relationship a b id kind directed origin between destination = grind arith
 
-pub same_unit : (a b : UnitRow) → a.id ≡ b.id → a.level ≡ b.level → a.shape ≡ b.shape → a.display ≡ b.display → a.category ≡ b.category → a.restricted ≡ b.restricted → a.name ≡ b.name → a ≡ b
+pub same_unit : (a b : UnitRow) → a.id ≡ b.id → a.level ≡ b.level → a.shape ≡ b.shape → a.display ≡ b.display → a.category ≡ b.category → a.restricted ≡ b.restricted
+    → a.name ≡ b.name → a ≡ b
 same_unit a b id level shape display category restricted name = grind arith
 
 pub same_venue : (a b : VenueRow) → a.id ≡ b.id → a.address ≡ b.address → a.shape ≡ b.shape → a ≡ b
 same_venue a b id address shape = grind arith
 
-pub same_features : (a b : Features) → a.addresses ≡ b.addresses → a.amenities ≡ b.amenities → a.anchors ≡ b.anchors → a.buildings ≡ b.buildings → a.details ≡ b.details → a.fixtures ≡ b.fixtures → a.footprints ≡ b.footprints → a.geofences ≡ b.geofences → a.kiosks ≡ b.kiosks → a.levels ≡ b.levels → a.occupants ≡ b.occupants → a.openings ≡ b.openings → a.relationships ≡ b.relationships → a.sections ≡ b.sections → a.units ≡ b.units → a.venues ≡ b.venues → a ≡ b
+pub same_features : (a b : Features) → a.addresses ≡ b.addresses → a.amenities ≡ b.amenities → a.anchors ≡ b.anchors → a.buildings ≡ b.buildings → a.details ≡ b.details
+    → a.fixtures ≡ b.fixtures → a.footprints ≡ b.footprints → a.geofences ≡ b.geofences → a.kiosks ≡ b.kiosks → a.levels ≡ b.levels → a.occupants ≡ b.occupants
+    → a.openings ≡ b.openings → a.relationships ≡ b.relationships → a.sections ≡ b.sections → a.units ≡ b.units → a.venues ≡ b.venues → a ≡ b
 same_features a b addresses amenities anchors buildings details fixtures footprints geofences kiosks levels occupants openings relationships sections units venues = grind arith

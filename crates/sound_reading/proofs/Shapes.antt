@@ -1,6 +1,6 @@
 -- The rows of a file whose geometries are shapes, points or lines: they are sound, and have no more positions than are counted.
-use Rattle.std.proofs.Common.{◌≡◌, ◌∙◌, ◌≢◌, ℕ, ◌<◌, ◌≤◌, List, length, map, Option, Bool, if◌then◌else◌, refl, sym, ap, subst, arith}
-use Rattle.std.specs.Prelude.{All, sum_by}
+use Rattle.std.proofs.Common.{◌≡◌, ◌∙◌, ◌≢◌, ◌<◌, ◌≤◌, List, length, map, if◌then◌else◌, refl, sym, ap, subst, arith}
+use Rattle.std.specs.Prelude.{All}
 use Rattle.std.specs.List.{AllZip, flat_map}
 use Rattle.std.proofs.lemmas.List.{length-map}
 use Rattle.std.proofs.lemmas.List.Folds.{flat_map-map}
@@ -46,9 +46,9 @@ pub points_counted : {Row : Type 0} (IsRow : Json → Row → Type 0) (point : R
     → FindsNothing files → f ≢ file.Manifest → (are : AreRows IsRow files f rows) → length (map point rows) ≤ file_positions f are.content
 points_counted {Row} IsRow point files f rows points none features are =
     let one : (v : Json) (row : Row) → IsKept f IsRow v row → 1 ≤ item_positions f v = λ v row kept.
-        let all = item_counted f v kept.0 in
-        let single : length (places_of (geometry_of f) (geometry v)) ≡ 1 = ap (λ (g : Geometry). length (places_of g (geometry v))) points in
-        omega arith in
+    let all = item_counted f v kept.0 in
+    let single : length (places_of (geometry_of f) (geometry v)) ≡ 1 = ap (λ (g : Geometry). length (places_of g (geometry v))) points in
+    omega arith in
     let few = zip_count (IsKept f IsRow) (item_positions f) one (content_items are.content) rows (kept_rows IsRow files f rows none features are) in
     let same : length (map point rows) ≡ length rows = length-map rows point in
     omega arith
@@ -59,9 +59,9 @@ pub several_counted : {Row : Type 0} (IsRow : Json → Row → Type 0) (position
     → FindsNothing files → f ≢ file.Manifest → (are : AreRows IsRow files f rows) → length (flat_map positions rows) ≤ file_positions f are.content
 several_counted IsRow positions files f rows same none features are = zip_flat_count (IsKept f IsRow) (item_positions f) positions
     (λ v row kept.
-      let all = item_counted f v kept.0 in
-      let long = same v row kept.1 in
-      omega arith)
+    let all = item_counted f v kept.0 in
+    let long = same v row kept.1 in
+    omega arith)
     (content_items are.content) rows (kept_rows IsRow files f rows none features are)
 
 -- rows with a shape each
