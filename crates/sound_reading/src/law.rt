@@ -8,6 +8,9 @@ ghost use Rattle.imdf_rows.specs.Folder.{AreFeatures};
 ghost use Rattle.imdf_read.specs.Broken.{IsBroken};
 ghost use Rattle.sound_rows.specs.Sound.{AreSound};
 
+use exact_json::laws::one_value;
+use geo_shapes::{has_one_line, has_one_point, has_one_shape};
+
 /// Where the first phase finds nothing in the files, their rows are sound: one venue, the limits kept, each position
 /// on the earth, each figure of its form.
 pub fn sound_reading()
@@ -19,4 +22,9 @@ pub fn sound_reading()
 pub fn one_reading()
     ensures { (files : Files) (one other : Features) → length files.slots ≡ 17 → ((x : Finding) → ¬ IsBroken files x)
         → AreFeatures files one → AreFeatures files other → one ≡ other }
-{}
+{
+    one_value();
+    has_one_point();
+    has_one_line();
+    has_one_shape();
+}

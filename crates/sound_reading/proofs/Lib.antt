@@ -1,0 +1,10 @@
+mod Lists
+mod Nothing
+mod Figures
+mod Elements
+mod Shapes
+mod Counts
+mod Folders
+mod SameRows
+mod Unique
+mod OneReading
