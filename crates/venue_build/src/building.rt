@@ -1,11 +1,6 @@
 //! One phase of rules after another.
 
 ghost use Rattle.std.specs.Prelude.{◌≡◌, IfOk, length};
-ghost use Rattle.venue_types.specs.declared.features.Features.{Features as TheFeatures};
-ghost use Rattle.venue_types.specs.declared.files.Files.{Files as TheFiles};
-ghost use Rattle.venue_types.specs.declared.finding.Finding.{Finding as AFinding};
-ghost use Rattle.imdf_rows.specs.Folder.{AreFeatures};
-ghost use Rattle.imdf_read.specs.Broken.{IsBroken};
 ghost use Rattle.sound_rows.specs.Sound.{AreSound};
 ghost use Rattle.report_laws.specs.Reports.{IsReport};
 ghost use Rattle.venue_build.specs.Report.{IsLaterBroken};
@@ -15,6 +10,7 @@ use crate::{Built, Venue};
 use imdf_read::{ReadOut, read_folder};
 use imdf_refs::reference_findings;
 use report_laws::shortened;
+use sound_reading::sound_reading;
 use std::alloc::Global;
 use venue_types::{Features, Files, Finding, List, OutOfMemory, Settings};
 
@@ -35,10 +31,10 @@ fn later_findings(
 /// A report has its first 500 findings, and their whole number. The time is that of reading the files and that of
 /// judging the rows, one phase after another.
 pub fn build(alloc: Global, files: &Files, settings: &Settings) -> Result<Built, OutOfMemory>
-    requires slots { length files.now.slots ≡ 17 }
-    requires law { (fs : TheFiles) (features : TheFeatures) → length fs.slots ≡ 17 → ((x : AFinding) → ¬ IsBroken fs x) → AreFeatures fs features → AreSound features }
+    requires { length files.now.slots ≡ 17 }
     ensures { IfOk result (IsBuilt files.now settings.now) }
 {
+    sound_reading();
     let ReadOut {
         features,
         findings,
