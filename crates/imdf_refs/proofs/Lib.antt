@@ -1,0 +1,4 @@
+pub mod Loops
+pub mod FileOrder
+pub mod Indexing
+pub mod Naming

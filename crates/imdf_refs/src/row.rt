@@ -1,0 +1,326 @@
+//! The identifier of a feature, and what its properties refer to.
+
+ghost use Rattle.std.specs.Prelude.{◌≡◌, List};
+ghost use Rattle.venue_types.specs.declared.feature_id.FeatureId.{FeatureId as FeatureIdOf};
+ghost use Rattle.imdf_forms.specs.declared.table.Property.{Property as PropertyOf};
+ghost use Rattle.imdf_refs.specs.References.{Reference, id_or_null, object_or_null};
+ghost use Rattle.imdf_refs.specs.Gathering.{listed};
+
+use imdf_forms::Property;
+use venue_types::{
+    AmenityRow, AnchorRow, BuildingRow, DetailRow, FeatureId, FixtureRow, FootprintRow, KioskRow,
+    LevelRow, OccupantRow, OpeningRow, PlainRow, Ref, RelationshipRow, UnitRow, VenueRow,
+};
+
+/// The references in a property of a feature, in their order.
+#[derive(Clone, Copy)]
+pub(crate) enum References<'a> {
+    Nothing,
+    Id(FeatureId),
+    Ids(&'a [FeatureId]),
+    Object(Ref),
+    Objects(&'a [Ref]),
+}
+
+/// Features of a type.
+pub(crate) trait Row {
+    /// Its identifier.
+    ghost id_of: { Self → FeatureIdOf };
+
+    /// The references in this property of the feature.
+    ghost references_of: { PropertyOf → Self → List Reference };
+
+    fn id(&self) -> FeatureId
+        ensures { result ≡ id_of self.now };
+
+    fn references(&self, property: Property) -> References<'_>
+        ensures { listed result ≡ references_of property self.now };
+}
+
+fn id_or_null<'a>(id: Option<FeatureId>) -> References<'a>
+    ensures { listed result ≡ id_or_null id }
+{
+    match id {
+        Some(id) => References::Id(id),
+        None => References::Nothing,
+    }
+}
+
+fn object_or_null<'a>(object: Option<Ref>) -> References<'a>
+    ensures { listed result ≡ object_or_null object }
+{
+    match object {
+        Some(object) => References::Object(object),
+        None => References::Nothing,
+    }
+}
+
+impl Row for AmenityRow {
+    ghost use Rattle.imdf_refs.specs.References.{amenity_references};
+
+    ghost id_of = { λ row. row.id };
+
+    ghost references_of = { amenity_references };
+
+    fn id(&self) -> FeatureId {
+        self.id
+    }
+
+    fn references(&self, property: Property) -> References<'_> {
+        match property {
+            Property::AddressId => id_or_null(self.address),
+            Property::UnitIds => References::Ids(self.units.as_slice()),
+            _ => References::Nothing,
+        }
+    }
+}
+
+impl Row for AnchorRow {
+    ghost use Rattle.imdf_refs.specs.References.{anchor_references};
+
+    ghost id_of = { λ row. row.id };
+
+    ghost references_of = { anchor_references };
+
+    fn id(&self) -> FeatureId {
+        self.id
+    }
+
+    fn references(&self, property: Property) -> References<'_> {
+        match property {
+            Property::AddressId => id_or_null(self.address),
+            Property::UnitId => References::Id(self.unit),
+            _ => References::Nothing,
+        }
+    }
+}
+
+impl Row for BuildingRow {
+    ghost use Rattle.imdf_refs.specs.References.{building_references};
+
+    ghost id_of = { λ row. row.id };
+
+    ghost references_of = { building_references };
+
+    fn id(&self) -> FeatureId {
+        self.id
+    }
+
+    fn references(&self, property: Property) -> References<'_> {
+        match property {
+            Property::AddressId => id_or_null(self.address),
+            _ => References::Nothing,
+        }
+    }
+}
+
+impl Row for DetailRow {
+    ghost use Rattle.imdf_refs.specs.References.{detail_references};
+
+    ghost id_of = { λ row. row.id };
+
+    ghost references_of = { detail_references };
+
+    fn id(&self) -> FeatureId {
+        self.id
+    }
+
+    fn references(&self, property: Property) -> References<'_> {
+        match property {
+            Property::LevelId => id_or_null(self.level),
+            _ => References::Nothing,
+        }
+    }
+}
+
+impl Row for FixtureRow {
+    ghost use Rattle.imdf_refs.specs.References.{fixture_references};
+
+    ghost id_of = { λ row. row.id };
+
+    ghost references_of = { fixture_references };
+
+    fn id(&self) -> FeatureId {
+        self.id
+    }
+
+    fn references(&self, property: Property) -> References<'_> {
+        match property {
+            Property::LevelId => id_or_null(self.level),
+            Property::AnchorId => id_or_null(self.anchor),
+            _ => References::Nothing,
+        }
+    }
+}
+
+impl Row for FootprintRow {
+    ghost use Rattle.imdf_refs.specs.References.{footprint_references};
+
+    ghost id_of = { λ row. row.id };
+
+    ghost references_of = { footprint_references };
+
+    fn id(&self) -> FeatureId {
+        self.id
+    }
+
+    fn references(&self, property: Property) -> References<'_> {
+        match property {
+            Property::BuildingIds => References::Ids(self.buildings.as_slice()),
+            _ => References::Nothing,
+        }
+    }
+}
+
+impl Row for KioskRow {
+    ghost use Rattle.imdf_refs.specs.References.{kiosk_references};
+
+    ghost id_of = { λ row. row.id };
+
+    ghost references_of = { kiosk_references };
+
+    fn id(&self) -> FeatureId {
+        self.id
+    }
+
+    fn references(&self, property: Property) -> References<'_> {
+        match property {
+            Property::LevelId => id_or_null(self.level),
+            Property::AnchorId => id_or_null(self.anchor),
+            _ => References::Nothing,
+        }
+    }
+}
+
+impl Row for LevelRow {
+    ghost use Rattle.imdf_refs.specs.References.{level_references};
+
+    ghost id_of = { λ row. row.id };
+
+    ghost references_of = { level_references };
+
+    fn id(&self) -> FeatureId {
+        self.id
+    }
+
+    fn references(&self, property: Property) -> References<'_> {
+        match property {
+            Property::AddressId => id_or_null(self.address),
+            Property::BuildingIds => References::Ids(self.buildings.as_slice()),
+            _ => References::Nothing,
+        }
+    }
+}
+
+impl Row for OccupantRow {
+    ghost use Rattle.imdf_refs.specs.References.{occupant_references};
+
+    ghost id_of = { λ row. row.id };
+
+    ghost references_of = { occupant_references };
+
+    fn id(&self) -> FeatureId {
+        self.id
+    }
+
+    fn references(&self, property: Property) -> References<'_> {
+        match property {
+            Property::AnchorId => References::Id(self.anchor),
+            _ => References::Nothing,
+        }
+    }
+}
+
+impl Row for OpeningRow {
+    ghost use Rattle.imdf_refs.specs.References.{opening_references};
+
+    ghost id_of = { λ row. row.id };
+
+    ghost references_of = { opening_references };
+
+    fn id(&self) -> FeatureId {
+        self.id
+    }
+
+    fn references(&self, property: Property) -> References<'_> {
+        match property {
+            Property::LevelId => References::Id(self.level),
+            _ => References::Nothing,
+        }
+    }
+}
+
+impl Row for RelationshipRow {
+    ghost use Rattle.imdf_refs.specs.References.{relationship_references};
+
+    ghost id_of = { λ row. row.id };
+
+    ghost references_of = { relationship_references };
+
+    fn id(&self) -> FeatureId {
+        self.id
+    }
+
+    fn references(&self, property: Property) -> References<'_> {
+        match property {
+            Property::Origin => object_or_null(self.origin),
+            Property::Intermediary => References::Objects(self.between.as_slice()),
+            Property::Destination => object_or_null(self.destination),
+            _ => References::Nothing,
+        }
+    }
+}
+
+impl Row for UnitRow {
+    ghost use Rattle.imdf_refs.specs.References.{unit_references};
+
+    ghost id_of = { λ row. row.id };
+
+    ghost references_of = { unit_references };
+
+    fn id(&self) -> FeatureId {
+        self.id
+    }
+
+    fn references(&self, property: Property) -> References<'_> {
+        match property {
+            Property::LevelId => References::Id(self.level),
+            _ => References::Nothing,
+        }
+    }
+}
+
+impl Row for VenueRow {
+    ghost use Rattle.imdf_refs.specs.References.{venue_references};
+
+    ghost id_of = { λ row. row.id };
+
+    ghost references_of = { venue_references };
+
+    fn id(&self) -> FeatureId {
+        self.id
+    }
+
+    fn references(&self, property: Property) -> References<'_> {
+        match property {
+            Property::AddressId => id_or_null(self.address),
+            _ => References::Nothing,
+        }
+    }
+}
+
+impl Row for PlainRow {
+    ghost use Rattle.std.specs.Prelude.{[]};
+
+    ghost id_of = { λ row. row.id };
+
+    ghost references_of = { λ property row. [] };
+
+    fn id(&self) -> FeatureId {
+        self.id
+    }
+
+    fn references(&self, _property: Property) -> References<'_> {
+        References::Nothing
+    }
+}

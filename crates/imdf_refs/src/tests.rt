@@ -1,0 +1,1 @@
+//! A folder of a few rows, of which the findings were worked out by hand.
