@@ -100,7 +100,7 @@ one_more features f k id known new this has ids typed = record {
     (λ h. ids q.0 ∙ elim (split _ _ h.source f h.place refl h.before) [
       | inl was ↦ either_left _ _ ((has.ids q).1 (record { source = h.source; place = h.place; there = h.there; before = was }))
       | inr now ↦ either_right _ _ (id_itself id q (sym (here features h.source f h.place k q id this h.there now.0 now.1)))
-    ])
+    ]),
   );
   typed = λ q n. (
     (λ h. elim (either _ _ (sym (typed q.0 n) ∙ h)) [
@@ -112,7 +112,7 @@ one_more features f k id known new this has ids typed = record {
     (λ h. typed q.0 n ∙ elim (split _ _ h.source f h.place refl h.before) [
       | inl was ↦ either_left _ _ ((has.typed q n).1 (record { source = h.source; place = h.place; there = h.there; before = was; of_file = h.of_file }))
       | inr now ↦ either_right _ _ (of_both _ _ (id_itself id q (sym (here features h.source f h.place k q id this h.there now.0 now.1))) (file_itself (file_number f) n (ap file_number (sym now.0) ∙ h.of_file)))
-    ])
+    ]),
   );
 }
 
@@ -121,11 +121,11 @@ pub one_file : (features : Features) (f : File) (k : ℕ) (known : Known) → le
 one_file features f k known long has = record {
   ids = λ q. (
     (λ h. let at = (has.ids q).0 h in record { source = at.source; place = at.place; there = at.there; before = up at.source at.place at.before }),
-    (λ h. (has.ids q).1 (record { source = h.source; place = h.place; there = h.there; before = down h.source h.place q h.there h.before }))
+    (λ h. (has.ids q).1 (record { source = h.source; place = h.place; there = h.there; before = down h.source h.place q h.there h.before })),
   );
   typed = λ q n. (
     (λ h. let at = (has.typed q n).0 h in record { source = at.source; place = at.place; there = at.there; before = up at.source at.place at.before; of_file = at.of_file }),
-    (λ h. (has.typed q n).1 (record { source = h.source; place = h.place; there = h.there; before = down h.source h.place q h.there h.before; of_file = h.of_file }))
+    (λ h. (has.typed q n).1 (record { source = h.source; place = h.place; there = h.there; before = down h.source h.place q h.there h.before; of_file = h.of_file })),
   );
 }
   where
@@ -153,11 +153,11 @@ pub all_files : (features : Features) (known : Known) → HasBefore features 17 
 all_files features known has = record {
   ids = λ q. (
     (λ h. let at = (has.ids q).0 h in record { source = at.source; place = at.place; there = at.there }),
-    (λ h. (has.ids q).1 (record { source = h.source; place = h.place; there = h.there; before = inl (up_to_16 h.source) }))
+    (λ h. (has.ids q).1 (record { source = h.source; place = h.place; there = h.there; before = inl (up_to_16 h.source) })),
   );
   typed = λ q n. (
     (λ h. let at = (has.typed q n).0 h in record { source = at.source; place = at.place; there = at.there; of_file = at.of_file }),
-    (λ h. (has.typed q n).1 (record { source = h.source; place = h.place; there = h.there; before = inl (up_to_16 h.source); of_file = h.of_file }))
+    (λ h. (has.typed q n).1 (record { source = h.source; place = h.place; there = h.there; before = inl (up_to_16 h.source); of_file = h.of_file })),
   );
 }
 

@@ -2,3 +2,4 @@ pub mod Loops
 pub mod FileOrder
 pub mod Indexing
 pub mod Naming
+pub mod Misnaming

@@ -1,11 +1,9 @@
 //! The rule on identifiers: each stands for one feature.
 
-ghost use Rattle.std.specs.Prelude.{◌≡◌, ◌+◌, ◌^◌, ◌<◌, IfOk, OnOk, map};
+ghost use Rattle.std.specs.Prelude.{◌≡◌, ◌+◌, ◌≤◌, IfOk, OnOk, map};
 ghost use Rattle.report_laws.specs.Passes.{Adds};
-ghost use Rattle.sound_rows.specs.Rows.{ids_of as ids_in};
-ghost use Rattle.sound_rows.specs.Sound.{AreSound};
+ghost use Rattle.sound_rows.specs.Rows.{ids_of as ids_in, feature_count};
 ghost use Rattle.imdf_forms.specs.Files.{file_number};
-ghost use Rattle.imdf_refs.specs.Rules.{IsNamed};
 ghost use Rattle.imdf_refs.specs.Index.{HasBefore, HasAll};
 ghost use Rattle.imdf_refs.specs.Gathering.{RepeatsIn, Repeats};
 
@@ -62,7 +60,7 @@ fn judge_file(
     features: &Features,
     file: File,
 ) -> Result<(), OutOfMemory>
-    requires sound { AreSound features.now }
+    requires few { feature_count features.now ≤ 100000 }
     requires known { HasBefore features.now (file_number file) 0 known.old }
     ensures known { OnOk result (HasBefore features.now (file_number file + 1) 0 known.new) }
     ensures findings { OnOk result (Adds (RepeatsIn features.now file) findings.old.items findings.new.items) }
@@ -88,7 +86,7 @@ pub(crate) fn judge_identifiers(
     findings: &mut Vec<Finding>,
     features: &Features,
 ) -> Result<Known, OutOfMemory>
-    requires { AreSound features.now }
+    requires { feature_count features.now ≤ 100000 }
     ensures known { IfOk result (HasAll features.now) }
     ensures findings { OnOk result (Adds (Repeats features.now) findings.old.items findings.new.items) }
 {

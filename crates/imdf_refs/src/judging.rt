@@ -3,7 +3,7 @@
 ghost use Rattle.std.specs.Prelude.{◌≡◌, ◌≤◌, ◌++◌, OnOk, map, length};
 ghost use Rattle.std.specs.List.{flat_map};
 ghost use Rattle.report_laws.specs.Passes.{over};
-ghost use Rattle.sound_rows.specs.Sound.{AreSound};
+ghost use Rattle.sound_rows.specs.Rows.{feature_count};
 ghost use Rattle.venue_types.specs.declared.feature_id.FeatureId.{FeatureId as FeatureIdOf};
 ghost use Rattle.imdf_refs.specs.References.{by_id, by_object, file_named};
 ghost use Rattle.imdf_refs.specs.Gathering.{reference, listed, dangles, at_feature, in_property};
@@ -133,7 +133,7 @@ fn judge_property(
     row: &PropertyRow,
     features: &Features,
 ) -> Result<(), OutOfMemory>
-    requires { AreSound features.now }
+    requires { feature_count features.now ≤ 100000 }
     ensures { OnOk result (findings.new.items ≡ findings.old.items ++ in_property known.now features.now row.now) }
 {
     match row.file {
@@ -164,7 +164,7 @@ pub(crate) fn judge_properties(
     table: &[PropertyRow],
     features: &Features,
 ) -> Result<(), OutOfMemory>
-    requires { AreSound features.now }
+    requires { feature_count features.now ≤ 100000 }
     ensures { OnOk result (findings.new.items ≡ findings.old.items ++ flat_map (in_property known.now features.now) table.now) }
 {
     for row in table {

@@ -7,6 +7,7 @@ mod known;
 mod place;
 mod references;
 mod row;
+mod rows;
 mod rules;
 #[cfg(test)]
 mod tests;
