@@ -9,7 +9,7 @@ ghost use Rattle.imdf_refs.specs.References.{by_id, by_object, file_named};
 ghost use Rattle.imdf_refs.specs.Gathering.{reference, listed, dangles, at_feature, in_property};
 
 use crate::known::Known;
-use crate::place::{Place, member_of};
+use crate::place::{Place, item_place};
 use crate::row::{References, Row};
 use crate::rules::Rule;
 use imdf_forms::{File, Named, PropertyRow};
@@ -57,13 +57,9 @@ fn judge_ids(
 ) -> Result<(), OutOfMemory>
     ensures { OnOk result (findings.new.items ≡ findings.old.items ++ at_feature known.now row.now index (map by_id ids.now)) }
 {
+    let file = named_file(row.names, None);
     for (k, id) in ids.iter().enumerate() {
-        let place = Place {
-            file: row.file,
-            index,
-            member: member_of(row.property, k)?,
-        };
-        judge(findings, known, place, *id, named_file(row.names, None))?;
+        judge(findings, known, item_place(row, index, k)?, *id, file)?;
     }
     Ok(())
 }
@@ -79,13 +75,8 @@ fn judge_objects(
     ensures { OnOk result (findings.new.items ≡ findings.old.items ++ at_feature known.now row.now index (map by_object objects.now)) }
 {
     for (k, object) in objects.iter().enumerate() {
-        let place = Place {
-            file: row.file,
-            index,
-            member: member_of(row.property, k)?,
-        };
         let file = named_file(row.names, Some(object.feature_type));
-        judge(findings, known, place, object.id, file)?;
+        judge(findings, known, item_place(row, index, k)?, object.id, file)?;
     }
     Ok(())
 }

@@ -48,8 +48,9 @@ pub(crate) fn id_or_null<'a>(id: Option<FeatureId>) -> References<'a>
 pub(crate) fn object_or_null<'a>(object: Option<Ref>) -> References<'a>
     ensures { listed result ≡ object_or_null object }
 {
-    match object {
-        Some(object) => References::Object(object),
-        None => References::Nothing,
+    if let Some(object) = object {
+        References::Object(object)
+    } else {
+        References::Nothing
     }
 }
