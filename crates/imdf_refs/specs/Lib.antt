@@ -1,2 +1,4 @@
 pub mod References
 pub mod Rules
+pub mod Index
+pub mod Gathering

@@ -31,78 +31,78 @@ pub record Reference : Type 0 where
   pub id : FeatureId
   pub told : Option ℕ
 
-abbrev by_id : FeatureId → Reference
+abbrev pub by_id : FeatureId → Reference
 by_id id = record { id = id; told = None }
 
-abbrev by_object : Ref → Reference
+abbrev pub by_object : Ref → Reference
 by_object r = record { id = r.id; told = Some r.feature_type }
 
 -- null names nothing
-abbrev id_or_null : Option FeatureId → List Reference
+abbrev pub id_or_null : Option FeatureId → List Reference
 id_or_null None = []
 id_or_null (Some id) = by_id id ∷ []
 
-abbrev object_or_null : Option Ref → List Reference
+abbrev pub object_or_null : Option Ref → List Reference
 object_or_null None = []
 object_or_null (Some r) = by_object r ∷ []
 
 -- the references in a property of a feature, in their order
-abbrev amenity_references : Property → AmenityRow → List Reference
+abbrev pub amenity_references : Property → AmenityRow → List Reference
 amenity_references property.AddressId row = id_or_null row.address
 amenity_references property.UnitIds row = map by_id row.units
 amenity_references _ row = []
 
-abbrev anchor_references : Property → AnchorRow → List Reference
+abbrev pub anchor_references : Property → AnchorRow → List Reference
 anchor_references property.AddressId row = id_or_null row.address
 anchor_references property.UnitId row = by_id row.unit ∷ []
 anchor_references _ row = []
 
-abbrev building_references : Property → BuildingRow → List Reference
+abbrev pub building_references : Property → BuildingRow → List Reference
 building_references property.AddressId row = id_or_null row.address
 building_references _ row = []
 
-abbrev detail_references : Property → DetailRow → List Reference
+abbrev pub detail_references : Property → DetailRow → List Reference
 detail_references property.LevelId row = id_or_null row.level
 detail_references _ row = []
 
-abbrev fixture_references : Property → FixtureRow → List Reference
+abbrev pub fixture_references : Property → FixtureRow → List Reference
 fixture_references property.LevelId row = id_or_null row.level
 fixture_references property.AnchorId row = id_or_null row.anchor
 fixture_references _ row = []
 
-abbrev footprint_references : Property → FootprintRow → List Reference
+abbrev pub footprint_references : Property → FootprintRow → List Reference
 footprint_references property.BuildingIds row = map by_id row.buildings
 footprint_references _ row = []
 
-abbrev kiosk_references : Property → KioskRow → List Reference
+abbrev pub kiosk_references : Property → KioskRow → List Reference
 kiosk_references property.LevelId row = id_or_null row.level
 kiosk_references property.AnchorId row = id_or_null row.anchor
 kiosk_references _ row = []
 
-abbrev level_references : Property → LevelRow → List Reference
+abbrev pub level_references : Property → LevelRow → List Reference
 level_references property.AddressId row = id_or_null row.address
 level_references property.BuildingIds row = map by_id row.buildings
 level_references _ row = []
 
-abbrev occupant_references : Property → OccupantRow → List Reference
+abbrev pub occupant_references : Property → OccupantRow → List Reference
 occupant_references property.AnchorId row = by_id row.anchor ∷ []
 occupant_references _ row = []
 
-abbrev opening_references : Property → OpeningRow → List Reference
+abbrev pub opening_references : Property → OpeningRow → List Reference
 opening_references property.LevelId row = by_id row.level ∷ []
 opening_references _ row = []
 
-abbrev relationship_references : Property → RelationshipRow → List Reference
+abbrev pub relationship_references : Property → RelationshipRow → List Reference
 relationship_references property.Origin row = object_or_null row.origin
 relationship_references property.Intermediary row = map by_object row.between
 relationship_references property.Destination row = object_or_null row.destination
 relationship_references _ row = []
 
-abbrev unit_references : Property → UnitRow → List Reference
+abbrev pub unit_references : Property → UnitRow → List Reference
 unit_references property.LevelId row = by_id row.level ∷ []
 unit_references _ row = []
 
-abbrev venue_references : Property → VenueRow → List Reference
+abbrev pub venue_references : Property → VenueRow → List Reference
 venue_references property.AddressId row = id_or_null row.address
 venue_references _ row = []
 

@@ -1,22 +1,39 @@
 //! All identifiers and references of a folder.
 
-ghost use Rattle.std.specs.Prelude.{IfOk};
+ghost use Rattle.std.specs.Prelude.{◌≤◌, ◌↔◌, IfOk, Contains};
+ghost use Rattle.venue_types.specs.declared.finding.Finding.{Finding as FindingOf};
 ghost use Rattle.report_laws.specs.Reports.{IsReport};
+ghost use Rattle.sound_rows.specs.Rows.{feature_count};
 ghost use Rattle.sound_rows.specs.Sound.{AreSound};
 ghost use Rattle.imdf_refs.specs.Rules.{IsMisnamed};
 
+use crate::identifiers::judge_identifiers;
+use crate::judging::judge_properties;
+use imdf_forms::properties;
+use report_laws::in_order;
 use std::alloc::Global;
 use venue_types::{Features, Finding, List, OutOfMemory};
+
+/// Where a rule of the second phase is broken, in the order in which that is found.
+pub(crate) fn gather(alloc: Global, features: &Features) -> Result<Vec<Finding>, OutOfMemory>
+    requires { feature_count features.now ≤ 100000 }
+    ensures { IfOk result (λ findings. (x : FindingOf) → Contains findings.items x ↔ IsMisnamed features.now x) }
+{
+    let mut findings = Vec::new(alloc);
+    let known = judge_identifiers(alloc, &mut findings, features)?;
+    judge_properties(&mut findings, &known, properties(), features)?;
+    Ok(findings)
+}
 
 /// The whole second phase over the rows of a folder in which the first phase finds nothing.
 ///
 /// It takes n log n time for n features and references, and memory in proportion to the features and the findings.
-pub fn reference_findings(
-    alloc: Global,
-    features: &Features,
-) -> Result<List<Finding>, OutOfMemory>
+/// A list of 2^26 items or more in one property, which takes a gigabyte, counts as want of memory: the numbers of
+/// its last items don't fit a finding.
+pub fn reference_findings(alloc: Global, features: &Features) -> Result<List<Finding>, OutOfMemory>
     requires { AreSound features.now }
     ensures { IfOk result (IsReport (IsMisnamed features.now)) }
 {
-    Err(OutOfMemory)
+    let findings = gather(alloc, features)?;
+    Ok(in_order(findings))
 }

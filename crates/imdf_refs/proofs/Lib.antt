@@ -1,0 +1,5 @@
+pub mod Loops
+pub mod FileOrder
+pub mod Indexing
+pub mod Naming
+pub mod Misnaming

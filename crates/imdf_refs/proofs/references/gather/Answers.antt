@@ -1,0 +1,20 @@
+use Rattle.std.proofs.Common.{◌≡◌, ◌∙◌, ◌++◌, List, [], ap, subst}
+use Rattle.std.specs.List.{flat_map}
+use Rattle.venue_types.specs.declared.finding.Finding.{Finding}
+use Rattle.imdf_forms.specs.declared.table.PropertyRow.{PropertyRow}
+use Rattle.imdf_forms.specs.Properties.{properties}
+use Rattle.report_laws.specs.Passes.{Adds}
+use Rattle.imdf_refs.specs.Gathering.{in_property, Repeats}
+use Rattle.imdf_refs.proofs.Misnaming.{misnamed}
+use Rattle.imdf_refs.proofs.references.gather.Goals as goal
+
+pub returns : goal.returns
+returns c =
+    let features = c.args.features.now in
+    let known = c.in_ok-known.known in
+    let first = c.judge_identifiers.new.findings.items in
+    let gathered = c.judge_properties.new.findings.items in
+    let repeats : Adds (Repeats features) [] first = subst (λ (xs : List Finding). Adds (Repeats features) xs first) c.new-findings.ensures.items c.in_ok-known.ensures.findings in
+    let is : gathered ≡ first ++ flat_map (in_property known features) properties =
+    c.in_ok-judge_properties.ensures ∙ ap (λ (table : List PropertyRow). first ++ flat_map (in_property known features) table) c.properties.ensures in
+    misnamed features known first gathered c.in_ok-known.ensures.known repeats is

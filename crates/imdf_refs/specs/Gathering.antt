@@ -1,0 +1,65 @@
+-- What the passes find, given the index of identifiers.
+use Rattle.std.specs.Prelude.{◌≡◌, ℕ, ◌+◌, ◌*◌, List, [], ◌∷◌, ◌++◌, map, Option, Some, None, Bool, ◌&&◌, not}
+use Rattle.report_laws.specs.Passes.{found, over}
+use Rattle.venue_types.specs.declared.feature_id.FeatureId.{FeatureId}
+use Rattle.venue_types.specs.declared.features.Features.{Features}
+use Rattle.venue_types.specs.declared.finding.Finding.{Finding}
+use Rattle.imdf_forms.specs.declared.files.File.{File}
+use Rattle.imdf_forms.specs.declared.table.PropertyRow.{PropertyRow}
+use Rattle.imdf_forms.specs.Files.{file_number}
+use Rattle.imdf_forms.specs.Properties.{property_number}
+use Rattle.imdf_refs.specs.declared.known.Known.{Known}
+use Rattle.imdf_refs.specs.declared.place.Place.{Place}
+use Rattle.imdf_refs.specs.declared.row.References.{References}
+use Rattle.imdf_refs.specs.declared.row.References.TheVariants as references
+use Rattle.imdf_refs.specs.declared.rules.Rule.{Rule}
+use Rattle.imdf_refs.specs.declared.rules.Rule.TheVariants.{C7, X1, X2}
+use Rattle.imdf_refs.specs.References.{Reference, by_id, by_object, references_in, file_named}
+use Rattle.imdf_refs.specs.Rules.{rule_number, RepeatsEarlier}
+use Rattle.imdf_refs.specs.Index.{has_id, has_typed}
+
+abbrev pub finding_at : Rule → Place → Finding
+finding_at r place = record { rule = rule_number r; file = file_number place.file; index = place.index; member = place.member }
+
+abbrev pub place_of : File → ℕ → ℕ → Place
+place_of f k member = record { file = f; index = k; member = member }
+
+-- the references as a list
+abbrev pub listed : References → List Reference
+listed references.Nothing = []
+listed (references.Id id) = by_id id ∷ []
+listed (references.Ids ids) = map by_id ids.now
+listed (references.Object object) = by_object object ∷ []
+listed (references.Objects objects) = map by_object objects.now
+
+-- what names a feature by this identifier, and tells this type or none
+abbrev pub reference : FeatureId → Option ℕ → Reference
+reference id told = record { id = id; told = told }
+
+-- at a reference that has to name a feature of this file
+abbrev pub dangles : Known → Place → FeatureId → Option ℕ → List Finding
+dangles known place id f =
+    found (not (has_id known id)) (finding_at X1 place)
+    ++ found (has_id known id && not (has_typed known id f)) (finding_at X2 place)
+
+-- at the reference at this place of the property's list in the k-th feature
+abbrev pub at_reference : Known → PropertyRow → ℕ → ℕ → Reference → List Finding
+at_reference known row k place r = dangles known (place_of row.file k (property_number row.property + 64 * place)) r.id (file_named row.names r)
+
+-- at the references of the property in the k-th feature
+abbrev pub at_feature : Known → PropertyRow → ℕ → List Reference → List Finding
+at_feature known row k rs = over (at_reference known row k) 0 rs
+
+-- at the features of the property's file
+abbrev pub in_property : Known → Features → PropertyRow → List Finding
+in_property known features row = over (at_feature known row) 0 (references_in features row.file row.property)
+
+-- a feature of the file has the identifier of an earlier one
+pub record RepeatsIn (features : Features) (f : File) (x : Finding) : Type 0 where
+  pub repeats : RepeatsEarlier features f x.index
+  pub is : x ≡ finding_at C7 (place_of f x.index 0)
+
+-- a feature of some file has
+pub record Repeats (features : Features) (x : Finding) : Type 0 where
+  pub source : File
+  pub repeats : RepeatsIn features source x

@@ -1,0 +1,165 @@
+//! The rules on references: each names a feature, of the type that the table of properties asks for.
+
+ghost use Rattle.std.specs.Prelude.{◌≡◌, ◌≤◌, ◌++◌, OnOk, map, length};
+ghost use Rattle.std.specs.List.{flat_map};
+ghost use Rattle.report_laws.specs.Passes.{over};
+ghost use Rattle.sound_rows.specs.Rows.{feature_count};
+ghost use Rattle.venue_types.specs.declared.feature_id.FeatureId.{FeatureId as FeatureIdOf};
+ghost use Rattle.imdf_refs.specs.References.{by_id, by_object, file_named};
+ghost use Rattle.imdf_refs.specs.Gathering.{reference, listed, dangles, at_feature, in_property};
+
+use crate::known::Known;
+use crate::place::{Place, item_place};
+use crate::row::{References, Row};
+use crate::rules::Rule;
+use imdf_forms::{File, Named, PropertyRow};
+use report_laws::add;
+use venue_types::{FeatureId, Features, Finding, OutOfMemory, Ref};
+
+// The number of the file whose features a property names, where a reference object tells this one.
+fn named_file(names: Named, told: Option<u8>) -> Option<u8>
+    ensures { (id : FeatureIdOf) → result ≡ file_named names (reference id told) }
+{
+    match names {
+        Named::Nothing => None,
+        Named::Address => Some(File::Address.number()),
+        Named::Anchor => Some(File::Anchor.number()),
+        Named::Building => Some(File::Building.number()),
+        Named::Level => Some(File::Level.number()),
+        Named::Unit => Some(File::Unit.number()),
+        Named::ByReference => told,
+    }
+}
+
+// At one reference, which has to name a feature of this file.
+fn judge(
+    findings: &mut Vec<Finding>,
+    known: &Known,
+    place: Place,
+    id: FeatureId,
+    file: Option<u8>,
+) -> Result<(), OutOfMemory>
+    ensures { OnOk result (findings.new.items ≡ findings.old.items ++ dangles known.now place id file) }
+{
+    let named = known.has(id);
+    let right = known.has_typed(id, file);
+    add(findings, !named, place.finding(Rule::X1))?;
+    add(findings, named && !right, place.finding(Rule::X2))
+}
+
+// At each identifier of a list.
+fn judge_ids(
+    findings: &mut Vec<Finding>,
+    known: &Known,
+    row: &PropertyRow,
+    index: u32,
+    ids: &[FeatureId],
+) -> Result<(), OutOfMemory>
+    ensures { OnOk result (findings.new.items ≡ findings.old.items ++ at_feature known.now row.now index (map by_id ids.now)) }
+{
+    let file = named_file(row.names, None);
+    for (k, id) in ids.iter().enumerate() {
+        judge(findings, known, item_place(row, index, k)?, *id, file)?;
+    }
+    Ok(())
+}
+
+// At each reference object of a list.
+fn judge_objects(
+    findings: &mut Vec<Finding>,
+    known: &Known,
+    row: &PropertyRow,
+    index: u32,
+    objects: &[Ref],
+) -> Result<(), OutOfMemory>
+    ensures { OnOk result (findings.new.items ≡ findings.old.items ++ at_feature known.now row.now index (map by_object objects.now)) }
+{
+    for (k, object) in objects.iter().enumerate() {
+        let file = named_file(row.names, Some(object.feature_type));
+        judge(findings, known, item_place(row, index, k)?, object.id, file)?;
+    }
+    Ok(())
+}
+
+// At each reference of a property of one feature.
+fn judge_references(
+    findings: &mut Vec<Finding>,
+    known: &Known,
+    row: &PropertyRow,
+    index: u32,
+    references: References<'_>,
+) -> Result<(), OutOfMemory>
+    ensures { OnOk result (findings.new.items ≡ findings.old.items ++ at_feature known.now row.now index (listed references.entry)) }
+{
+    match references {
+        References::Nothing => Ok(()),
+        References::Id(id) => judge_ids(findings, known, row, index, &[id]),
+        References::Ids(ids) => judge_ids(findings, known, row, index, ids),
+        References::Object(object) => judge_objects(findings, known, row, index, &[object]),
+        References::Objects(objects) => judge_objects(findings, known, row, index, objects),
+    }
+}
+
+// At each feature of a file.
+fn judge_rows<R: Row>(
+    findings: &mut Vec<Finding>,
+    known: &Known,
+    row: &PropertyRow,
+    features: &[R],
+) -> Result<(), OutOfMemory>
+    requires { length features.now ≤ 100000 }
+    ensures { OnOk result (findings.new.items ≡ findings.old.items ++ over (at_feature known.now row.now) 0 (map (R.references_of row.now.property) features.now)) }
+{
+    for (k, feature) in features.iter().enumerate() {
+        let references = feature.references(row.property);
+        judge_references(findings, known, row, k as u32, references)?;
+    }
+    Ok(())
+}
+
+// At each feature that has the property.
+fn judge_property(
+    findings: &mut Vec<Finding>,
+    known: &Known,
+    row: &PropertyRow,
+    features: &Features,
+) -> Result<(), OutOfMemory>
+    requires { feature_count features.now ≤ 100000 }
+    ensures { OnOk result (findings.new.items ≡ findings.old.items ++ in_property known.now features.now row.now) }
+{
+    match row.file {
+        File::Amenity => judge_rows(findings, known, row, features.amenities.as_slice()),
+        File::Anchor => judge_rows(findings, known, row, features.anchors.as_slice()),
+        File::Building => judge_rows(findings, known, row, features.buildings.as_slice()),
+        File::Detail => judge_rows(findings, known, row, features.details.as_slice()),
+        File::Fixture => judge_rows(findings, known, row, features.fixtures.as_slice()),
+        File::Footprint => judge_rows(findings, known, row, features.footprints.as_slice()),
+        File::Kiosk => judge_rows(findings, known, row, features.kiosks.as_slice()),
+        File::Level => judge_rows(findings, known, row, features.levels.as_slice()),
+        File::Occupant => judge_rows(findings, known, row, features.occupants.as_slice()),
+        File::Opening => judge_rows(findings, known, row, features.openings.as_slice()),
+        File::Relationship => judge_rows(findings, known, row, features.relationships.as_slice()),
+        File::Unit => judge_rows(findings, known, row, features.units.as_slice()),
+        File::Venue => judge_rows(findings, known, row, features.venues.as_slice()),
+        // Their features refer to nothing.
+        File::Manifest | File::Address | File::Geofence | File::Section => Ok(()),
+    }
+}
+
+/// At each feature that has one of these properties, given the identifiers of all features.
+///
+/// It takes log n time a reference.
+pub(crate) fn judge_properties(
+    findings: &mut Vec<Finding>,
+    known: &Known,
+    table: &[PropertyRow],
+    features: &Features,
+) -> Result<(), OutOfMemory>
+    requires { feature_count features.now ≤ 100000 }
+    ensures { OnOk result (findings.new.items ≡ findings.old.items ++ flat_map (in_property known.now features.now) table.now) }
+{
+    for row in table {
+        judge_property(findings, known, row, features)?;
+    }
+    Ok(())
+}

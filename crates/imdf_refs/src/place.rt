@@ -1,0 +1,57 @@
+//! The places of findings.
+
+ghost use Rattle.std.specs.Prelude.{◌≡◌, ◌+◌, ◌*◌, ◌<◌, ◌^◌, IfOk, IsOk};
+ghost use Rattle.imdf_forms.specs.Properties.{property_number};
+ghost use Rattle.imdf_refs.specs.Gathering.{finding_at, place_of};
+
+use crate::rules::Rule;
+use imdf_forms::{File, Property, PropertyRow};
+use venue_types::{Finding, OutOfMemory};
+
+/// A feature by its file and its index there, and the part of it that a finding tells of.
+#[derive(Clone, Copy, Debug, PartialEq, Eq)]
+pub(crate) struct Place {
+    pub file: File,
+    pub index: u32,
+    pub member: u32,
+}
+
+impl Place {
+    /// The finding that the rule is broken there.
+    pub(crate) fn finding(self, rule: Rule) -> Finding
+        ensures { result ≡ finding_at rule self }
+    {
+        Finding {
+            rule: rule.number(),
+            file: self.file.number(),
+            index: self.index,
+            member: self.member,
+        }
+    }
+}
+
+// The number of an item of a property's list, which fits a finding in the first 2^26 - 1 items.
+//
+// A longer list takes a gigabyte, and what lies beyond counts as something for which there is no memory.
+fn member_of(property: Property, place: usize) -> Result<u32, OutOfMemory>
+    ensures is { IfOk result (λ member. member ≡ property_number property + 64 * place) }
+    ensures fits { place + 1 < 2 ^ 26 → IsOk result }
+{
+    if place >= 0x3ff_ffff {
+        return Err(OutOfMemory);
+    }
+    Ok(property.number() as u32 + 64 * place as u32)
+}
+
+/// The place of an item of a property's list, in a feature of the property's file.
+pub(crate) fn item_place(row: &PropertyRow, index: u32, place: usize) -> Result<Place, OutOfMemory>
+    ensures is { IfOk result (λ at. at ≡ place_of row.now.file index (property_number row.now.property + 64 * place)) }
+    ensures fits { place + 1 < 2 ^ 26 → IsOk result }
+{
+    let member = member_of(row.property, place)?;
+    Ok(Place {
+        file: row.file,
+        index,
+        member,
+    })
+}
