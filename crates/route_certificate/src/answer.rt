@@ -10,7 +10,8 @@ pub enum Claim {
         cost: u64,
         /// The places of its links in the table.
         steps: List<u32>,
-        /// The potentials that are below the cost, say; a node without one has the cost.
+        /// Nodes, each once and in ascending order, with their potentials in whole centimetres. A node that isn't listed has
+        /// the cost as its potential.
         at: List<Potential>,
     },
     /// There is no walk.

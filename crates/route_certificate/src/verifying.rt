@@ -50,9 +50,9 @@ fn first_steep(links: &[Row], at: &[Potential], cost: u64) -> Option<u32>
     ensures found { IfSome result (FailsFirstAt (IsGentle cost at.now) links.now) }
     ensures none { IfNone result (HoldsOfLinks (IsGentle cost at.now) links.now) }
 {
-    for (place, row) in links.iter().enumerate() {
+    for (link, row) in links.iter().enumerate() {
         if !is_gentle(at, cost, *row) {
-            return Some(place as u32);
+            return Some(link as u32);
         }
     }
     None
