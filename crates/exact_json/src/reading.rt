@@ -1,8 +1,9 @@
 //! A value in front of a text, and what follows it.
 
-ghost use Rattle.std.specs.Prelude.{◌≡◌, ◌≤◌, ◌<◌, length, map, IfOk, IfSome, option_map};
+ghost use Rattle.std.specs.Prelude.{◌≡◌, ◌≤◌, ◌<◌, [], ◌∷◌, length, map, IfOk, IfSome, option_map};
 ghost use Rattle.exact_json.specs.Number.{ends_value};
 ghost use Rattle.exact_json.specs.View.{tree_view, text_view, pair_view};
+ghost use Rattle.exact_json.specs.Slices.{texts_of, items_texts, pair_texts, members_texts, AreTextsBefore};
 ghost use Rattle.exact_json.specs.Reading.{Gives, Finds, skip, elements_at, value, scalar_at, token_at, number_at, name_at, pair_at, literal};
 
 use crate::fault::JsonFault;
@@ -47,6 +48,7 @@ fn read_number(text: &[u8]) -> Option<(&[u8], &[u8])>
 fn read_literal<'a>(text: &'a [u8], name: &[u8], tree: Tree<'a>) -> Option<(Tree<'a>, &'a [u8])>
     ensures value { option_map (λ r. (tree_view r.0, r.1.now)) result
         ≡ literal name.now (tree_view tree.entry) text.now }
+    ensures texts { IfSome result (λ r. texts_of r.0 ≡ texts_of tree.entry) }
     ensures within { IfSome result (λ r. length r.1.now ≤ length text.now) }
 {
     if text.starts_with(name) {
@@ -59,6 +61,7 @@ fn read_literal<'a>(text: &'a [u8], name: &[u8], tree: Tree<'a>) -> Option<(Tree
 // A literal or a number in front.
 pub(crate) fn read_token(text: &[u8]) -> Option<(Tree<'_>, &[u8])>
     ensures value { option_map (λ r. (tree_view r.0, r.1.now)) result ≡ token_at text.now }
+    ensures texts { IfSome result (λ r. texts_of r.0 ≡ []) }
     ensures within { IfSome result (λ r. length r.1.now ≤ length text.now) }
 {
     match byte_at(text, 0) {
@@ -75,6 +78,7 @@ pub(crate) fn read_token(text: &[u8]) -> Option<(Tree<'_>, &[u8])>
 // A value that is no list and no object.
 fn read_scalar<'a>(alloc: Global, text: &'a [u8]) -> Result<(Tree<'a>, &'a [u8]), JsonFault>
     ensures value { Finds (λ r. (tree_view r.0, r.1.now)) (scalar_at text.now) result }
+    ensures slices { IfOk result (λ r. AreTextsBefore (texts_of r.0) text.now r.1.now) }
     ensures within { IfOk result (λ r. length r.1.now ≤ length text.now) }
 {
     if byte_at(text, 0) == b'"' {
@@ -91,6 +95,7 @@ fn read_scalar<'a>(alloc: Global, text: &'a [u8]) -> Result<(Tree<'a>, &'a [u8])
 #[tactic(auto, unfolding(crate::specs::Reading::name_at))]
 fn read_name<'a>(alloc: Global, text: &'a [u8]) -> Result<(JsonText<'a>, &'a [u8]), JsonFault>
     ensures value { Finds (λ r. (text_view r.0, r.1.now)) (name_at text.now) result }
+    ensures slices { IfOk result (λ r. AreTextsBefore (r.0 ∷ []) text.now r.1.now) }
     ensures within { IfOk result (λ r. length r.1.now ≤ length text.now) }
 {
     if byte_at(text, 0) != b'"' {
@@ -113,6 +118,7 @@ pub(crate) fn read_value<'a>(
     depth: usize,
 ) -> Result<(Tree<'a>, &'a [u8]), JsonFault>
     ensures value { Gives (λ r. (tree_view r.0, r.1.now)) depth (λ d. value d text.now) result }
+    ensures slices { IfOk result (λ r. AreTextsBefore (texts_of r.0) text.now r.1.now) }
     ensures within { IfOk result (λ r. length r.1.now ≤ length text.now) }
 {
     match byte_at(text, 0) {
@@ -143,6 +149,7 @@ fn read_items<'a>(
 ) -> Result<(Vec<Tree<'a>>, &'a [u8]), JsonFault>
     ensures value { Gives (λ r. (map tree_view r.0.items, r.1.now)) depth
         (λ d. elements_at 93 (value d) text.now) result }
+    ensures slices { IfOk result (λ r. AreTextsBefore (items_texts r.0.items) text.now r.1.now) }
     ensures within { IfOk result (λ r. length r.1.now ≤ length text.now) }
 {
     let mut rest = skip_spaces(text);
@@ -172,6 +179,7 @@ fn read_pair<'a>(
 ) -> Result<(Pair<'a>, &'a [u8]), JsonFault>
     ensures value { Gives (λ r. (pair_view r.0, r.1.now)) depth
         (λ d. pair_at (value d) text.now) result }
+    ensures slices { IfOk result (λ r. AreTextsBefore (pair_texts r.0) text.now r.1.now) }
     ensures within { IfOk result (λ r. length r.1.now ≤ length text.now) }
 {
     let (name, rest) = read_name(alloc, text)?;
@@ -188,6 +196,7 @@ fn read_members<'a>(
 ) -> Result<(Vec<Pair<'a>>, &'a [u8]), JsonFault>
     ensures value { Gives (λ r. (map pair_view r.0.items, r.1.now)) depth
         (λ d. elements_at 125 (pair_at (value d)) text.now) result }
+    ensures slices { IfOk result (λ r. AreTextsBefore (members_texts r.0.items) text.now r.1.now) }
     ensures within { IfOk result (λ r. length r.1.now ≤ length text.now) }
 {
     let mut pairs = Vec::new(alloc);

@@ -1,11 +1,12 @@
 //! Strings (RFC 8259, section 7), from behind the opening quote on.
 
-ghost use Rattle.std.specs.Prelude.{◌≡◌, ◌≢◌, ◌+◌, ◌≤◌, ◌<◌, ◌++◌, length, option_map, IfOk, IfSome, OnOk, encode_utf8};
+ghost use Rattle.std.specs.Prelude.{◌≡◌, ◌≢◌, ◌+◌, ◌≤◌, ◌<◌, ◌++◌, [], ◌∷◌, length, option_map, IfOk, IfSome, OnOk, encode_utf8};
 ghost use Rattle.std.specs.List.{prefix_len};
 ghost use Rattle.std.specs.Char.{digit_value};
 ghost use Rattle.exact_json.specs.Strings.{code_unit, short_escape, low_next, is_low, unit_escape, after_high, escape, text_at, is_plain};
 ghost use Rattle.exact_json.specs.Reading.{Finds};
-ghost use Rattle.exact_json.specs.View.{text_view, IsCopiedOnlyWhereEscaped};
+ghost use Rattle.exact_json.specs.View.{text_view};
+ghost use Rattle.exact_json.specs.Slices.{AreTextsBefore};
 ghost use Rattle.exact_json.specs.Scanning.{rest_of};
 
 use crate::fault::JsonFault;
@@ -189,7 +190,7 @@ pub(crate) fn read_text<'a>(
     text: &'a [u8],
 ) -> Result<(JsonText<'a>, &'a [u8]), JsonFault>
     ensures value { Finds (λ r. (text_view r.0, r.1.now)) (text_at 0 text.now) result }
-    ensures slice { IfOk result (λ r. IsCopiedOnlyWhereEscaped text.now r.0 r.1.now) }
+    ensures slices { IfOk result (λ r. AreTextsBefore (r.0 ∷ []) (34 ∷ text.now) r.1.now) }
     ensures within { IfOk result (λ r. length r.1.now ≤ length text.now) }
 {
     let count = plain_len(text);

@@ -3,6 +3,7 @@
 ghost use Rattle.std.specs.Prelude.{◌≡◌, ◌≤◌, ◌<◌, ℕ, List, None, Err, IfOk, length};
 ghost use Rattle.exact_json.specs.Json.{Json, depth, IsNarrow, HasTexts};
 ghost use Rattle.exact_json.specs.View.{tree_view};
+ghost use Rattle.exact_json.specs.Slices.{texts_of, AreTextsOf};
 ghost use Rattle.exact_json.specs.Grammar.{IsSpace, IsJson, Starts, Answers, Misread, bare};
 ghost use Rattle.exact_json.specs.Reading.{value};
 ghost use Rattle.exact_json.specs.Scanning.{Reads};
@@ -38,6 +39,7 @@ fn deep_fault(alloc: Global, start: &[u8]) -> JsonFault
 fn read_start<'a>(alloc: Global, start: &'a [u8]) -> Result<Tree<'a>, JsonFault>
     ensures only { (j : Json) → (z : List ℕ) → IsSpace z → Reads start.now j z → Answers j result }
     ensures found { IfOk result (λ t. Starts start.now (tree_view t) × (depth (tree_view t) ≤ 64)) }
+    ensures slices { IfOk result (λ t. AreTextsOf (texts_of t) start.now) }
     ensures deep { result ≡ Err JsonFault.Deep → (j : Json) × Starts start.now j × (64 < depth j) }
 {
     match read_value(alloc, start, MOST) {
@@ -82,6 +84,8 @@ pub fn read<'a>(alloc: Global, bytes: &'a [u8]) -> Result<Tree<'a>, JsonFault>
     // What the layers above count on.
     ensures narrow { IfOk result (λ t. IsNarrow (length bytes.now) (tree_view t)) }
     ensures texts { IfOk result (λ t. HasTexts (tree_view t)) }
+    // Its texts, names too, are those of the strings in the bytes, in order, and one without an escape is a slice.
+    ensures slices { IfOk result (λ t. AreTextsOf (texts_of t) bytes.now) }
 {
     let text = bare(bytes);
     if std::str::from_utf8(text).is_err() {

@@ -1,9 +1,11 @@
-use Rattle.std.proofs.Common.{◌≡◌, ◌≢◌, ℕ, suc, ◌-◌, ◌≤◌, [], ◌∷◌, ◌++◌, length, map, Some, None, sym, ap, ◌∙◌, arith, rules}
+use Rattle.std.proofs.Common.{◌≡◌, ◌≢◌, ℕ, suc, ◌-◌, ◌≤◌, [], ◌∷◌, ◌++◌, length, map, Some, None, sym, ap, ◌∙◌, subst, arith, rules}
 use Rattle.std.proofs.lemmas.Result.{err_from_is_err_and}
 use Rattle.exact_json.specs.View.{tree_view, pair_view}
 use Rattle.exact_json.specs.Number.{head}
+use Rattle.exact_json.specs.Slices.{in_turn, texts_of, pair_texts, items_texts, members_texts, AreTextsBefore}
 use Rattle.exact_json.specs.Reading.{more_elements, elements_at, pair_at, value}
 use Rattle.exact_json.proofs.Lists.{joined, joined_nil, map_pushed, comma_turn, last_turn, bad_turn, lost_turn, no_elements, some_elements, list_too_deep, object_too_deep, carry, carry_up, list_is, object_is, no_list, no_object, scalar_is}
+use Rattle.exact_json.proofs.Slices.{joins, then_quiet, spaces, one_byte, spaced_byte, pushed_texts}
 use Rattle.exact_json.proofs.reading.+read.Goals as goal
 
 -- ---- a value
@@ -26,7 +28,7 @@ read_value-returns-in_ok-list-in-91-clause-value t c =
     let h : head b ≡ 91 = grind arith in
     let found = c.in_ok-list-in-91 in
     let least = λ (d : ℕ) (le : c.args.depth ≤ d). list_is (c.args.depth - 1) b c.after.result.now found.rest.now (map tree_view found.list.items) h c.after.ensures.value found.ensures.value d (omega arith) in
-    λ d le. least d le ∙ ap (λ j. Some (j, found.rest.now)) (sym c.array.ensures)
+    λ d le. least d le ∙ ap (λ j. Some (j, found.rest.now)) (sym c.array.ensures.value)
 
 pub read_value-returns-in_ok-pairs-in-123-clause-value : goal.read_value-returns-in_ok-pairs-in-123-clause-value
 read_value-returns-in_ok-pairs-in-123-clause-value t c =
@@ -34,7 +36,7 @@ read_value-returns-in_ok-pairs-in-123-clause-value t c =
     let h : head b ≡ 123 = grind arith in
     let found = c.in_ok-pairs-in-123 in
     let least = λ (d : ℕ) (le : c.args.depth ≤ d). object_is (c.args.depth - 1) b c.after-in-123.result.now found.rest.now (map pair_view found.pairs.items) h c.after-in-123.ensures.value found.ensures.value d (omega arith) in
-    λ d le. least d le ∙ ap (λ j. Some (j, found.rest.now)) (sym c.record.ensures)
+    λ d le. least d le ∙ ap (λ j. Some (j, found.rest.now)) (sym c.record.ensures.value)
 
 pub read_value-returns-in_err-list-in-91-clause-value : goal.read_value-returns-in_err-list-in-91-clause-value
 read_value-returns-in_err-list-in-91-clause-value t c =
@@ -78,6 +80,7 @@ read_items-loop-list-init t c =
       omega arith,
       (λ d le. some_elements 93 (value d) c.args.text.now s c.skip_spaces-rest.ensures.value h ∙ joined_nil (more_elements 93 (value d) (suc (length s)) s) ∙ ap (λ l. joined (map tree_view l) (more_elements 93 (value d) (suc (length s)) s)) (sym c.in_ok-list.ensures.items)),
       c.skip_spaces-rest.ensures.within,
+      subst (λ l. AreTextsBefore (items_texts l) c.args.text.now s) (sym c.in_ok-list.ensures.items) (spaces c.args.text.now s c.skip_spaces-rest.ensures.value),
     )
 
 pub read_items-loop-list-preserved : goal.read_items-loop-list-preserved
@@ -97,6 +100,11 @@ read_items-loop-list-preserved t c =
       (λ d le. l.invariant.2 d le
           ∙ comma_turn 93 (value d) n l.rest.now s m (map tree_view l.list.items) (map tree_view c.push.new.self.items) (tree_view tree) c.in_ok-tree.behind.now rest (omega (arith, l.invariant.1)) c.skip_spaces.ensures.value (c.in_ok-tree.ensures.value d le) c.skip_spaces-mark.ensures.value h c.after-rest.ensures.value seen),
       omega (arith, l.invariant.3, inside),
+      then_quiet (items_texts c.push.new.self.items) c.args.text.now c.in_ok-tree.behind.now rest
+          (subst (λ ts. AreTextsBefore ts c.args.text.now c.in_ok-tree.behind.now) (pushed_texts texts_of l.list.items tree ∙ ap (λ xs. in_turn (map texts_of xs)) (sym grown))
+          (joins (items_texts l.list.items) (texts_of tree) c.args.text.now l.rest.now c.in_ok-tree.behind.now l.invariant.4
+          (joins [] (texts_of tree) l.rest.now s c.in_ok-tree.behind.now (spaces l.rest.now s c.skip_spaces.ensures.value) c.in_ok-tree.ensures.slices)))
+          (spaced_byte 44 c.in_ok-tree.behind.now m rest (λ e. omega (arith, e)) (λ e. omega (arith, e)) c.skip_spaces-mark.ensures.value h c.after-rest.ensures.value),
     )
 
 pub read_items-returns-in-93-clause-value : goal.read_items-returns-in-93-clause-value
@@ -153,6 +161,7 @@ read_members-loop-pairs-init t c =
       omega arith,
       (λ d le. some_elements 125 (pair_at (value d)) c.args.text.now s c.skip_spaces-rest.ensures.value h ∙ joined_nil (more_elements 125 (pair_at (value d)) (suc (length s)) s) ∙ ap (λ l. joined (map pair_view l) (more_elements 125 (pair_at (value d)) (suc (length s)) s)) (sym c.new-pairs.ensures.items)),
       c.skip_spaces-rest.ensures.within,
+      subst (λ l. AreTextsBefore (members_texts l) c.args.text.now s) (sym c.new-pairs.ensures.items) (spaces c.args.text.now s c.skip_spaces-rest.ensures.value),
     )
 
 pub read_members-loop-pairs-preserved : goal.read_members-loop-pairs-preserved
@@ -172,6 +181,11 @@ read_members-loop-pairs-preserved t c =
       (λ d le. l.invariant.2 d le
           ∙ comma_turn 125 (pair_at (value d)) n l.rest.now s m (map pair_view l.pairs.items) (map pair_view c.push.new.self.items) (pair_view pair) c.in_ok-pair.behind.now rest (omega (arith, l.invariant.1)) c.skip_spaces.ensures.value (c.in_ok-pair.ensures.value d le) c.skip_spaces-mark.ensures.value h c.after-rest.ensures.value seen),
       omega (arith, l.invariant.3, inside),
+      then_quiet (members_texts c.push.new.self.items) c.args.text.now c.in_ok-pair.behind.now rest
+          (subst (λ ts. AreTextsBefore ts c.args.text.now c.in_ok-pair.behind.now) (pushed_texts pair_texts l.pairs.items pair ∙ ap (λ xs. in_turn (map pair_texts xs)) (sym grown))
+          (joins (members_texts l.pairs.items) (pair_texts pair) c.args.text.now l.rest.now c.in_ok-pair.behind.now l.invariant.4
+          (joins [] (pair_texts pair) l.rest.now s c.in_ok-pair.behind.now (spaces l.rest.now s c.skip_spaces.ensures.value) c.in_ok-pair.ensures.slices)))
+          (spaced_byte 44 c.in_ok-pair.behind.now m rest (λ e. omega (arith, e)) (λ e. omega (arith, e)) c.skip_spaces-mark.ensures.value h c.after-rest.ensures.value),
     )
 
 pub read_members-returns-in-125-clause-value : goal.read_members-returns-in-125-clause-value
@@ -211,3 +225,72 @@ read_members-returns-in_err-pair-clause-value t c =
     let q = λ (d : ℕ). elements_at 125 (pair_at (value d)) c.args.text.now in
     let fails = λ (d : ℕ) (le : c.args.depth ≤ d) (none : (pair_at (value d)) s ≡ None). l.invariant.2 d le ∙ lost_turn 125 (pair_at (value d)) n l.rest.now s (map pair_view l.pairs.items) (omega (arith, l.invariant.1)) c.skip_spaces.ensures.value none in
     rw (p.1, same) (carry c.args.depth (λ d. (pair_at (value d)) s) q fails e c.in_err-pair.ensures.value)
+
+-- ---- the texts
+
+pub read_value-returns-in_ok-list-in-91-clause-slices : goal.read_value-returns-in_ok-list-in-91-clause-slices
+read_value-returns-in_ok-list-in-91-clause-slices t c =
+    let b = c.args.text.now in
+    let h : head b ≡ 91 = grind arith in
+    let found = c.in_ok-list-in-91 in
+    subst (λ ts. AreTextsBefore ts b found.rest.now) (sym c.array.ensures.texts)
+    (joins [] (items_texts found.list.items) b c.after.result.now found.rest.now (one_byte 91 b c.after.result.now (λ e. omega (arith, e)) (λ e. omega (arith, e)) h c.after.ensures.value) found.ensures.slices)
+
+pub read_value-returns-in_ok-pairs-in-123-clause-slices : goal.read_value-returns-in_ok-pairs-in-123-clause-slices
+read_value-returns-in_ok-pairs-in-123-clause-slices t c =
+    let b = c.args.text.now in
+    let h : head b ≡ 123 = grind arith in
+    let found = c.in_ok-pairs-in-123 in
+    subst (λ ts. AreTextsBefore ts b found.rest.now) (sym c.record.ensures.texts)
+    (joins [] (members_texts found.pairs.items) b c.after-in-123.result.now found.rest.now (one_byte 123 b c.after-in-123.result.now (λ e. omega (arith, e)) (λ e. omega (arith, e)) h c.after-in-123.ensures.value) found.ensures.slices)
+
+pub read_items-returns-then-byte_at-eq93-clause-slices : goal.read_items-returns-then-byte_at-eq93-clause-slices
+read_items-returns-then-byte_at-eq93-clause-slices t c =
+    let s = c.skip_spaces-rest.result.now in
+    let h : head s ≡ 93 = grind arith in
+    subst (λ l. AreTextsBefore (items_texts l) c.args.text.now c.after.result.now) (sym c.new.ensures.items)
+    (spaced_byte 93 c.args.text.now s c.after.result.now (λ e. omega (arith, e)) (λ e. omega (arith, e)) c.skip_spaces-rest.ensures.value h c.after.ensures.value)
+
+pub read_items-returns-in-93-clause-slices : goal.read_items-returns-in-93-clause-slices
+read_items-returns-in-93-clause-slices t c =
+    let l = c.loop-list in
+    let s = c.skip_spaces.result.now in
+    let m = c.skip_spaces-mark.result.now in
+    let tree = c.in_ok-tree.tree in
+    let behind = c.in_ok-tree.behind.now in
+    let h : head m ≡ 93 = grind arith in
+    let grown : c.push.new.self.items ≡ l.list.items ++ tree ∷ [] = search rules in
+    then_quiet (items_texts c.push.new.self.items) c.args.text.now behind c.after-in-93.result.now
+    (subst (λ ts. AreTextsBefore ts c.args.text.now behind) (pushed_texts texts_of l.list.items tree ∙ ap (λ xs. in_turn (map texts_of xs)) (sym grown))
+    (joins (items_texts l.list.items) (texts_of tree) c.args.text.now l.rest.now behind l.invariant.4 (joins [] (texts_of tree) l.rest.now s behind (spaces l.rest.now s c.skip_spaces.ensures.value) c.in_ok-tree.ensures.slices)))
+    (spaced_byte 93 behind m c.after-in-93.result.now (λ e. omega (arith, e)) (λ e. omega (arith, e)) c.skip_spaces-mark.ensures.value h c.after-in-93.ensures.value)
+
+pub read_pair-returns-clause-slices : goal.read_pair-returns-clause-slices
+read_pair-returns-clause-slices t c =
+    let name = c.in_ok-name.name in
+    let rest = c.in_ok-name.rest.now in
+    let s = c.skip_spaces.result.now in
+    let behind = c.in_ok-value.behind.now in
+    let texts = texts_of c.in_ok-value.value in
+    joins (name ∷ []) texts c.args.text.now rest behind c.in_ok-name.ensures.slices (joins [] texts rest s behind (spaces rest s c.skip_spaces.ensures.value) c.in_ok-value.ensures.slices)
+
+pub read_members-returns-then-byte_at-eq125-clause-slices : goal.read_members-returns-then-byte_at-eq125-clause-slices
+read_members-returns-then-byte_at-eq125-clause-slices t c =
+    let s = c.skip_spaces-rest.result.now in
+    let h : head s ≡ 125 = grind arith in
+    subst (λ l. AreTextsBefore (members_texts l) c.args.text.now c.after.result.now) (sym c.new-pairs.ensures.items)
+    (spaced_byte 125 c.args.text.now s c.after.result.now (λ e. omega (arith, e)) (λ e. omega (arith, e)) c.skip_spaces-rest.ensures.value h c.after.ensures.value)
+
+pub read_members-returns-in-125-clause-slices : goal.read_members-returns-in-125-clause-slices
+read_members-returns-in-125-clause-slices t c =
+    let l = c.loop-pairs in
+    let s = c.skip_spaces.result.now in
+    let m = c.skip_spaces-mark.result.now in
+    let pair = c.in_ok-pair.pair in
+    let behind = c.in_ok-pair.behind.now in
+    let h : head m ≡ 125 = grind arith in
+    let grown : c.push.new.self.items ≡ l.pairs.items ++ pair ∷ [] = search rules in
+    then_quiet (members_texts c.push.new.self.items) c.args.text.now behind c.after-in-125.result.now
+    (subst (λ ts. AreTextsBefore ts c.args.text.now behind) (pushed_texts pair_texts l.pairs.items pair ∙ ap (λ xs. in_turn (map pair_texts xs)) (sym grown))
+    (joins (members_texts l.pairs.items) (pair_texts pair) c.args.text.now l.rest.now behind l.invariant.4 (joins [] (pair_texts pair) l.rest.now s behind (spaces l.rest.now s c.skip_spaces.ensures.value) c.in_ok-pair.ensures.slices)))
+    (spaced_byte 125 behind m c.after-in-125.result.now (λ e. omega (arith, e)) (λ e. omega (arith, e)) c.skip_spaces-mark.ensures.value h c.after-in-125.ensures.value)

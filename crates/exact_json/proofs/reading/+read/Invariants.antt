@@ -1,5 +1,6 @@
 use Rattle.std.proofs.Common.{◌≡◌, ℕ, ◌+◌, ◌*◌, ◌<◌, ◌≤◌, length, map}
 use Rattle.exact_json.specs.View.{tree_view, pair_view}
+use Rattle.exact_json.specs.Slices.{items_texts, members_texts, AreTextsBefore}
 use Rattle.exact_json.specs.Reading.{elements_at, more_elements, pair_at, value}
 use Rattle.exact_json.proofs.Lists.{joined}
 use Rattle.exact_json.proofs.reading.+read.Given as goal
@@ -18,14 +19,14 @@ decreases-read_members l = 3 * l.depth + 2
 
 abbrev pub invariant-read_items-loop-list : goal.invariant-read_items-loop-list
 invariant-read_items-loop-list l =
-    (n : ℕ) × (length l.rest < n) × ((d : ℕ) → l.depth ≤ d → elements_at 93 (value d) l.text ≡ joined (map tree_view l.list.items) (more_elements 93 (value d) n l.rest)) × (length l.rest ≤ length l.text)
+    (n : ℕ) × (length l.rest < n) × ((d : ℕ) → l.depth ≤ d → elements_at 93 (value d) l.text ≡ joined (map tree_view l.list.items) (more_elements 93 (value d) n l.rest)) × (length l.rest ≤ length l.text) × AreTextsBefore (items_texts l.list.items) l.text l.rest
 
 abbrev pub decreases-read_items-loop-list : goal.decreases-read_items-loop-list
 decreases-read_items-loop-list l = length l.rest
 
 abbrev pub invariant-read_members-loop-pairs : goal.invariant-read_members-loop-pairs
 invariant-read_members-loop-pairs l =
-    (n : ℕ) × (length l.rest < n) × ((d : ℕ) → l.depth ≤ d → elements_at 125 (pair_at (value d)) l.text ≡ joined (map pair_view l.pairs.items) (more_elements 125 (pair_at (value d)) n l.rest)) × (length l.rest ≤ length l.text)
+    (n : ℕ) × (length l.rest < n) × ((d : ℕ) → l.depth ≤ d → elements_at 125 (pair_at (value d)) l.text ≡ joined (map pair_view l.pairs.items) (more_elements 125 (pair_at (value d)) n l.rest)) × (length l.rest ≤ length l.text) × AreTextsBefore (members_texts l.pairs.items) l.text l.rest
 
 abbrev pub decreases-read_members-loop-pairs : goal.decreases-read_members-loop-pairs
 decreases-read_members-loop-pairs l = length l.rest
