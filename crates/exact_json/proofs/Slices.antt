@@ -62,9 +62,14 @@ one_byte c b rest space quote h left = (c ∷ [], head_cons b c h space ∙ ap (
 pub spaced_byte : (c : ℕ) (b m rest : List ℕ) → c ≢ 32 → c ≢ 34 → m ≡ skip b → head m ≡ c → rest ≡ drop 1 m → AreTextsBefore [] b rest
 spaced_byte c b m rest space quote at h left = joins [] [] b m rest (spaces b m at) (one_byte c m rest space quote h left)
 
-pub pushed_texts : {X : Type 0} (f : X → List JsonText) (xs : List X) (x : X) → in_turn (map f xs) ++ f x ≡ in_turn (map f (xs ++ x ∷ []))
+pushed_texts : {X : Type 0} (f : X → List JsonText) (xs : List X) (x : X) → in_turn (map f xs) ++ f x ≡ in_turn (map f (xs ++ x ∷ []))
 pushed_texts f [] x = sym (append-nil (f x))
 pushed_texts f (y ∷ xs) x = append_assoc (f y) (in_turn (map f xs)) (f x) ∙ ap (λ l. f y ++ l) (pushed_texts f xs x)
+
+-- one more behind what was read, and white space between
+pub more_texts : {X : Type 0} (f : X → List JsonText) (xs ys : List X) (x : X) (a b s c : List ℕ) → ys ≡ xs ++ x ∷ [] → AreTextsBefore (in_turn (map f xs)) a b → s ≡ skip b → AreTextsBefore (f x) s c → AreTextsBefore (in_turn (map f ys)) a c
+more_texts f xs ys x a b s c grown h at g =
+    subst (λ ts. AreTextsBefore ts a c) (pushed_texts f xs x ∙ ap (λ l. in_turn (map f l)) (sym grown)) (joins (in_turn (map f xs)) (f x) a b c h (joins [] (f x) b s c (spaces b s at) g))
 
 -- ---- tokens
 

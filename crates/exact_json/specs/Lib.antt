@@ -6,6 +6,7 @@ pub mod Number
 pub mod Strings
 pub mod Grammar
 pub mod Slices
+pub mod Unclosed
 pub mod Reading
 pub mod Scanning
 pub mod Nesting

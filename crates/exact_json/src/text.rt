@@ -159,6 +159,7 @@ fn append(made: &mut Vec<u8>, c: char) -> Result<(), AllocError>
 }
 
 // The text up to the closing quote, with its escapes replaced, and what follows that.
+#[inline(never)]
 fn unescape<'a>(alloc: Global, text: &'a [u8]) -> Result<(Vec<u8>, &'a [u8]), JsonFault>
     ensures value { Finds (λ r. (r.0.items, r.1.now)) (text_at 0 text.now) result }
     ensures within { IfOk result (λ r. length r.1.now ≤ length text.now) }
@@ -185,6 +186,7 @@ fn unescape<'a>(alloc: Global, text: &'a [u8]) -> Result<(Vec<u8>, &'a [u8]), Js
 }
 
 /// The text up to the closing quote, and what follows that. A text without escapes is not copied.
+#[inline(always)]
 pub(crate) fn read_text<'a>(
     alloc: Global,
     text: &'a [u8],

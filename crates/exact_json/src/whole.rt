@@ -13,6 +13,7 @@ use crate::number::after;
 use crate::reading::{read_value, skip_spaces};
 use crate::scan::scan;
 use crate::tree::Tree;
+use crate::unclosed::Unclosed;
 use std::alloc::Global;
 
 /// How deep lists and objects may nest.
@@ -42,7 +43,8 @@ fn read_start<'a>(alloc: Global, start: &'a [u8]) -> Result<Tree<'a>, JsonFault>
     ensures slices { IfOk result (λ t. AreTextsOf (texts_of t) start.now) }
     ensures deep { result ≡ Err JsonFault.Deep → (j : Json) × Starts start.now j × (64 < depth j) }
 {
-    match read_value(alloc, start, MOST) {
+    let mut unclosed = Unclosed::new(alloc);
+    match read_value(alloc, &mut unclosed, start, MOST) {
         Ok((tree, rest)) => {
             if skip_spaces(rest).is_empty() {
                 Ok(tree)
