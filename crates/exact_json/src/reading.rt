@@ -116,7 +116,7 @@ fn read_name<'a>(alloc: Global, text: &'a [u8]) -> Result<(JsonText<'a>, &'a [u8
     }
 }
 
-// One value, with lists and objects nested no deeper than `depth`.
+// One value, with lists and objects nested no deeper than `depth`, by which the recursion is measured.
 #[cycle(read)]
 #[inline(always)]
 pub(crate) fn read_value<'a>(
