@@ -99,12 +99,11 @@ fn one_holds(
     requires own { Contains features.now.amenities amenity.now }
     ensures { IsTrue result ↔ OneHolds features.now tolerance amenity.now.point ids.now }
 {
+    let mut held = false;
     for id in ids {
-        if unit_holds(features, holders, tolerance, amenity, *id) {
-            return true;
-        }
+        held = held || unit_holds(features, holders, tolerance, amenity, *id);
     }
-    false
+    held
 }
 
 /// Whether none of the amenity's units holds its point.
