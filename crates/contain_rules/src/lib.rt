@@ -2,6 +2,9 @@
 #![tactic(auto)]
 
 mod holding;
+mod index;
+mod leaving;
+mod rows;
 mod rules;
 
 pub use holding::add_hold_findings;

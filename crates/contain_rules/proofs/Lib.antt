@@ -1,0 +1,5 @@
+mod Closeness
+mod Indexing
+mod Judgements
+mod Lists
+mod RowRules

@@ -1,0 +1,144 @@
+//! Which features aren't held by what is to hold them.
+
+ghost use Rattle.std.specs.Prelude.{◌≡◌, ◌↔◌, IsTrue, MatchOption, Any, Contains};
+ghost use Rattle.venue_types.specs.declared.features.LevelRow.{LevelRow as ALevelRow};
+ghost use Rattle.venue_types.specs.declared.features.UnitRow.{UnitRow as AUnitRow};
+ghost use Rattle.contain_rules.specs.Rules.{IsLevel, IsUnit, UnitLeaves, AnchorLeaves, AmenityLeaves, OpeningLeaves};
+ghost use Rattle.contain_rules.specs.Indexes.{AreHolders};
+ghost use Rattle.contain_rules.specs.Judging.{CanJudge, IsTheLevel, IsTheUnit, UnitHolds, OneHolds};
+
+use crate::index::Holders;
+use crate::leaving::{figure_leaves, is_held, some_leaves};
+use venue_types::{
+    AmenityRow, AnchorRow, FeatureId, Features, LevelRow, OpeningRow, Point, UnitRow,
+};
+
+/// The level of this identifier.
+fn level_of<'a>(features: &'a Features, holders: &Holders, id: FeatureId) -> Option<&'a LevelRow>
+    requires { AreHolders features.now holders.now }
+    ensures { MatchOption result ((level : ALevelRow) → ¬ IsLevel features.now id level) (λ level. IsTheLevel features.now id level.now) }
+{
+    match holders.levels.place(id) {
+        Some(place) => features.levels.as_slice().get(place),
+        None => None,
+    }
+}
+
+/// The unit of this identifier.
+fn unit_of<'a>(features: &'a Features, holders: &Holders, id: FeatureId) -> Option<&'a UnitRow>
+    requires { AreHolders features.now holders.now }
+    ensures { MatchOption result ((unit : AUnitRow) → ¬ IsUnit features.now id unit) (λ unit. IsTheUnit features.now id unit.now) }
+{
+    match holders.units.place(id) {
+        Some(place) => features.units.as_slice().get(place),
+        None => None,
+    }
+}
+
+/// Whether the unit's level doesn't hold each of its vertices.
+pub(crate) fn unit_leaves(
+    features: &Features,
+    holders: &Holders,
+    tolerance: u32,
+    unit: &UnitRow,
+) -> bool
+    requires ready { CanJudge features.now tolerance holders.now }
+    requires own { Contains features.now.units unit.now }
+    ensures { IsTrue result ↔ UnitLeaves features.now tolerance unit.now }
+{
+    match level_of(features, holders, unit.level) {
+        Some(level) => figure_leaves(&level.shape, tolerance, &unit.shape),
+        None => false,
+    }
+}
+
+/// Whether the anchor's unit doesn't hold its point.
+pub(crate) fn anchor_leaves(
+    features: &Features,
+    holders: &Holders,
+    tolerance: u32,
+    anchor: &AnchorRow,
+) -> bool
+    requires ready { CanJudge features.now tolerance holders.now }
+    requires own { Contains features.now.anchors anchor.now }
+    ensures { IsTrue result ↔ AnchorLeaves features.now tolerance anchor.now }
+{
+    match unit_of(features, holders, anchor.unit) {
+        Some(unit) => !is_held(&unit.shape, tolerance, anchor.point),
+        None => false,
+    }
+}
+
+/// Whether the unit holds the amenity's point.
+fn unit_holds(
+    features: &Features,
+    holders: &Holders,
+    tolerance: u32,
+    amenity: &AmenityRow,
+    id: FeatureId,
+) -> bool
+    requires ready { CanJudge features.now tolerance holders.now }
+    requires own { Contains features.now.amenities amenity.now }
+    ensures { IsTrue result ↔ UnitHolds features.now tolerance amenity.now.point id }
+{
+    match unit_of(features, holders, id) {
+        Some(unit) => is_held(&unit.shape, tolerance, amenity.point),
+        None => false,
+    }
+}
+
+/// Whether one of these units holds the amenity's point.
+fn one_holds(
+    features: &Features,
+    holders: &Holders,
+    tolerance: u32,
+    amenity: &AmenityRow,
+    ids: &[FeatureId],
+) -> bool
+    requires ready { CanJudge features.now tolerance holders.now }
+    requires own { Contains features.now.amenities amenity.now }
+    ensures { IsTrue result ↔ OneHolds features.now tolerance amenity.now.point ids.now }
+{
+    let mut held = false;
+    for id in ids {
+        held = held || unit_holds(features, holders, tolerance, amenity, *id);
+    }
+    held
+}
+
+/// Whether none of the amenity's units holds its point.
+pub(crate) fn amenity_leaves(
+    features: &Features,
+    holders: &Holders,
+    tolerance: u32,
+    amenity: &AmenityRow,
+) -> bool
+    requires ready { CanJudge features.now tolerance holders.now }
+    requires own { Contains features.now.amenities amenity.now }
+    ensures { IsTrue result ↔ AmenityLeaves features.now tolerance amenity.now }
+{
+    !one_holds(
+        features,
+        holders,
+        tolerance,
+        amenity,
+        amenity.units.as_slice(),
+    )
+}
+
+/// Whether the opening's level doesn't hold each of its vertices.
+pub(crate) fn opening_leaves(
+    features: &Features,
+    holders: &Holders,
+    tolerance: u32,
+    opening: &OpeningRow,
+) -> bool
+    requires ready { CanJudge features.now tolerance holders.now }
+    requires own { Contains features.now.openings opening.now }
+    ensures { IsTrue result ↔ OpeningLeaves features.now tolerance opening.now }
+{
+    match level_of(features, holders, opening.level) {
+        Some(level) => some_leaves(&level.shape, tolerance, opening.line.points.as_slice()),
+        None => false,
+    }
+}
