@@ -1,6 +1,8 @@
 //! The rules on the spread of a folder's positions, and on its rings.
 #![tactic(auto)]
 
+mod bounds;
+mod positioned;
 mod ring_findings;
 mod rules;
 mod spread;
