@@ -1,1 +1,5 @@
 pub mod BoundsLemmas
+pub mod AreaLemmas
+pub mod EdgeLemmas
+pub mod FitLemmas
+pub mod FindingLemmas
