@@ -1,18 +1,19 @@
 -- What is found in rings one after another, from what is found in each.
-use Rattle.std.proofs.Common.{◌≡◌, ℕ, zero, suc, ◌+◌, ◌<◌, Bool, true, IsTrue, ◌↔◌, ◌⊎◌, inl, inr, List, [], ◌∷◌, ◌++◌, length, get_or, take, map, flat_map, Option, Some, None, refl, sym, subst, ap, ◌∙◌, arith}
+use Rattle.std.proofs.Common.{◌≡◌, ℕ, zero, suc, ◌+◌, ◌<◌, ◌≤◌, Bool, true, IsTrue, ◌↔◌, ◌⊎◌, inl, inr, List, [], ◌∷◌, ◌++◌, length, get_or, take, map, flat_map, Option, Some, None, refl, sym, subst, ap, ◌∙◌, arith}
 use Rattle.std.specs.Prelude.{Contains, slice_get}
 use Rattle.std.proofs.lemmas.List.{length-append, length-map, length-take-le, map-append, take_more}
 use Rattle.venue_types.specs.declared.finding.Finding.{Finding}
 use Rattle.venue_types.specs.declared.point.Ring.{Ring}
 use Rattle.venue_types.specs.declared.point.Part.{Part}
+use Rattle.venue_types.specs.declared.point.Shape.{Shape}
 use Rattle.imdf_forms.specs.declared.files.File.{File}
 use Rattle.report_laws.specs.Passes.{Adds, found}
-use Rattle.report_laws.proofs.Adding.{Adds-same, Adds-found, Adds-then}
+use Rattle.report_laws.proofs.Adding.{Adds-same, Adds-found, Adds-then, Among}
 use Rattle.ring_rules.specs.declared.rules.RingRule.{RingRule}
 use Rattle.ring_rules.specs.declared.rules.RingRule.TheVariants.{G3, G4, G5}
-use Rattle.ring_rules.specs.Rings.{Placed, as_hole, placed_in, CrossesItself, LeavesBorder, doubled_area}
+use Rattle.ring_rules.specs.Rings.{Placed, as_hole, placed_in, placed_rings, CrossesItself, LeavesBorder, doubled_area}
 use Rattle.ring_rules.specs.Rules.{RingBreaks}
-use Rattle.ring_rules.specs.Findings.{finding_at, FindsRule, FindsInRing, FindsFrom, alone}
+use Rattle.ring_rules.specs.Findings.{finding_at, FindsRule, FindsInRing, FindsFrom, FindsInShapes, alone}
 use Rattle.ring_rules.proofs.BoundsLemmas.{flat_map_step}
 
 -- ---- the rules on one ring
@@ -141,7 +142,8 @@ pub hole_step : (source : File) (i first number : ℕ) (border : Ring) (holes : 
     → Adds (FindsFrom source i first (map (as_hole border) (take k holes))) a b → Adds (FindsInRing source i number (as_hole border hole)) b c
     → Adds (FindsFrom source i first (map (as_hole border) (take (k + 1) holes))) a c
 hole_step source i first number border holes k hole a b c within is count before here =
-    let passed : length (map (as_hole border) (take k holes)) ≡ k = length-map (as_hole border) (take k holes) ∙ length-take-le k holes (omega arith) in
+    let inside : k ≤ length holes = omega arith in
+    let passed : length (map (as_hole border) (take k holes)) ≡ k = rw length-map (length-take-le k holes inside) in
     subst (λ (list : List Placed). Adds (FindsFrom source i first list) a c) (sym (map_step border holes k hole within is))
     (adds_more source i first number (map (as_hole border) (take k holes)) (as_hole border hole ∷ []) a b c (omega (arith, passed)) before (adds_one source i number (as_hole border hole) b c here))
 
@@ -158,3 +160,10 @@ part_count number next parts k part within is count more =
     let joined : length (flat_map placed_in (take (k + 1) parts)) ≡ length (flat_map placed_in (take k parts)) + length (placed_in part) =
         ap length (flat_map_step placed_in parts k part within is) ∙ length-append (flat_map placed_in (take k parts)) (placed_in part) in
     omega (arith, joined, count, more)
+
+-- ---- the shapes of a file
+
+pub in_shapes : (source : File) (shapes : List Shape) (a b : List Finding) → Adds (Among (λ k shape. FindsFrom source k 0 (placed_rings shape)) shapes) a b → Adds (FindsInShapes source shapes) a b
+in_shapes source shapes a b adds = Adds-same (FindsInShapes source shapes) adds
+    (λ x h. record { place = h.place; shape = h.item; there = h.there; finds = h.holds })
+    (λ x h. record { place = h.place; item = h.shape; there = h.there; holds = h.finds })

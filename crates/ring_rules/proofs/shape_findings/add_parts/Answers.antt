@@ -8,8 +8,8 @@ use Rattle.ring_rules.proofs.FitLemmas.{fit_part}
 use Rattle.ring_rules.proofs.FindingLemmas.{adds_none, part_step, part_count}
 use Rattle.ring_rules.proofs.shape_findings.add_parts.Goals as goal
 
-pub add_part-number-requires : goal.add_part-number-requires
-add_part-number-requires c = fit_part c.args.parts.now c.part-item.result (c.loop-part.part-index, c.loop-part-test.true, sym c.part-item.is) c.requires
+pub add_part-requires : goal.add_part-requires
+add_part-requires c = fit_part c.args.parts.now c.part-item.result (c.loop-part.part-index, c.loop-part-test.true, sym c.part-item.is) c.requires
 
 pub loop-part-init : goal.loop-part-init
 loop-part-init c = record { adds = adds_none _ _ _ _; count = refl }
@@ -17,7 +17,7 @@ loop-part-init c = record { adds = adds_none _ _ _ _; count = refl }
 pub loop-part-preserved : goal.loop-part-preserved
 loop-part-preserved c = record {
   adds = part_step c.args.place.file c.args.place.index c.loop-part.number c.args.parts.now c.loop-part.part-index c.part-item.result
-      c.args.findings.now.items c.loop-part.findings.items c.add_part-number.new.findings.items c.loop-part-test.true c.part-item.is c.loop-part.invariant.count c.loop-part.invariant.adds c.in_ok-number.ensures.adds;
+      c.args.findings.now.items c.loop-part.findings.items c.add_part.new.findings.items c.loop-part-test.true c.part-item.is c.loop-part.invariant.count c.loop-part.invariant.adds c.in_ok-number.ensures.adds;
   count = part_count c.loop-part.number c.in_ok-number.number c.args.parts.now c.loop-part.part-index c.part-item.result c.loop-part-test.true c.part-item.is c.loop-part.invariant.count c.in_ok-number.ensures.next;
 }
 
