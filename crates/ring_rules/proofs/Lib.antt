@@ -3,3 +3,4 @@ pub mod AreaLemmas
 pub mod EdgeLemmas
 pub mod FitLemmas
 pub mod FindingLemmas
+pub mod FolderLemmas
