@@ -1,2 +1,5 @@
+pub mod Bounds
 pub mod Rings
+pub mod Judged
 pub mod Rules
+pub mod Findings

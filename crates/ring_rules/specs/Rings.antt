@@ -13,11 +13,11 @@ pub record Placed : Type 0 where
   pub ring : Ring
   pub border : Option Ring
 
-abbrev as_hole : Ring → Ring → Placed
+abbrev pub as_hole : Ring → Ring → Placed
 as_hole border ring = record { ring = ring; border = Some border }
 
 -- the rings of a polygon: its border, then its holes
-abbrev placed_in : Part → List Placed
+abbrev pub placed_in : Part → List Placed
 placed_in part = record { ring = part.outer; border = None } ∷ map (as_hole part.outer) part.holes
 
 -- the rings of a shape, polygon by polygon
