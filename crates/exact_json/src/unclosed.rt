@@ -15,7 +15,10 @@ pub(crate) struct Unclosed<'a> {
 }
 
 impl<'a> Unclosed<'a> {
-    pub(crate) fn new(alloc: Global) -> Unclosed<'a> {
+    pub(crate) fn new(alloc: Global) -> Unclosed<'a>
+        ensures trees { result.trees.items ≡ [] }
+        ensures pairs { result.pairs.items ≡ [] }
+    {
         Unclosed {
             trees: Vec::new(alloc),
             pairs: Vec::new(alloc),
