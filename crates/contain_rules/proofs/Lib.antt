@@ -1,3 +1,4 @@
+mod Planes
 mod Closeness
 mod Indexing
 mod Judgements

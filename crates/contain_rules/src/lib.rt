@@ -1,11 +1,13 @@
-//! The rules on what holds what.
+//! The third and the fourth phase of rules: positions that lie too far apart, rings, and what holds what.
 #![tactic(auto)]
 
 mod holding;
 mod index;
 mod leaving;
+mod plane;
 mod rows;
 mod rules;
 
 pub use holding::add_hold_findings;
+pub use plane::plane_findings;
 pub use rules::HoldRule;
