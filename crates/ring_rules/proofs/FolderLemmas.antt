@@ -1,7 +1,7 @@
 -- The rings of a folder: that they are fit to be judged, and that the five files with shapes have all of them.
 use Rattle.std.proofs.Common.{◌≡◌, ℕ, ◌+◌, ◌<◌, ◌⊎◌, inl, inr, List, [], ◌++◌, length, flat_map, Some, None, refl, sym, subst, ap, ◌∙◌, arith}
 use Rattle.std.specs.Prelude.{Contains, slice_get}
-use Rattle.std.proofs.lemmas.List.Elements.{All-contains, Contains-append_left}
+use Rattle.std.proofs.lemmas.List.Elements.{All-contains, All-weaker, Contains-append_left}
 use Rattle.venue_types.specs.declared.features.Features.{Features}
 use Rattle.venue_types.specs.declared.finding.Finding.{Finding}
 use Rattle.venue_types.specs.declared.point.Point.{Point}
@@ -14,11 +14,11 @@ use Rattle.report_laws.proofs.Passes.{Contains-flat_map}
 use Rattle.report_laws.proofs.Adding.{Adds-same, Adds-then}
 use Rattle.plane_exact.specs.Figure.{AllClose, rings, ring_points, vertices}
 use Rattle.sound_rows.specs.Figures.{shapes_of, positions_of, positions, judged_positions, display_of}
-use Rattle.sound_rows.specs.Sound.{AreSound, IsOnEarth, IsSoundShape}
+use Rattle.sound_rows.specs.Sound.{AreSound, IsOnEarth, IsSoundRing, IsSoundShape}
 use Rattle.ring_rules.specs.declared.rules.RingRule.{RingRule}
 use Rattle.ring_rules.specs.Rings.{Placed, placed_rings}
 use Rattle.ring_rules.specs.Rules.{BreaksInRing, RingBreaks, ring_rule_number}
-use Rattle.ring_rules.specs.Judged.{AreFit, AreFitShapes}
+use Rattle.ring_rules.specs.Judged.{AreFit, AreFitShapes, IsShort}
 use Rattle.ring_rules.specs.Findings.{finding_at, FindsInRing, FindsFrom, FindsInShapes}
 use Rattle.ring_rules.proofs.EdgeLemmas.{fewer_close}
 use Rattle.ring_rules.proofs.FitLemmas.{fewer_all}
@@ -41,7 +41,7 @@ fit_file all sound close f has = record {
   fit = λ shape there. record {
     close = fewer_close (vertices shape) (judged_positions all) (judged all f has shape there) close;
     on_earth = fewer_all IsOnEarth (vertices shape) (judged_positions all) (judged all f has shape there) sound.on_earth;
-    sound = (All-contains IsSoundShape (shapes_of f all) shape (sound.shapes f) there).rings;
+    short = All-weaker IsSoundRing IsShort (λ ring h. h.few) (rings shape) (All-contains IsSoundShape (shapes_of f all) shape (sound.shapes f) there).rings;
   };
 }
 
