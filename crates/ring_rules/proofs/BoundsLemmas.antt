@@ -66,9 +66,9 @@ apart : (axis : Point → ℤ) (points : List Point) (e : Extent) → e.greatest
 apart axis points e most fewest h wide = elim h.least [
   | inl none ↦ absurd (omega (arith, ints))
   | inr low ↦ elim h.greatest [
-      | inl none ↦ absurd (omega (arith, ints))
-      | inr high ↦ record { low = low.0; high = high.0; has_low = low.1; has_high = high.1; far = omega (arith, ints, low.2, high.2) }
-    ]
+    | inl none ↦ absurd (omega (arith, ints))
+    | inr high ↦ record { low = low.0; high = high.0; has_low = low.1; has_high = high.1; far = omega (arith, ints, low.2, high.2) }
+  ]
 ]
 
 -- numbers within 64 bits

@@ -158,7 +158,7 @@ pub part_count : (number next : ℕ) (parts : List Part) (k : ℕ) (part : Part)
     → next ≡ number + length (placed_in part) → next ≡ length (flat_map placed_in (take (k + 1) parts))
 part_count number next parts k part within is count more =
     let joined : length (flat_map placed_in (take (k + 1) parts)) ≡ length (flat_map placed_in (take k parts)) + length (placed_in part) =
-        ap length (flat_map_step placed_in parts k part within is) ∙ length-append (flat_map placed_in (take k parts)) (placed_in part) in
+    ap length (flat_map_step placed_in parts k part within is) ∙ length-append (flat_map placed_in (take k parts)) (placed_in part) in
     omega (arith, joined, count, more)
 
 -- ---- the shapes of a file

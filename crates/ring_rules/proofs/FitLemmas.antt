@@ -37,7 +37,7 @@ close_two list one other has_one has_other fit = fewer_close (one.points ++ othe
 pub fit_fewer : (some list : List Ring) → ((ring : Ring) → Contains some ring → Contains list ring) → AreFit list → AreFit some
 fit_fewer some list within fit =
     let inside : (p : Point) → Contains (ring_points some) p → Contains (ring_points list) p =
-        λ p h. let at = points_of some p h in points_in list at.0 (within at.0 at.1) p at.2 in
+    λ p h. let at = points_of some p h in points_in list at.0 (within at.0 at.1) p at.2 in
     record {
       close = fewer_close (ring_points some) (ring_points list) inside fit.close;
       on_earth = fewer_all IsOnEarth (ring_points some) (ring_points list) inside fit.on_earth;

@@ -62,7 +62,6 @@ fit_venues all sound close = fit_file all sound close file.Venue (record { liste
 
 -- ---- what is found in the five files
 
-
 abbrev finding : ℕ → ℕ → ℕ → ℕ → Finding
 finding rule source index member = record { rule = rule; file = source; index = index; member = member }
 
@@ -133,12 +132,12 @@ which all f x h = absurd (nothing f x h)
 back : (all : Features) (x : Finding) → AllFive all x → BreaksInRing all x
 back all x h = elim h [
   | inl four ↦ elim four [
-      | inl three ↦ elim three [
-          | inl two ↦ elim two [ inl a ↦ breaks_of all file.Fixture x a | inr b ↦ breaks_of all file.Footprint x b ]
-          | inr c ↦ breaks_of all file.Level x c
-        ]
-      | inr d ↦ breaks_of all file.Unit x d
+    | inl three ↦ elim three [
+      | inl two ↦ elim two [ inl a ↦ breaks_of all file.Fixture x a | inr b ↦ breaks_of all file.Footprint x b ]
+      | inr c ↦ breaks_of all file.Level x c
     ]
+    | inr d ↦ breaks_of all file.Unit x d
+  ]
   | inr e ↦ breaks_of all file.Venue x e
 ]
 

@@ -35,6 +35,6 @@ small_fit list small = record {
 pub parts_fit : (parts : List Part) → All (λ part. All IsSmall (rings_of part)) parts → AreFit (flat_map rings_of parts)
 parts_fit parts small = small_fit (flat_map rings_of parts) (All-weaker (Contains (flat_map rings_of parts)) IsSmall
     (λ ring h.
-        let at = (Contains-flat_map rings_of parts ring).0 h in
-        All-contains IsSmall (rings_of at.0) ring (All-contains (λ part. All IsSmall (rings_of part)) parts at.0 small at.1) at.2)
+    let at = (Contains-flat_map rings_of parts ring).0 h in
+    All-contains IsSmall (rings_of at.0) ring (All-contains (λ part. All IsSmall (rings_of part)) parts at.0 small at.1) at.2)
     (flat_map rings_of parts) (All-contains_itself (flat_map rings_of parts)))

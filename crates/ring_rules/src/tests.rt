@@ -19,14 +19,23 @@ use venue_types::{
 type Corner = (i64, i64);
 
 const SQUARE: &[Corner] = &[(0, 0), (9, 0), (9, 9), (0, 9), (0, 0)];
+
 const INNER: &[Corner] = &[(3, 3), (3, 6), (6, 6), (6, 3), (3, 3)];
+
 const ON_BORDER: &[Corner] = &[(0, 3), (9, 5), (3, 9), (0, 3)];
+
 const FLAT: &[Corner] = &[(3, 3), (4, 4), (6, 6), (3, 3)];
+
 const BOW_TIE: &[Corner] = &[(0, 0), (6, 6), (6, 0), (0, 4), (0, 0)];
+
 const IN_BOW_TIE: &[Corner] = &[(5, 2), (5, 4), (4, 3), (5, 2)];
+
 const TOUCHING: &[Corner] = &[(0, 0), (6, 0), (3, 3), (6, 6), (0, 6), (3, 3), (0, 0)];
+
 const IN_TOUCHING: &[Corner] = &[(3, 1), (4, 1), (3, 2), (3, 1)];
+
 const OTHER: &[Corner] = &[(20, 0), (29, 0), (29, 9), (20, 9), (20, 0)];
+
 const IN_OTHER: &[Corner] = &[(23, 3), (26, 3), (26, 6), (23, 3)];
 
 fn at(corner: (i64, i64)) -> Point
@@ -104,7 +113,11 @@ fn a_ring_has_its_findings(rt: HostRuntime) -> Result<(), Fail> {
             index: 7,
         };
         add_shape(&mut findings, place, &shape).expect(&rt, "memory");
-        assert_eq!(rt; findings.len(), wanted.len(), "{border:?} {hole:?} {other:?}");
+        assert_eq!(rt;
+            findings.len(),
+            wanted.len(),
+            "{border:?} {hole:?} {other:?}"
+        );
         for (finding, (rule, member)) in findings.iter().zip(wanted) {
             assert_eq!(rt;
                 (finding.rule, finding.file, finding.index, finding.member),
