@@ -1,5 +1,5 @@
 -- Edges along a line of points: which of them have a property, and which cross.
-use Rattle.std.proofs.Common.{Bool, IsTrue, Option, Some, ◌≡◌, ℕ, ◌+◌, ◌<◌, ℤ, pos, ◌-ℤ◌, ◌*ℤ◌, ◌⊎◌, inl, inr, List, [], ◌∷◌, ◌++◌, length, get_or, drop, take, Any, ◌↔◌, refl, sym, subst, ap, ◌∙◌, arith}
+use Rattle.std.proofs.Common.{Bool, IsTrue, Some, ◌≡◌, ℕ, ◌+◌, ◌<◌, pos, ◌-ℤ◌, ◌⊎◌, inl, inr, List, ◌∷◌, ◌++◌, length, get_or, drop, take, Any, ◌↔◌, refl, sym, subst, arith}
 use Rattle.std.specs.Prelude.{Contains}
 use Rattle.std.proofs.lemmas.Int.{ints}
 use Rattle.std.proofs.Math.IntN.{*ℤ-zero}
@@ -7,10 +7,10 @@ use Rattle.std.proofs.lemmas.List.{take-append-drop}
 use Rattle.std.proofs.lemmas.List.Elements.{Contains-append_left, Contains-append_right, All-contains_itself}
 use Rattle.venue_types.specs.declared.point.Point.{Point}
 use Rattle.report_laws.proofs.Members.{Contains-first, Contains-later, Contains-cons_cases}
-use Rattle.plane_exact.specs.Plane.{side, IsClose}
+use Rattle.plane_exact.specs.Plane.{side}
 use Rattle.plane_exact.specs.Segment.{Crosses}
 use Rattle.plane_exact.specs.Figure.{Edge, edges_from, AllClose}
-use Rattle.plane_exact.proofs.ListLemmas.{drop_at, any_here, any_later, any_past}
+use Rattle.plane_exact.proofs.ListLemmas.{drop_at, any_here, any_past}
 use Rattle.venue_types.specs.declared.point.Ring.{Ring}
 use Rattle.ring_rules.specs.Rings.{as_hole, LeavesBorder}
 use Rattle.ring_rules.specs.Judged.{CrossesSome, HaveCrossing, IsOutside}

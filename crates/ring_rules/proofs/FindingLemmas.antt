@@ -1,6 +1,6 @@
 -- What is found in rings one after another, from what is found in each.
-use Rattle.std.proofs.Common.{◌≡◌, ℕ, zero, suc, ◌+◌, ◌<◌, ◌≤◌, Bool, true, IsTrue, ◌↔◌, ◌⊎◌, inl, inr, List, [], ◌∷◌, ◌++◌, length, get_or, take, map, flat_map, Option, Some, None, refl, sym, subst, ap, ◌∙◌, arith}
-use Rattle.std.specs.Prelude.{Contains, slice_get}
+use Rattle.std.proofs.Common.{◌≡◌, ℕ, zero, suc, ◌+◌, ◌<◌, ◌≤◌, Bool, IsTrue, ◌↔◌, ◌⊎◌, inl, inr, List, [], ◌∷◌, ◌++◌, length, get_or, take, map, flat_map, Some, None, refl, sym, subst, ap, ◌∙◌, arith}
+use Rattle.std.specs.Prelude.{slice_get}
 use Rattle.std.proofs.lemmas.List.{length-append, length-map, length-take-le, map-append, take_more}
 use Rattle.venue_types.specs.declared.finding.Finding.{Finding}
 use Rattle.venue_types.specs.declared.point.Ring.{Ring}
@@ -11,7 +11,7 @@ use Rattle.report_laws.specs.Passes.{Adds, found}
 use Rattle.report_laws.proofs.Adding.{Adds-same, Adds-found, Adds-then, Among}
 use Rattle.ring_rules.specs.declared.rules.RingRule.{RingRule}
 use Rattle.ring_rules.specs.declared.rules.RingRule.TheVariants.{G3, G4, G5}
-use Rattle.ring_rules.specs.Rings.{Placed, as_hole, placed_in, placed_rings, CrossesItself, LeavesBorder, doubled_area}
+use Rattle.ring_rules.specs.Rings.{Placed, as_hole, placed_in, placed_rings, LeavesBorder}
 use Rattle.ring_rules.specs.Rules.{RingBreaks}
 use Rattle.ring_rules.specs.Findings.{finding_at, FindsRule, FindsInRing, FindsFrom, FindsInShapes, alone}
 use Rattle.ring_rules.proofs.BoundsLemmas.{flat_map_step}

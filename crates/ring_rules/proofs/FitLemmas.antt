@@ -1,14 +1,13 @@
 -- What holds of rings, of some of them, and of the rings of a folder.
-use Rattle.std.proofs.Common.{◌≡◌, ℕ, List, [], ◌∷◌, ◌++◌, All, flat_map, map, ◌⊎◌, inl, inr, refl, sym, subst}
+use Rattle.std.proofs.Common.{List, [], ◌∷◌, ◌++◌, All, flat_map, inl, inr, subst}
 use Rattle.std.specs.Prelude.{Contains}
-use Rattle.std.proofs.lemmas.List.Elements.{All-contains, All-contains_itself, All-weaker, Contains-append_left, Contains-append_cases}
+use Rattle.std.proofs.lemmas.List.Elements.{All-contains, All-contains_itself, All-weaker, Contains-append_cases}
 use Rattle.report_laws.proofs.Passes.{Contains-flat_map}
 use Rattle.report_laws.proofs.Members.{Contains-first, Contains-later, Contains-only, Contains-cons_cases}
 use Rattle.venue_types.specs.declared.point.Point.{Point}
 use Rattle.venue_types.specs.declared.point.Ring.{Ring}
 use Rattle.venue_types.specs.declared.point.Part.{Part}
-use Rattle.venue_types.specs.declared.point.Shape.{Shape}
-use Rattle.plane_exact.specs.Figure.{AllClose, ring_points, rings, rings_of}
+use Rattle.plane_exact.specs.Figure.{AllClose, ring_points, rings_of}
 use Rattle.sound_rows.specs.Sound.{IsOnEarth}
 use Rattle.ring_rules.specs.Judged.{AreFit, IsShort}
 use Rattle.ring_rules.proofs.EdgeLemmas.{fewer_close}

@@ -1,5 +1,5 @@
 -- The rings of a folder: that they are fit to be judged, and that the five files with shapes have all of them.
-use Rattle.std.proofs.Common.{◌≡◌, ℕ, ◌+◌, ◌<◌, ◌⊎◌, inl, inr, List, [], ◌++◌, length, flat_map, Some, None, refl, sym, subst, ap, ◌∙◌, arith}
+use Rattle.std.proofs.Common.{◌≡◌, ℕ, ◌+◌, ◌⊎◌, inl, inr, List, [], flat_map, Some, None, refl, sym, subst, ap, ◌∙◌, arith}
 use Rattle.std.specs.Prelude.{Contains, slice_get}
 use Rattle.std.proofs.lemmas.List.Elements.{All-contains, All-weaker, Contains-append_left}
 use Rattle.venue_types.specs.declared.features.Features.{Features}
@@ -12,14 +12,13 @@ use Rattle.imdf_forms.specs.Files.{file_number, feature_files}
 use Rattle.report_laws.specs.Passes.{Adds}
 use Rattle.report_laws.proofs.Passes.{Contains-flat_map}
 use Rattle.report_laws.proofs.Adding.{Adds-same, Adds-then}
-use Rattle.plane_exact.specs.Figure.{AllClose, rings, ring_points, vertices}
+use Rattle.plane_exact.specs.Figure.{AllClose, rings, vertices}
 use Rattle.sound_rows.specs.Figures.{shapes_of, positions_of, positions, judged_positions, display_of}
 use Rattle.sound_rows.specs.Sound.{AreSound, IsOnEarth, IsSoundRing, IsSoundShape}
-use Rattle.ring_rules.specs.declared.rules.RingRule.{RingRule}
-use Rattle.ring_rules.specs.Rings.{Placed, placed_rings}
-use Rattle.ring_rules.specs.Rules.{BreaksInRing, RingBreaks, ring_rule_number}
-use Rattle.ring_rules.specs.Judged.{AreFit, AreFitShapes, IsShort}
-use Rattle.ring_rules.specs.Findings.{finding_at, FindsInRing, FindsFrom, FindsInShapes}
+use Rattle.ring_rules.specs.Rings.{placed_rings}
+use Rattle.ring_rules.specs.Rules.{BreaksInRing, ring_rule_number}
+use Rattle.ring_rules.specs.Judged.{AreFitShapes, IsShort}
+use Rattle.ring_rules.specs.Findings.{FindsInShapes}
 use Rattle.ring_rules.proofs.EdgeLemmas.{fewer_close}
 use Rattle.ring_rules.proofs.FitLemmas.{fewer_all}
 

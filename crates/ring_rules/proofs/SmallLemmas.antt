@@ -1,5 +1,5 @@
 -- Small rings are fit to be judged.
-use Rattle.std.proofs.Common.{◌≡◌, ◌≤◌, ℤ, ◌≤ℤ◌, List, [], ◌∷◌, All, flat_map, arith}
+use Rattle.std.proofs.Common.{List, All, flat_map, arith}
 use Rattle.std.specs.Prelude.{Contains}
 use Rattle.std.proofs.lemmas.Int.{ints}
 use Rattle.std.proofs.lemmas.List.Elements.{All-contains, All-contains_itself, All-weaker}

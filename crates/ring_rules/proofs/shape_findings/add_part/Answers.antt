@@ -1,4 +1,4 @@
-use Rattle.std.proofs.Common.{◌≡◌, ◌+◌, List, [], ◌∷◌, length, map, refl, subst}
+use Rattle.std.proofs.Common.{List, [], ◌∷◌, map, subst}
 use Rattle.venue_types.specs.declared.point.Ring.{Ring}
 use Rattle.report_laws.specs.Passes.{Adds}
 use Rattle.report_laws.proofs.Adding.{on_ok}

@@ -1,7 +1,6 @@
-use Rattle.std.proofs.Common.{◌≡◌, length, refl, ap, ◌∙◌, arith}
+use Rattle.std.proofs.Common.{length, ap, ◌∙◌, arith}
 use Rattle.std.proofs.lemmas.List.{length_push}
-use Rattle.std.proofs.lemmas.List.Elements.{All-nil, All-same, All-push}
-use Rattle.venue_types.specs.declared.point.Point.{Point}
+use Rattle.std.proofs.lemmas.List.Elements.{All-same, All-push}
 use Rattle.plane_exact.specs.Testing.{IsInBox}
 use Rattle.ring_rules.proofs.tests.ring.Goals as goal
 

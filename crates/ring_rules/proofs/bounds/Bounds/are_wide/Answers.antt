@@ -1,4 +1,4 @@
-use Rattle.std.proofs.Common.{◌≡◌, true, false, refl, sym, ◌∙◌, arith, true≢false}
+use Rattle.std.proofs.Common.{sym, ◌∙◌, arith, true≢false}
 use Rattle.std.proofs.lemmas.Int.{ints}
 use Rattle.ring_rules.specs.Bounds.{IsWide}
 use Rattle.ring_rules.proofs.BoundsLemmas.{true_unless, AreInRange, spread_by_x, spread_by_y, all_close, not_spread}
