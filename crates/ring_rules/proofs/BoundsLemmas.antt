@@ -1,5 +1,5 @@
 -- Bounds of joined lists, and what their width says of the positions.
-use Rattle.std.proofs.Common.{◌≡◌, ℕ, ◌+◌, ◌<◌, Bool, true, false, cond, ℤ, pos, neg_ℤ, ◌+ℤ◌, ◌≤ℤ◌, ◌<ℤ◌, ◌^◌, ◌-◌, ◌⊎◌, inl, inr, List, [], ◌∷◌, ◌++◌, length, get_or, take, flat_map, IsTrue, refl, sym, subst, ap, ◌∙◌, append_assoc, arith}
+use Rattle.std.proofs.Common.{◌≡◌, ℕ, ◌+◌, ◌<◌, Bool, true, false, cond, ℤ, pos, neg_ℤ, ◌+ℤ◌, ◌≤ℤ◌, ◌<ℤ◌, ◌^◌, ◌-◌, ◌⊎◌, inl, inr, List, [], ◌∷◌, ◌++◌, length, get_or, take, flat_map, refl, sym, subst, ap, ◌∙◌, append_assoc, arith}
 use Rattle.std.specs.Prelude.{Contains}
 use Rattle.std.specs.Int.{int_min, int_max}
 use Rattle.std.specs.Prelude.{int_lt}
@@ -8,7 +8,7 @@ use Rattle.std.proofs.lemmas.List.{take_more, flat_map_more, append-nil}
 use Rattle.std.proofs.lemmas.List.Elements.{Contains-append_left, Contains-append_right, Contains-append_cases}
 use lib.Signed.{lt_z}
 use Rattle.venue_types.specs.declared.point.Point.{Point}
-use Rattle.plane_exact.specs.Plane.{IsWithin, IsClose}
+use Rattle.plane_exact.specs.Plane.{IsWithin}
 use Rattle.plane_exact.specs.Figure.{AllClose}
 use Rattle.plane_exact.proofs.SegmentLemmas.{lt_decides}
 use Rattle.ring_rules.specs.declared.bounds.Extent.{Extent}
@@ -66,9 +66,9 @@ apart : (axis : Point → ℤ) (points : List Point) (e : Extent) → e.greatest
 apart axis points e most fewest h wide = elim h.least [
   | inl none ↦ absurd (omega (arith, ints))
   | inr low ↦ elim h.greatest [
-      | inl none ↦ absurd (omega (arith, ints))
-      | inr high ↦ record { low = low.0; high = high.0; has_low = low.1; has_high = high.1; far = omega (arith, ints, low.2, high.2) }
-    ]
+    | inl none ↦ absurd (omega (arith, ints))
+    | inr high ↦ record { low = low.0; high = high.0; has_low = low.1; has_high = high.1; far = omega (arith, ints, low.2, high.2) }
+  ]
 ]
 
 -- numbers within 64 bits

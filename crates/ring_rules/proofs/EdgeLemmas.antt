@@ -1,5 +1,5 @@
 -- Edges along a line of points: which of them have a property, and which cross.
-use Rattle.std.proofs.Common.{Bool, IsTrue, Option, Some, ◌≡◌, ℕ, ◌+◌, ◌<◌, ℤ, pos, ◌-ℤ◌, ◌*ℤ◌, ◌⊎◌, inl, inr, List, [], ◌∷◌, ◌++◌, length, get_or, drop, take, Any, ◌↔◌, refl, sym, subst, ap, ◌∙◌, arith}
+use Rattle.std.proofs.Common.{Bool, IsTrue, Some, ◌≡◌, ℕ, ◌+◌, ◌<◌, pos, ◌-ℤ◌, ◌⊎◌, inl, inr, List, ◌∷◌, ◌++◌, length, get_or, drop, take, Any, ◌↔◌, refl, sym, subst, arith}
 use Rattle.std.specs.Prelude.{Contains}
 use Rattle.std.proofs.lemmas.Int.{ints}
 use Rattle.std.proofs.Math.IntN.{*ℤ-zero}
@@ -7,10 +7,10 @@ use Rattle.std.proofs.lemmas.List.{take-append-drop}
 use Rattle.std.proofs.lemmas.List.Elements.{Contains-append_left, Contains-append_right, All-contains_itself}
 use Rattle.venue_types.specs.declared.point.Point.{Point}
 use Rattle.report_laws.proofs.Members.{Contains-first, Contains-later, Contains-cons_cases}
-use Rattle.plane_exact.specs.Plane.{side, IsClose}
+use Rattle.plane_exact.specs.Plane.{side}
 use Rattle.plane_exact.specs.Segment.{Crosses}
 use Rattle.plane_exact.specs.Figure.{Edge, edges_from, AllClose}
-use Rattle.plane_exact.proofs.ListLemmas.{drop_at, any_here, any_later, any_past}
+use Rattle.plane_exact.proofs.ListLemmas.{drop_at, any_here, any_past}
 use Rattle.venue_types.specs.declared.point.Ring.{Ring}
 use Rattle.ring_rules.specs.Rings.{as_hole, LeavesBorder}
 use Rattle.ring_rules.specs.Judged.{CrossesSome, HaveCrossing, IsOutside}
@@ -51,9 +51,9 @@ ahead_close start rest a b n h has_a has_b = fewer_close (a ∷ b ∷ drop n res
     (λ q w. elim (Contains-cons_cases a (b ∷ drop n rest) q w) [
       | inl e ↦ subst (λ (r : Point). Contains (start ∷ rest) r) e has_a
       | inr v ↦ elim (Contains-cons_cases b (drop n rest) q v) [
-          | inl e ↦ subst (λ (r : Point). Contains (start ∷ rest) r) e (Contains-later start rest b has_b)
-          | inr u ↦ Contains-later start rest q (contains_dropped n rest q u)
-        ]
+        | inl e ↦ subst (λ (r : Point). Contains (start ∷ rest) r) e (Contains-later start rest b has_b)
+        | inr u ↦ Contains-later start rest q (contains_dropped n rest q u)
+      ]
     ])
     h
 
@@ -94,13 +94,13 @@ cross_at one other third e h = subst (λ (edge : Edge). Crosses edge.from edge.t
 crossing_cases : (edge : Edge) (list : List Edge) → HaveCrossing (edge ∷ list) → CrossesSome edge list ⊎ HaveCrossing list
 crossing_cases edge list h = elim (Contains-cons_cases edge list h.one h.has_one) [
   | inl one ↦ elim (Contains-cons_cases edge list h.other h.has_other) [
-      | inl other ↦ absurd (no_self edge (cross_at edge h.one edge one (turned edge h.one (cross_at edge h.other h.one other (turned h.one h.other h.cross)))))
-      | inr there ↦ inl (some_of (λ (e : Edge). Crosses edge.from edge.to e.from e.to) list h.other there (cross_at edge h.one h.other one h.cross))
-    ]
+    | inl other ↦ absurd (no_self edge (cross_at edge h.one edge one (turned edge h.one (cross_at edge h.other h.one other (turned h.one h.other h.cross)))))
+    | inr there ↦ inl (some_of (λ (e : Edge). Crosses edge.from edge.to e.from e.to) list h.other there (cross_at edge h.one h.other one h.cross))
+  ]
   | inr here ↦ elim (Contains-cons_cases edge list h.other h.has_other) [
-      | inl other ↦ inl (some_of (λ (e : Edge). Crosses edge.from edge.to e.from e.to) list h.one here (cross_at edge h.other h.one other (turned h.one h.other h.cross)))
-      | inr there ↦ inr (record { one = h.one; other = h.other; has_one = here; has_other = there; cross = h.cross })
-    ]
+    | inl other ↦ inl (some_of (λ (e : Edge). Crosses edge.from edge.to e.from e.to) list h.one here (cross_at edge h.other h.one other (turned h.one h.other h.cross)))
+    | inr there ↦ inr (record { one = h.one; other = h.other; has_one = here; has_other = there; cross = h.cross })
+  ]
 ]
 
 crossing_past : (edge : Edge) (list : List Edge) → ¬ CrossesSome edge list → HaveCrossing list ↔ HaveCrossing (edge ∷ list)
@@ -110,13 +110,13 @@ crossing_past edge list none = (crossing_later edge list, λ h. elim (crossing_c
 pub line_here : (a : Point) (rest points : List Point) (i : ℕ) (d : Point) → i < length rest → points ≡ drop (i + 1) rest → CrossesSome (record { from = a; to = get_or rest i d }) (edges_from (get_or rest i d) points) → HaveCrossing (edges_from a (drop i rest))
 line_here a rest points i d within e h =
     let some : CrossesSome (record { from = a; to = get_or rest i d }) (edges_from (get_or rest i d) (drop (i + 1) rest)) =
-        subst (λ (ps : List Point). CrossesSome (record { from = a; to = get_or rest i d }) (edges_from (get_or rest i d) ps)) e h in
+    subst (λ (ps : List Point). CrossesSome (record { from = a; to = get_or rest i d }) (edges_from (get_or rest i d) ps)) e h in
     rw (drop_at rest i (get_or rest i d) d within refl) (crossing_first (record { from = a; to = get_or rest i d }) _ some)
 
 pub line_past : (a : Point) (rest points : List Point) (i : ℕ) (d : Point) → i < length rest → points ≡ drop (i + 1) rest → ¬ CrossesSome (record { from = a; to = get_or rest i d }) (edges_from (get_or rest i d) points) → HaveCrossing (edges_from (get_or rest i d) (drop (i + 1) rest)) ↔ HaveCrossing (edges_from a (drop i rest))
 line_past a rest points i d within e none =
     let no : ¬ CrossesSome (record { from = a; to = get_or rest i d }) (edges_from (get_or rest i d) (drop (i + 1) rest)) =
-        subst (λ (ps : List Point). ¬ CrossesSome (record { from = a; to = get_or rest i d }) (edges_from (get_or rest i d) ps)) e none in
+    subst (λ (ps : List Point). ¬ CrossesSome (record { from = a; to = get_or rest i d }) (edges_from (get_or rest i d) ps)) e none in
     rw (drop_at rest i (get_or rest i d) d within refl) (crossing_past (record { from = a; to = get_or rest i d }) _ no)
 
 -- ---- one position of some, and others
@@ -139,5 +139,5 @@ some_vertex hole border other e p at h = (at.0, p, at.1, at.2, subst (λ (ring :
 pub leaves_by : (hole border : Ring) (test : Bool) → IsTrue test ↔ Any (IsOutside border) hole.points → IsTrue test ↔ LeavesBorder (as_hole border hole)
 leaves_by hole border test decides = (
   λ t. let h = decides.0 t in record { border = border; hole = refl; vertex = h.1; has = (h.0, h.2, h.3); not_inside = h.4.0; not_on = h.4.1 },
-  λ h. decides.1 (some_vertex hole border h.border (same_border border h.border h.hole) h.vertex h.has (h.not_inside, h.not_on))
+  λ h. decides.1 (some_vertex hole border h.border (same_border border h.border h.hole) h.vertex h.has (h.not_inside, h.not_on)),
 )

@@ -1,6 +1,6 @@
 -- What is found in rings one after another, from what is found in each.
-use Rattle.std.proofs.Common.{◌≡◌, ℕ, zero, suc, ◌+◌, ◌<◌, ◌≤◌, Bool, true, IsTrue, ◌↔◌, ◌⊎◌, inl, inr, List, [], ◌∷◌, ◌++◌, length, get_or, take, map, flat_map, Option, Some, None, refl, sym, subst, ap, ◌∙◌, arith}
-use Rattle.std.specs.Prelude.{Contains, slice_get}
+use Rattle.std.proofs.Common.{◌≡◌, ℕ, zero, suc, ◌+◌, ◌<◌, ◌≤◌, Bool, IsTrue, ◌↔◌, ◌⊎◌, inl, inr, List, [], ◌∷◌, ◌++◌, length, get_or, take, map, flat_map, Some, None, refl, sym, subst, ap, ◌∙◌, arith}
+use Rattle.std.specs.Prelude.{slice_get}
 use Rattle.std.proofs.lemmas.List.{length-append, length-map, length-take-le, map-append, take_more}
 use Rattle.venue_types.specs.declared.finding.Finding.{Finding}
 use Rattle.venue_types.specs.declared.point.Ring.{Ring}
@@ -11,7 +11,7 @@ use Rattle.report_laws.specs.Passes.{Adds, found}
 use Rattle.report_laws.proofs.Adding.{Adds-same, Adds-found, Adds-then, Among}
 use Rattle.ring_rules.specs.declared.rules.RingRule.{RingRule}
 use Rattle.ring_rules.specs.declared.rules.RingRule.TheVariants.{G3, G4, G5}
-use Rattle.ring_rules.specs.Rings.{Placed, as_hole, placed_in, placed_rings, CrossesItself, LeavesBorder, doubled_area}
+use Rattle.ring_rules.specs.Rings.{Placed, as_hole, placed_in, placed_rings, LeavesBorder}
 use Rattle.ring_rules.specs.Rules.{RingBreaks}
 use Rattle.ring_rules.specs.Findings.{finding_at, FindsRule, FindsInRing, FindsFrom, FindsInShapes, alone}
 use Rattle.ring_rules.proofs.BoundsLemmas.{flat_map_step}
@@ -158,7 +158,7 @@ pub part_count : (number next : ℕ) (parts : List Part) (k : ℕ) (part : Part)
     → next ≡ number + length (placed_in part) → next ≡ length (flat_map placed_in (take (k + 1) parts))
 part_count number next parts k part within is count more =
     let joined : length (flat_map placed_in (take (k + 1) parts)) ≡ length (flat_map placed_in (take k parts)) + length (placed_in part) =
-        ap length (flat_map_step placed_in parts k part within is) ∙ length-append (flat_map placed_in (take k parts)) (placed_in part) in
+    ap length (flat_map_step placed_in parts k part within is) ∙ length-append (flat_map placed_in (take k parts)) (placed_in part) in
     omega (arith, joined, count, more)
 
 -- ---- the shapes of a file

@@ -1,16 +1,15 @@
 -- What holds of rings, of some of them, and of the rings of a folder.
-use Rattle.std.proofs.Common.{◌≡◌, ℕ, List, [], ◌∷◌, ◌++◌, All, flat_map, map, ◌⊎◌, inl, inr, refl, sym, subst}
+use Rattle.std.proofs.Common.{List, [], ◌∷◌, ◌++◌, All, flat_map, inl, inr, subst}
 use Rattle.std.specs.Prelude.{Contains}
-use Rattle.std.proofs.lemmas.List.Elements.{All-contains, All-contains_itself, All-weaker, Contains-append_left, Contains-append_cases}
+use Rattle.std.proofs.lemmas.List.Elements.{All-contains, All-contains_itself, All-weaker, Contains-append_cases}
 use Rattle.report_laws.proofs.Passes.{Contains-flat_map}
 use Rattle.report_laws.proofs.Members.{Contains-first, Contains-later, Contains-only, Contains-cons_cases}
 use Rattle.venue_types.specs.declared.point.Point.{Point}
 use Rattle.venue_types.specs.declared.point.Ring.{Ring}
 use Rattle.venue_types.specs.declared.point.Part.{Part}
-use Rattle.venue_types.specs.declared.point.Shape.{Shape}
-use Rattle.plane_exact.specs.Figure.{AllClose, ring_points, rings, rings_of}
-use Rattle.sound_rows.specs.Sound.{IsOnEarth, IsSoundRing}
-use Rattle.ring_rules.specs.Judged.{AreFit}
+use Rattle.plane_exact.specs.Figure.{AllClose, ring_points, rings_of}
+use Rattle.sound_rows.specs.Sound.{IsOnEarth}
+use Rattle.ring_rules.specs.Judged.{AreFit, IsShort}
 use Rattle.ring_rules.proofs.EdgeLemmas.{fewer_close}
 
 all_of : {X : Type 0} (P : X → Type 0) (xs : List X) → ((x : X) → Contains xs x → P x) → All P xs
@@ -25,16 +24,7 @@ points_in list ring has p h = (Contains-flat_map (λ (r : Ring). r.points) list 
 points_of : (list : List Ring) (p : Point) → Contains (ring_points list) p → (ring : Ring) × Contains list ring × Contains ring.points p
 points_of list p h = (Contains-flat_map (λ (r : Ring). r.points) list p).0 h
 
--- ---- one ring of them, or two
-
-pub close_one : (list : List Ring) (ring : Ring) → Contains list ring → AreFit list → AllClose ring.points
-close_one list ring has fit = fewer_close ring.points (ring_points list) (points_in list ring has) fit.close
-
-pub earth_one : (list : List Ring) (ring : Ring) → Contains list ring → AreFit list → All IsOnEarth ring.points
-earth_one list ring has fit = fewer_all IsOnEarth ring.points (ring_points list) (points_in list ring has) fit.on_earth
-
-pub sound_one : (list : List Ring) (ring : Ring) → Contains list ring → AreFit list → IsSoundRing ring
-sound_one list ring has fit = All-contains IsSoundRing list ring fit.sound has
+-- ---- two of them
 
 pub close_two : (list : List Ring) (one other : Ring) → Contains list one → Contains list other → AreFit list → AllClose (one.points ++ other.points)
 close_two list one other has_one has_other fit = fewer_close (one.points ++ other.points) (ring_points list)
@@ -46,11 +36,11 @@ close_two list one other has_one has_other fit = fewer_close (one.points ++ othe
 pub fit_fewer : (some list : List Ring) → ((ring : Ring) → Contains some ring → Contains list ring) → AreFit list → AreFit some
 fit_fewer some list within fit =
     let inside : (p : Point) → Contains (ring_points some) p → Contains (ring_points list) p =
-        λ p h. let at = points_of some p h in points_in list at.0 (within at.0 at.1) p at.2 in
+    λ p h. let at = points_of some p h in points_in list at.0 (within at.0 at.1) p at.2 in
     record {
       close = fewer_close (ring_points some) (ring_points list) inside fit.close;
       on_earth = fewer_all IsOnEarth (ring_points some) (ring_points list) inside fit.on_earth;
-      sound = fewer_all IsSoundRing some list within fit.sound;
+      short = fewer_all IsShort some list within fit.short;
     }
 
 pub fit_first : (ring : Ring) (rest : List Ring) → AreFit (ring ∷ rest) → AreFit (ring ∷ [])

@@ -1,7 +1,7 @@
 -- The rings of a folder: that they are fit to be judged, and that the five files with shapes have all of them.
-use Rattle.std.proofs.Common.{◌≡◌, ℕ, ◌+◌, ◌<◌, ◌⊎◌, inl, inr, List, [], ◌++◌, length, flat_map, Some, None, refl, sym, subst, ap, ◌∙◌, arith}
+use Rattle.std.proofs.Common.{◌≡◌, ℕ, ◌+◌, ◌⊎◌, inl, inr, List, [], flat_map, Some, None, refl, sym, subst, ap, ◌∙◌, arith}
 use Rattle.std.specs.Prelude.{Contains, slice_get}
-use Rattle.std.proofs.lemmas.List.Elements.{All-contains, Contains-append_left}
+use Rattle.std.proofs.lemmas.List.Elements.{All-contains, All-weaker, Contains-append_left}
 use Rattle.venue_types.specs.declared.features.Features.{Features}
 use Rattle.venue_types.specs.declared.finding.Finding.{Finding}
 use Rattle.venue_types.specs.declared.point.Point.{Point}
@@ -12,14 +12,13 @@ use Rattle.imdf_forms.specs.Files.{file_number, feature_files}
 use Rattle.report_laws.specs.Passes.{Adds}
 use Rattle.report_laws.proofs.Passes.{Contains-flat_map}
 use Rattle.report_laws.proofs.Adding.{Adds-same, Adds-then}
-use Rattle.plane_exact.specs.Figure.{AllClose, rings, ring_points, vertices}
+use Rattle.plane_exact.specs.Figure.{AllClose, rings, vertices}
 use Rattle.sound_rows.specs.Figures.{shapes_of, positions_of, positions, judged_positions, display_of}
-use Rattle.sound_rows.specs.Sound.{AreSound, IsOnEarth, IsSoundShape}
-use Rattle.ring_rules.specs.declared.rules.RingRule.{RingRule}
-use Rattle.ring_rules.specs.Rings.{Placed, placed_rings}
-use Rattle.ring_rules.specs.Rules.{BreaksInRing, RingBreaks, ring_rule_number}
-use Rattle.ring_rules.specs.Judged.{AreFit, AreFitShapes}
-use Rattle.ring_rules.specs.Findings.{finding_at, FindsInRing, FindsFrom, FindsInShapes}
+use Rattle.sound_rows.specs.Sound.{AreSound, IsOnEarth, IsSoundRing, IsSoundShape}
+use Rattle.ring_rules.specs.Rings.{placed_rings}
+use Rattle.ring_rules.specs.Rules.{BreaksInRing, ring_rule_number}
+use Rattle.ring_rules.specs.Judged.{AreFitShapes, IsShort}
+use Rattle.ring_rules.specs.Findings.{FindsInShapes}
 use Rattle.ring_rules.proofs.EdgeLemmas.{fewer_close}
 use Rattle.ring_rules.proofs.FitLemmas.{fewer_all}
 
@@ -41,7 +40,7 @@ fit_file all sound close f has = record {
   fit = λ shape there. record {
     close = fewer_close (vertices shape) (judged_positions all) (judged all f has shape there) close;
     on_earth = fewer_all IsOnEarth (vertices shape) (judged_positions all) (judged all f has shape there) sound.on_earth;
-    sound = (All-contains IsSoundShape (shapes_of f all) shape (sound.shapes f) there).rings;
+    short = All-weaker IsSoundRing IsShort (λ ring h. h.few) (rings shape) (All-contains IsSoundShape (shapes_of f all) shape (sound.shapes f) there).rings;
   };
 }
 
@@ -61,7 +60,6 @@ pub fit_venues : (all : Features) → AreSound all → AllClose (judged_position
 fit_venues all sound close = fit_file all sound close file.Venue (record { listed = (15, omega arith, refl); placed = refl })
 
 -- ---- what is found in the five files
-
 
 abbrev finding : ℕ → ℕ → ℕ → ℕ → Finding
 finding rule source index member = record { rule = rule; file = source; index = index; member = member }
@@ -133,12 +131,12 @@ which all f x h = absurd (nothing f x h)
 back : (all : Features) (x : Finding) → AllFive all x → BreaksInRing all x
 back all x h = elim h [
   | inl four ↦ elim four [
-      | inl three ↦ elim three [
-          | inl two ↦ elim two [ inl a ↦ breaks_of all file.Fixture x a | inr b ↦ breaks_of all file.Footprint x b ]
-          | inr c ↦ breaks_of all file.Level x c
-        ]
-      | inr d ↦ breaks_of all file.Unit x d
+    | inl three ↦ elim three [
+      | inl two ↦ elim two [ inl a ↦ breaks_of all file.Fixture x a | inr b ↦ breaks_of all file.Footprint x b ]
+      | inr c ↦ breaks_of all file.Level x c
     ]
+    | inr d ↦ breaks_of all file.Unit x d
+  ]
   | inr e ↦ breaks_of all file.Venue x e
 ]
 

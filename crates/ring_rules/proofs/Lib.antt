@@ -4,3 +4,4 @@ pub mod EdgeLemmas
 pub mod FitLemmas
 pub mod FindingLemmas
 pub mod FolderLemmas
+pub mod SmallLemmas

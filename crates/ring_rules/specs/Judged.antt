@@ -1,18 +1,22 @@
 -- What holds of rings that are judged, and what is asked of their edges and vertices.
-use Rattle.std.specs.Prelude.{List, All, Any, Contains, map}
+use Rattle.std.specs.Prelude.{◌≤◌, List, All, Any, Contains, length}
 use Rattle.venue_types.specs.declared.point.Point.{Point}
 use Rattle.venue_types.specs.declared.point.Ring.{Ring}
 use Rattle.venue_types.specs.declared.point.Shape.{Shape}
 use Rattle.plane_exact.specs.Segment.{Crosses}
 use Rattle.plane_exact.specs.Figure.{Edge, AllClose, ring_points, rings}
-use Rattle.sound_rows.specs.Sound.{IsOnEarth, IsSoundRing}
+use Rattle.sound_rows.specs.Sound.{IsOnEarth}
 use Rattle.ring_rules.specs.Rings.{IsInsideRing, IsOnRing}
 
--- their positions lie close together and on the earth, and each is closed and not too long
+-- at most 20,000 positions
+abbrev pub IsShort : Ring → Type 0
+IsShort ring = length ring.points ≤ 20000
+
+-- their positions lie close together and on the earth, and none of them is too long
 pub record AreFit (list : List Ring) : Type 0 where
   pub close : AllClose (ring_points list)
   pub on_earth : All IsOnEarth (ring_points list)
-  pub sound : All IsSoundRing list
+  pub short : All IsShort list
 
 -- so are the rings of each shape
 pub record AreFitShapes (shapes : List Shape) : Type 0 where

@@ -3,3 +3,4 @@ pub mod Rings
 pub mod Judged
 pub mod Rules
 pub mod Findings
+pub mod Testing

@@ -3,14 +3,15 @@
 ghost use Rattle.std.specs.Prelude.{◌≡◌, ◌↔◌, ◌≤◌, IsTrue, All, length, pos, ◌*ℤ◌};
 ghost use Rattle.plane_exact.specs.Plane.{IsWithin};
 ghost use Rattle.plane_exact.specs.Figure.{edges_from};
-ghost use Rattle.sound_rows.specs.Sound.{IsOnEarth, IsSoundRing};
+ghost use Rattle.sound_rows.specs.Sound.{IsOnEarth};
+ghost use Rattle.ring_rules.specs.Judged.{IsShort};
 ghost use Rattle.ring_rules.specs.Rings.{doubled_area, cross_sum, cross_product};
 
 use venue_types::{Point, Ring};
 
 /// Whether the area of the ring is 0.
 pub(crate) fn has_no_area(ring: &Ring) -> bool
-    requires sound { IsSoundRing ring.now }
+    requires short { IsShort ring.now }
     requires on_earth { All IsOnEarth ring.now.points }
     ensures { IsTrue result ↔ (doubled_area ring.now ≡ pos 0) }
 {
@@ -19,7 +20,7 @@ pub(crate) fn has_no_area(ring: &Ring) -> bool
 
 // In square nanodegrees, below 0 where the ring runs clockwise.
 fn doubled_area(ring: &Ring) -> i128
-    requires sound { IsSoundRing ring.now }
+    requires short { IsShort ring.now }
     requires on_earth { All IsOnEarth ring.now.points }
     ensures { result ≡ doubled_area ring.now }
 {

@@ -12,6 +12,8 @@ mod rules;
 mod shape_findings;
 mod shaped;
 mod spread;
+#[cfg(test)]
+mod tests;
 
 pub use ring_findings::add_ring_findings;
 pub use rules::RingRule;

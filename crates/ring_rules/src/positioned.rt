@@ -6,8 +6,8 @@ ghost use Rattle.ring_rules.specs.Bounds.{AreBounds};
 
 use crate::bounds::Bounds;
 use venue_types::{
-    AmenityRow, AnchorRow, FixtureRow, FootprintRow, LevelRow, List, OpeningRow, Part, Point,
-    Ring, Shape, UnitRow, VenueRow,
+    AmenityRow, AnchorRow, FixtureRow, FootprintRow, LevelRow, List, OpeningRow, Part, Point, Ring,
+    Shape, UnitRow, VenueRow,
 };
 
 /// What has positions.

@@ -49,7 +49,10 @@ fn add_file<R: Shaped>(
 ///
 /// The edges of a ring are compared pair by pair, so it takes time in proportion to the sum of the squares of the
 /// rings' lengths, and memory in proportion to the findings.
-pub fn add_ring_findings(features: &Features, findings: &mut Vec<Finding>) -> Result<(), OutOfMemory>
+pub fn add_ring_findings(
+    features: &Features,
+    findings: &mut Vec<Finding>,
+) -> Result<(), OutOfMemory>
     requires sound { AreSound features.now }
     requires close { AllClose (judged_positions features.now) }
     ensures { OnOk result (Adds (BreaksInRing features.now) findings.old.items findings.new.items) }

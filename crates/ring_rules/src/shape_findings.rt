@@ -94,11 +94,7 @@ fn add_part(
 }
 
 // What is wrong with polygons.
-fn add_parts(
-    findings: &mut Vec<Finding>,
-    place: Place,
-    parts: &[Part],
-) -> Result<(), OutOfMemory>
+fn add_parts(findings: &mut Vec<Finding>, place: Place, parts: &[Part]) -> Result<(), OutOfMemory>
     requires { AreFit (flat_map rings_of parts.now) }
     ensures { OnOk result (Adds (FindsFrom place.file place.index 0 (flat_map placed_in parts.now)) findings.old.items findings.new.items) }
 {

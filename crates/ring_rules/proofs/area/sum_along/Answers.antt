@@ -1,4 +1,4 @@
-use Rattle.std.proofs.Common.{◌<◌, to_z, refl, arith}
+use Rattle.std.proofs.Common.{◌<◌, to_z, arith}
 use mir.Syntax.{w128}
 use Rattle.std.proofs.lemmas.List.Elements.{All-get_or}
 use Rattle.sound_rows.specs.Sound.{IsOnEarth}

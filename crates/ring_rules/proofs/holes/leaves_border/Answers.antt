@@ -1,4 +1,4 @@
-use Rattle.std.proofs.Common.{◌≡◌, List, ◌↔◌, Any, IsTrue, refl, sym, subst}
+use Rattle.std.proofs.Common.{List, ◌↔◌, Any, IsTrue, sym, subst}
 use Rattle.plane_exact.specs.Figure.{AllClose}
 use Rattle.std.specs.Prelude.{◌++◌}
 use Rattle.venue_types.specs.declared.point.Point.{Point}

@@ -1,4 +1,4 @@
-use Rattle.std.proofs.Common.{List, take, sym, subst}
+use Rattle.std.proofs.Common.{List, sym, subst}
 use Rattle.venue_types.specs.declared.point.Point.{Point}
 use Rattle.ring_rules.specs.Bounds.{AreBounds}
 use Rattle.ring_rules.proofs.BoundsLemmas.{flat_map_step}

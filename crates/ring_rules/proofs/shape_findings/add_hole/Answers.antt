@@ -24,6 +24,6 @@ returns c =
     let border = c.args.border.now in
     let hole = c.args.hole.now in
     let leaving = adds_rule G4 f i n (as_hole border hole) c.leaves_border-leaves.result c.finding.result c.args.findings.now.items c.add.new.places.items c.in_ok-add.ensures.ok
-        c.leaves_border-leaves.ensures c.finding.ensures in
+    c.leaves_border-leaves.ensures c.finding.ensures in
     on_ok c.add_ring.result _ _ c.add_ring.ensures (λ adds.
-        adds_hole f i n border hole c.args.findings.now.items c.add.new.places.items c.add_ring.new.findings.items leaving adds)
+    adds_hole f i n border hole c.args.findings.now.items c.add.new.places.items c.add_ring.new.findings.items leaving adds)

@@ -1,8 +1,7 @@
-use Rattle.std.proofs.Common.{◌≡◌, ◌+◌, ◌≤◌, List, length, map, take, subst, sym, arith}
+use Rattle.std.proofs.Common.{List, map, subst, sym, arith}
 use Rattle.std.proofs.lemmas.List.{take_all}
 use Rattle.venue_types.specs.declared.point.Ring.{Ring}
 use Rattle.report_laws.specs.Passes.{Adds}
-use Rattle.report_laws.proofs.Members.{Contains-later}
 use Rattle.ring_rules.specs.Rings.{as_hole}
 use Rattle.ring_rules.specs.Findings.{FindsFrom}
 use Rattle.ring_rules.proofs.FitLemmas.{fit_hole}

@@ -1,4 +1,4 @@
-use Rattle.std.proofs.Common.{◌≡◌, ◌+◌, List, [], ◌∷◌, length, map, refl, subst}
+use Rattle.std.proofs.Common.{List, [], ◌∷◌, map, subst}
 use Rattle.venue_types.specs.declared.point.Ring.{Ring}
 use Rattle.report_laws.specs.Passes.{Adds}
 use Rattle.report_laws.proofs.Adding.{on_ok}
@@ -20,5 +20,5 @@ returns-clause-adds c =
     let old = c.args.findings.now.items in
     let outer = adds_one f i first (alone border) old c.add_ring.new.findings.items c.in_ok-add_ring.ensures in
     on_ok c.add_holes.result _ _ c.add_holes.ensures.adds (λ adds.
-        adds_more f i first c.in_ok-hole.hole (alone border ∷ []) (map (as_hole border) c.args.part.now.holes) old c.add_ring.new.findings.items c.add_holes.new.findings.items c.in_ok-hole.ensures outer
-        (subst (λ (holes : List Ring). Adds (FindsFrom f i c.in_ok-hole.hole (map (as_hole border) holes)) c.add_ring.new.findings.items c.add_holes.new.findings.items) c.as_slice.ensures adds))
+    adds_more f i first c.in_ok-hole.hole (alone border ∷ []) (map (as_hole border) c.args.part.now.holes) old c.add_ring.new.findings.items c.add_holes.new.findings.items c.in_ok-hole.ensures outer
+    (subst (λ (holes : List Ring). Adds (FindsFrom f i c.in_ok-hole.hole (map (as_hole border) holes)) c.add_ring.new.findings.items c.add_holes.new.findings.items) c.as_slice.ensures adds))

@@ -1,4 +1,4 @@
-use Rattle.std.proofs.Common.{◌≡◌, ◌+◌, ◌≤◌, List, length, flat_map, take, refl, subst, sym, arith}
+use Rattle.std.proofs.Common.{List, flat_map, refl, subst, sym}
 use Rattle.std.proofs.lemmas.List.{take_all}
 use Rattle.venue_types.specs.declared.point.Part.{Part}
 use Rattle.report_laws.specs.Passes.{Adds}

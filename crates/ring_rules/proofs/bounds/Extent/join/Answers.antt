@@ -1,4 +1,4 @@
-use Rattle.std.proofs.Common.{◌≡◌, ◌⊎◌, ◌≤ℤ◌, FitsSigned, w64, to_z, of_z, inl, inr, sym, ap₂, ◌∙◌, arith, rules}
+use Rattle.std.proofs.Common.{◌≡◌, FitsSigned, w64, ap₂, ◌∙◌, arith, rules}
 use Rattle.std.specs.Int.{int_min, int_max}
 use Rattle.std.proofs.lemmas.Int.{ints, to_z-of_z}
 use Rattle.ring_rules.proofs.BoundsLemmas.{least_of, greatest_of, extent_join}
