@@ -1,5 +1,7 @@
 mod Closeness
+mod Framing
 mod Indexing
 mod Judgements
 mod Lists
+mod Numbers
 mod RowRules

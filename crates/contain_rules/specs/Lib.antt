@@ -1,3 +1,4 @@
 pub mod Rules
+pub mod Frames
 pub mod Indexes
 pub mod Judging

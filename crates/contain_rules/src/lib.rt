@@ -1,6 +1,7 @@
 //! The rules on what holds what.
 #![tactic(auto)]
 
+mod frame;
 mod holding;
 mod index;
 mod leaving;
