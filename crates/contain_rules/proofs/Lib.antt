@@ -1,3 +1,4 @@
+mod Boxes
 mod Closeness
 mod Framing
 mod Indexing

@@ -84,7 +84,7 @@ fn with_part(frame: Frame, part: &Part) -> Frame
 }
 
 /// The frame of the vertices of a shape. Looks at each once.
-fn frame_of(shape: &Shape) -> Frame
+pub(crate) fn frame_of(shape: &Shape) -> Frame
     ensures { IsFramed shape.now result }
 {
     let mut grown = Frame {

@@ -29,7 +29,7 @@ pub(crate) fn is_held(shape: &Shape, frame: Frame, tolerance: u32, p: Point) -> 
     !frame.leaves_out(tolerance, p) && is_inside_or_near(shape, tolerance, p)
 }
 
-/// Whether the shape doesn't hold each of the points.
+/// Whether there is one of the points that the shape doesn't hold.
 pub(crate) fn some_leaves(shape: &Shape, frame: Frame, tolerance: u32, points: &[Point]) -> bool
     requires close { AreBeside shape.now points.now }
     requires framed { IsFramed shape.now frame }
@@ -44,7 +44,7 @@ pub(crate) fn some_leaves(shape: &Shape, frame: Frame, tolerance: u32, points: &
     false
 }
 
-/// Whether it doesn't hold each vertex of the figure.
+/// Whether there is a vertex of the figure that it doesn't hold.
 pub(crate) fn figure_leaves(shape: &Shape, frame: Frame, tolerance: u32, figure: &Shape) -> bool
     requires close { AreBeside shape.now (vertices figure.now) }
     requires framed { IsFramed shape.now frame }
@@ -54,7 +54,7 @@ pub(crate) fn figure_leaves(shape: &Shape, frame: Frame, tolerance: u32, figure:
     parts_leave(shape, frame, tolerance, figure.parts.as_slice())
 }
 
-/// Whether it doesn't hold each vertex of the polygons.
+/// Whether there is one of the polygons' vertices that it doesn't hold.
 fn parts_leave(shape: &Shape, frame: Frame, tolerance: u32, parts: &[Part]) -> bool
     requires close { AreBeside shape.now (flat_map part_points parts.now) }
     requires framed { IsFramed shape.now frame }
@@ -69,7 +69,7 @@ fn parts_leave(shape: &Shape, frame: Frame, tolerance: u32, parts: &[Part]) -> b
     false
 }
 
-/// Whether it doesn't hold each vertex of the polygon.
+/// Whether there is one of the polygon's vertices that it doesn't hold.
 fn part_leaves(shape: &Shape, frame: Frame, tolerance: u32, part: &Part) -> bool
     requires close { AreBeside shape.now (part_points part.now) }
     requires framed { IsFramed shape.now frame }
@@ -80,7 +80,7 @@ fn part_leaves(shape: &Shape, frame: Frame, tolerance: u32, part: &Part) -> bool
         || rings_leave(shape, frame, tolerance, part.holes.as_slice())
 }
 
-/// Whether it doesn't hold each point of the rings.
+/// Whether there is one of the rings' points that it doesn't hold.
 fn rings_leave(shape: &Shape, frame: Frame, tolerance: u32, rings: &[Ring]) -> bool
     requires close { AreBeside shape.now (ring_points rings.now) }
     requires framed { IsFramed shape.now frame }

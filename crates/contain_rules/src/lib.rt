@@ -7,6 +7,8 @@ mod index;
 mod leaving;
 mod rows;
 mod rules;
+#[cfg(test)]
+mod tests;
 
 pub use holding::add_hold_findings;
 pub use rules::HoldRule;

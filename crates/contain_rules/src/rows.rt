@@ -15,7 +15,7 @@ use venue_types::{
     AmenityRow, AnchorRow, FeatureId, Features, LevelRow, OpeningRow, Point, UnitRow,
 };
 
-/// The level of this identifier.
+/// The level of this identifier, and the frame of its shape.
 fn level_of<'a>(
     features: &'a Features,
     holders: &Holders,
@@ -33,7 +33,7 @@ fn level_of<'a>(
     }
 }
 
-/// The unit of this identifier.
+/// The unit of this identifier, and the frame of its shape.
 fn unit_of<'a>(
     features: &'a Features,
     holders: &Holders,
@@ -51,7 +51,7 @@ fn unit_of<'a>(
     }
 }
 
-/// Whether the unit's level doesn't hold each of its vertices.
+/// Whether there is a vertex of the unit that its level doesn't hold.
 pub(crate) fn unit_leaves(
     features: &Features,
     holders: &Holders,
@@ -142,7 +142,7 @@ pub(crate) fn amenity_leaves(
     )
 }
 
-/// Whether the opening's level doesn't hold each of its vertices.
+/// Whether there is a vertex of the opening that its level doesn't hold.
 pub(crate) fn opening_leaves(
     features: &Features,
     holders: &Holders,
