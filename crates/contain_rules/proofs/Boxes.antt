@@ -1,6 +1,5 @@
 -- Where the polygons of the tests lie.
 use Rattle.std.proofs.Common.{◌≡◌, List, [], ◌∷◌, All, subst, sym}
-use Rattle.std.specs.Prelude.{Contains}
 use Rattle.std.proofs.lemmas.List.Elements.{All-nil, All-append, All-contains}
 use Rattle.venue_types.specs.declared.point.Part.{Part}
 use Rattle.venue_types.specs.declared.point.Ring.{Ring}

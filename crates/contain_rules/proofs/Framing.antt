@@ -1,13 +1,13 @@
 -- A position beyond a side of a shape's frame is neither inside the shape nor near it.
-use Rattle.std.proofs.Common.{◌≡◌, ◌∙◌, ℕ, ◌+◌, ◌*◌, ◌%◌, ◌<◌, ◌≤◌, zero, suc, ℤ, pos, ◌+ℤ◌, ◌-ℤ◌, ◌*ℤ◌, ◌≤ℤ◌, ◌<ℤ◌, List, [], ◌∷◌, ◌++◌, length, get_or, take, Bool, true, false, cond, refl, sym, ap, subst, arith, ◌⊎◌, inl, inr, flat_map, map, Option, Some, None}
-use Rattle.std.specs.Prelude.{Contains, Any, count_by, slice_get}
+use Rattle.std.proofs.Common.{◌≡◌, ◌∙◌, ℕ, ◌+◌, ◌*◌, ◌%◌, ◌<◌, ◌≤◌, zero, suc, ℤ, pos, ◌+ℤ◌, ◌≤ℤ◌, ◌<ℤ◌, List, [], ◌∷◌, ◌++◌, length, get_or, take, Bool, true, false, cond, refl, sym, ap, subst, arith, ◌⊎◌, inl, inr, flat_map, map, Option, Some, None}
+use Rattle.std.specs.Prelude.{Contains, count_by, slice_get}
 use Rattle.std.specs.List.{AllZip}
 use Rattle.std.proofs.lemmas.Int.{ints, by_lt_z}
 use Rattle.std.proofs.lemmas.List.{take_more}
 use Rattle.std.proofs.lemmas.Option.{slice_get_within, slice_get_read}
 use Rattle.std.proofs.lemmas.List.Concat.{flat_map-append}
 use Rattle.std.proofs.lemmas.List.Sums.{sum_by-le}
-use Rattle.std.proofs.lemmas.List.Elements.{Contains-append_left, Contains-append_right, Contains-append_cases, Contains-push_cases, All-contains_itself}
+use Rattle.std.proofs.lemmas.List.Elements.{Contains-append_left, Contains-append_right, Contains-append_cases, All-contains_itself}
 use Rattle.report_laws.proofs.Adding.{at_map}
 use Rattle.report_laws.proofs.Members.{Contains-nil, Contains-only, Contains-first, Contains-later, Contains-cons_cases}
 use Rattle.venue_types.specs.declared.point.Point.{Point}
@@ -15,7 +15,7 @@ use Rattle.venue_types.specs.declared.point.Ring.{Ring}
 use Rattle.venue_types.specs.declared.point.Shape.{Shape}
 use Rattle.plane_exact.specs.Plane.{side, square}
 use Rattle.plane_exact.specs.Segment.{IsNearEdge}
-use Rattle.plane_exact.specs.Figure.{Edge, edges, edges_from, ring_edges, ring_points, rings, all_edges, vertices, meets_ray, crossings, IsInside, IsNear}
+use Rattle.plane_exact.specs.Figure.{Edge, edges, edges_from, ring_edges, ring_points, rings, all_edges, meets_ray, crossings, IsInside, IsNear}
 use Rattle.plane_exact.proofs.NearLaw.{position_from_near}
 use Rattle.plane_exact.proofs.PolynomialLemmas.{square_not_negative}
 use Rattle.plane_exact.proofs.RayLemmas.{meets_up, meets_down, meets_not_up, meets_not_down, lt_false}

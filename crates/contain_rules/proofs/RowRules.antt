@@ -1,6 +1,5 @@
 -- What a rule on one feature says, by the only one that is to hold it.
-use Rattle.std.proofs.Common.{◌≡◌, ℕ, List, Bool, true, false, not, IsTrue, ◌↔◌, Any, refl, sym, subst, arith}
-use Rattle.std.specs.Prelude.{Contains}
+use Rattle.std.proofs.Common.{◌≡◌, ℕ, Bool, true, false, not, IsTrue, ◌↔◌, refl, subst}
 use Rattle.venue_types.specs.declared.feature_id.FeatureId.{FeatureId}
 use Rattle.venue_types.specs.declared.features.Features.{Features}
 use Rattle.venue_types.specs.declared.features.AmenityRow.{AmenityRow}

@@ -1,5 +1,4 @@
-use Rattle.std.proofs.Common.{◌≡◌, ◌<◌, ◌≤◌, length, Some, sym, arith}
-use Rattle.std.specs.Prelude.{slice_get}
+use Rattle.std.proofs.Common.{◌<◌, ◌≤◌, length, sym, arith}
 use Rattle.venue_types.specs.declared.features.UnitRow.{UnitRow}
 use Rattle.contain_rules.proofs.Framing.{frame_within, the_frame}
 use Rattle.contain_rules.proofs.Indexing.{the_unit, no_unit, place_within}

@@ -1,9 +1,7 @@
-use Rattle.std.proofs.Common.{◌≡◌, ◌∙◌, List, map, ap, sym, subst}
+use Rattle.std.proofs.Common.{◌∙◌, List, map, ap, sym, subst}
 use Rattle.venue_types.specs.declared.feature_id.FeatureId.{FeatureId}
 use Rattle.venue_types.specs.declared.features.LevelRow.{LevelRow}
 use Rattle.venue_types.specs.declared.features.UnitRow.{UnitRow}
-use Rattle.imdf_forms.specs.declared.files.File.TheVariants as file
-use Rattle.sound_rows.specs.Rows.{ids_of}
 use Rattle.contain_rules.specs.Frames.{AreFramed}
 use Rattle.contain_rules.specs.Indexes.{IsIndex}
 use Rattle.contain_rules.proofs.Indexing.{level_once, unit_once}
