@@ -1,14 +1,13 @@
 -- An index is made entry by entry, and finds the one row of an identifier.
-use Rattle.std.proofs.Common.{◌≡◌, ◌≢◌, ◌∙◌, ℕ, ◌+◌, ◌<◌, ◌≤◌, List, [], Option, Some, None, Bool, true, false, cond, eqb, eq-eqb, length, get_or, map, refl, sym, ap, subst, arith, ◌⊎◌, inl, inr, Bor, MatchOption}
+use Rattle.std.proofs.Common.{◌≡◌, ◌≢◌, ◌∙◌, ℕ, ◌+◌, ◌<◌, ◌≤◌, List, [], Option, Some, None, Bool, true, false, cond, eqb, eq-eqb, length, map, refl, sym, ap, subst, arith, inl, inr}
 use Rattle.std.specs.Prelude.{Contains, slice_get}
 use Rattle.std.specs.Ordering.{nat_cmp, is_eq}
 use Rattle.std.specs.Cmp.{unsigned_ties}
 use Rattle.std.specs.BTreeMap as tree
 use Rattle.std.specs.BTreeMap.{BTreeMap, is_at}
 use Rattle.std.specs.Map.{lookup}
-use Rattle.std.specs.Slice.{IsItemAt}
 use Rattle.std.proofs.lemmas.Bool.{cases_Bool, cases_lt, eqb-true}
-use Rattle.std.proofs.lemmas.Option.{slice_get_within, slice_get_read}
+use Rattle.std.proofs.lemmas.Option.{slice_get_within}
 use Rattle.std.proofs.lemmas.List.{length-map}
 use Rattle.report_laws.proofs.Adding.{at_map, at_member, member_at}
 use Rattle.venue_types.specs.declared.feature_id.FeatureId.{FeatureId}
@@ -124,37 +123,24 @@ no_row id_of rows index id row is none has named =
     let e : None ≡ Some o.0 = sym none ∙ is.whole id o.0 there in
     cc
 
--- what a slice lends at a place within it
-item_got : {R : Type 0} (P : Type 0) (Q : R → Type 0) (xs : List R) (k : ℕ) (r : Option (Bor R)) → k < length xs → IsItemAt xs k r → ((x : R) → slice_get xs k ≡ Some x → Q x) → MatchOption r P (λ x. Q x.now)
-item_got P Q xs k None within h f = let past : length xs ≤ k = h.3 in absurd (omega arith)
-item_got P Q xs k (Some x) within h f = f x.now (slice_get_read xs (length xs) k x.now refl within h.1)
-
-place_within : {R : Type 0} (id_of : R → FeatureId) (rows : List R) (index : Index) (id : FeatureId) (k : ℕ) → IsIndex (map id_of rows) index → place_of index id ≡ Some k → k < length rows
+pub place_within : {R : Type 0} (id_of : R → FeatureId) (rows : List R) (index : Index) (id : FeatureId) (k : ℕ) → IsIndex (map id_of rows) index → place_of index id ≡ Some k → k < length rows
 place_within id_of rows index id k is place =
     let within : k < length (map id_of rows) = slice_get_within (map id_of rows) k id (is.only id k place) in
     let same : length (map id_of rows) ≡ length rows = length-map rows id_of in
     omega arith
 
-pub level_got : (features : Features) (index : Index) (id : FeatureId) (k : ℕ) (xs : List LevelRow) (r : Option (Bor LevelRow)) → IsIndex (ids_of file.Level features) index
-    → place_of index id ≡ Some k → features.levels ≡ xs → IsItemAt xs k r → MatchOption r ((level : LevelRow) → ¬ IsLevel features id level) (λ level. IsTheLevel features id level.now)
-level_got features index id k xs r is place same h =
-    let item : IsItemAt features.levels k r = subst (λ (ys : List LevelRow). IsItemAt ys k r) (sym same) h in
-    item_got ((level : LevelRow) → ¬ IsLevel features id level) (λ level. IsTheLevel features id level) features.levels k r (place_within (λ (row : LevelRow). row.id) features.levels index id k is place) item
-    (λ level at.
+pub the_level : (features : Features) (index : Index) (id : FeatureId) (k : ℕ) (level : LevelRow) → IsIndex (ids_of file.Level features) index → place_of index id ≡ Some k → slice_get features.levels k ≡ Some level → IsTheLevel features id level
+the_level features index id k level is place at =
     let row = row_at (λ (row : LevelRow). row.id) features.levels index id k level is place at in
-    record { is = record { has = row.has; named = row.named }; only = λ other o. row.only other o.has o.named })
+    record { is = record { has = row.has; named = row.named }; only = λ other o. row.only other o.has o.named }
 
 pub no_level : (features : Features) (index : Index) (id : FeatureId) → IsIndex (ids_of file.Level features) index → place_of index id ≡ None → (level : LevelRow) → ¬ IsLevel features id level
 no_level features index id is none level l = no_row (λ (row : LevelRow). row.id) features.levels index id level is none l.has l.named
 
-pub unit_got : (features : Features) (index : Index) (id : FeatureId) (k : ℕ) (xs : List UnitRow) (r : Option (Bor UnitRow)) → IsIndex (ids_of file.Unit features) index
-    → place_of index id ≡ Some k → features.units ≡ xs → IsItemAt xs k r → MatchOption r ((unit : UnitRow) → ¬ IsUnit features id unit) (λ unit. IsTheUnit features id unit.now)
-unit_got features index id k xs r is place same h =
-    let item : IsItemAt features.units k r = subst (λ (ys : List UnitRow). IsItemAt ys k r) (sym same) h in
-    item_got ((unit : UnitRow) → ¬ IsUnit features id unit) (λ unit. IsTheUnit features id unit) features.units k r (place_within (λ (row : UnitRow). row.id) features.units index id k is place) item
-    (λ unit at.
+pub the_unit : (features : Features) (index : Index) (id : FeatureId) (k : ℕ) (unit : UnitRow) → IsIndex (ids_of file.Unit features) index → place_of index id ≡ Some k → slice_get features.units k ≡ Some unit → IsTheUnit features id unit
+the_unit features index id k unit is place at =
     let row = row_at (λ (row : UnitRow). row.id) features.units index id k unit is place at in
-    record { is = record { has = row.has; named = row.named }; only = λ other o. row.only other o.has o.named })
+    record { is = record { has = row.has; named = row.named }; only = λ other o. row.only other o.has o.named }
 
 pub no_unit : (features : Features) (index : Index) (id : FeatureId) → IsIndex (ids_of file.Unit features) index → place_of index id ≡ None → (unit : UnitRow) → ¬ IsUnit features id unit
 no_unit features index id is none unit u = no_row (λ (row : UnitRow). row.id) features.units index id unit is none u.has u.named

@@ -1,6 +1,5 @@
 -- What a rule on one feature says, by the only one that is to hold it.
-use Rattle.std.proofs.Common.{◌≡◌, ℕ, List, Bool, true, false, not, IsTrue, ◌↔◌, Any, refl, sym, subst, arith}
-use Rattle.std.specs.Prelude.{Contains}
+use Rattle.std.proofs.Common.{◌≡◌, ℕ, Bool, true, false, not, IsTrue, ◌↔◌, refl, subst}
 use Rattle.venue_types.specs.declared.feature_id.FeatureId.{FeatureId}
 use Rattle.venue_types.specs.declared.features.Features.{Features}
 use Rattle.venue_types.specs.declared.features.AmenityRow.{AmenityRow}
@@ -70,3 +69,8 @@ amenity_rule features t amenity holds decides =
 -- nothing holds it, for what isn't there
 pub never : (P : Type 0) → ¬ P → IsTrue false ↔ P
 never P none = ((λ e. cc), (λ p. absurd (none p)))
+
+-- beyond its frame a shape holds nothing
+pub shut : (b : Bool) (P : Type 0) → b ≡ true → ¬ P → IsTrue (not b) ↔ P
+shut true P e none = ((λ h. cc), (λ p. absurd (none p)))
+shut false P e none = cc

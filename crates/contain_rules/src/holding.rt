@@ -90,9 +90,9 @@ fn judge_openings(
 
 /// Adds what is not held by what is to hold it, in a folder whose positions lie close together.
 ///
-/// The tolerance is in nanodegrees. A position is compared with the edges of the shapes in whose box it lies, so it
-/// takes time in proportion to positions times edges of what holds them at worst, and memory in proportion to levels,
-/// units and findings.
+/// The tolerance is in nanodegrees. A position that lies south, north or east of a shape is compared with none of its
+/// edges, and any other with all of them. So it takes time in proportion to positions times edges of what holds them at
+/// worst, and memory in proportion to levels, units and findings.
 pub fn add_hold_findings(
     alloc: Global,
     features: &Features,

@@ -1,4 +1,4 @@
-//! Where the rows of a file stand, by identifier.
+//! What holds others, by identifier: the places and the frames of levels and of units.
 
 ghost use Rattle.std.specs.Prelude.{◌≡◌, IfOk, map};
 ghost use Rattle.venue_types.specs.declared.feature_id.FeatureId.{FeatureId as AFeatureId};
@@ -7,6 +7,7 @@ ghost use Rattle.venue_types.specs.declared.features.UnitRow.{UnitRow as AUnitRo
 ghost use Rattle.sound_rows.specs.Rows.{HaveOwnIds};
 ghost use Rattle.contain_rules.specs.Indexes.{AreOnce, IsIndex, AreHolders, place_of};
 
+use crate::frame::{Frame, level_frames, unit_frames};
 use std::alloc::Global;
 use std::collections::BTreeMap;
 use venue_types::{FeatureId, Features, LevelRow, OutOfMemory, UnitRow};
@@ -58,11 +59,13 @@ fn unit_ids(alloc: Global, units: &[UnitRow]) -> Result<Vec<FeatureId>, OutOfMem
     Ok(ids)
 }
 
-/// The features that hold others: where levels and units stand.
+/// The features that hold others: where levels and units stand, and the frames of their shapes, place by place.
 #[derive(Drop)]
 pub(crate) struct Holders {
     pub levels: Index,
     pub units: Index,
+    pub level_frames: Vec<Frame>,
+    pub unit_frames: Vec<Frame>,
 }
 
 impl Holders {
@@ -75,6 +78,13 @@ impl Holders {
         let unit_ids = unit_ids(alloc, features.units.as_slice())?;
         let levels = Index::of(alloc, &level_ids)?;
         let units = Index::of(alloc, &unit_ids)?;
-        Ok(Holders { levels, units })
+        let level_frames = level_frames(alloc, features.levels.as_slice())?;
+        let unit_frames = unit_frames(alloc, features.units.as_slice())?;
+        Ok(Holders {
+            levels,
+            units,
+            level_frames,
+            unit_frames,
+        })
     }
 }

@@ -4,38 +4,54 @@ ghost use Rattle.std.specs.Prelude.{◌≡◌, ◌↔◌, IsTrue, MatchOption, A
 ghost use Rattle.venue_types.specs.declared.features.LevelRow.{LevelRow as ALevelRow};
 ghost use Rattle.venue_types.specs.declared.features.UnitRow.{UnitRow as AUnitRow};
 ghost use Rattle.contain_rules.specs.Rules.{IsLevel, IsUnit, UnitLeaves, AnchorLeaves, AmenityLeaves, OpeningLeaves};
+ghost use Rattle.contain_rules.specs.Frames.{IsFramed};
 ghost use Rattle.contain_rules.specs.Indexes.{AreHolders};
 ghost use Rattle.contain_rules.specs.Judging.{CanJudge, IsTheLevel, IsTheUnit, UnitHolds, OneHolds};
 
+use crate::frame::Frame;
 use crate::index::Holders;
 use crate::leaving::{figure_leaves, is_held, some_leaves};
 use venue_types::{
     AmenityRow, AnchorRow, FeatureId, Features, LevelRow, OpeningRow, Point, UnitRow,
 };
 
-/// The level of this identifier.
-fn level_of<'a>(features: &'a Features, holders: &Holders, id: FeatureId) -> Option<&'a LevelRow>
+/// The level of this identifier, and the frame of its shape.
+fn level_of<'a>(
+    features: &'a Features,
+    holders: &Holders,
+    id: FeatureId,
+) -> Option<(&'a LevelRow, Frame)>
     requires { AreHolders features.now holders.now }
-    ensures { MatchOption result ((level : ALevelRow) → ¬ IsLevel features.now id level) (λ level. IsTheLevel features.now id level.now) }
+    ensures { MatchOption result ((level : ALevelRow) → ¬ IsLevel features.now id level) (λ found. IsTheLevel features.now id found.0.now × IsFramed found.0.now.shape found.1) }
 {
     match holders.levels.place(id) {
-        Some(place) => features.levels.as_slice().get(place),
+        Some(place) => match features.levels.as_slice().get(place) {
+            Some(level) => Some((level, holders.level_frames[place])),
+            None => None,
+        },
         None => None,
     }
 }
 
-/// The unit of this identifier.
-fn unit_of<'a>(features: &'a Features, holders: &Holders, id: FeatureId) -> Option<&'a UnitRow>
+/// The unit of this identifier, and the frame of its shape.
+fn unit_of<'a>(
+    features: &'a Features,
+    holders: &Holders,
+    id: FeatureId,
+) -> Option<(&'a UnitRow, Frame)>
     requires { AreHolders features.now holders.now }
-    ensures { MatchOption result ((unit : AUnitRow) → ¬ IsUnit features.now id unit) (λ unit. IsTheUnit features.now id unit.now) }
+    ensures { MatchOption result ((unit : AUnitRow) → ¬ IsUnit features.now id unit) (λ found. IsTheUnit features.now id found.0.now × IsFramed found.0.now.shape found.1) }
 {
     match holders.units.place(id) {
-        Some(place) => features.units.as_slice().get(place),
+        Some(place) => match features.units.as_slice().get(place) {
+            Some(unit) => Some((unit, holders.unit_frames[place])),
+            None => None,
+        },
         None => None,
     }
 }
 
-/// Whether the unit's level doesn't hold each of its vertices.
+/// Whether there is a vertex of the unit that its level doesn't hold.
 pub(crate) fn unit_leaves(
     features: &Features,
     holders: &Holders,
@@ -47,7 +63,7 @@ pub(crate) fn unit_leaves(
     ensures { IsTrue result ↔ UnitLeaves features.now tolerance unit.now }
 {
     match level_of(features, holders, unit.level) {
-        Some(level) => figure_leaves(&level.shape, tolerance, &unit.shape),
+        Some((level, frame)) => figure_leaves(&level.shape, frame, tolerance, &unit.shape),
         None => false,
     }
 }
@@ -64,7 +80,7 @@ pub(crate) fn anchor_leaves(
     ensures { IsTrue result ↔ AnchorLeaves features.now tolerance anchor.now }
 {
     match unit_of(features, holders, anchor.unit) {
-        Some(unit) => !is_held(&unit.shape, tolerance, anchor.point),
+        Some((unit, frame)) => !is_held(&unit.shape, frame, tolerance, anchor.point),
         None => false,
     }
 }
@@ -82,7 +98,7 @@ fn unit_holds(
     ensures { IsTrue result ↔ UnitHolds features.now tolerance amenity.now.point id }
 {
     match unit_of(features, holders, id) {
-        Some(unit) => is_held(&unit.shape, tolerance, amenity.point),
+        Some((unit, frame)) => is_held(&unit.shape, frame, tolerance, amenity.point),
         None => false,
     }
 }
@@ -126,7 +142,7 @@ pub(crate) fn amenity_leaves(
     )
 }
 
-/// Whether the opening's level doesn't hold each of its vertices.
+/// Whether there is a vertex of the opening that its level doesn't hold.
 pub(crate) fn opening_leaves(
     features: &Features,
     holders: &Holders,
@@ -138,7 +154,12 @@ pub(crate) fn opening_leaves(
     ensures { IsTrue result ↔ OpeningLeaves features.now tolerance opening.now }
 {
     match level_of(features, holders, opening.level) {
-        Some(level) => some_leaves(&level.shape, tolerance, opening.line.points.as_slice()),
+        Some((level, frame)) => some_leaves(
+            &level.shape,
+            frame,
+            tolerance,
+            opening.line.points.as_slice(),
+        ),
         None => false,
     }
 }

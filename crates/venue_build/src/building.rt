@@ -29,7 +29,8 @@ fn later_findings(
     if !misnamed.is_empty() {
         return Ok(misnamed);
     }
-    plane_findings(alloc, features, settings)
+    let misplaced = plane_findings(alloc, features, settings)?;
+    Ok(misplaced)
 }
 
 /// Makes a venue of the seventeen files of a folder, or the report of the first phase of rules that finds something.

@@ -15,12 +15,12 @@ some_leaves-requires-clause-close c =
     let opening = c.args.opening.now in
     subst (λ (points : List Point). AreBeside level.shape points) (sym c.as_slice.ensures)
     (beside_all (judged_positions features) level.shape opening.line.points c.requires.ready.close
-    (λ q h. level_vertex features level q c.in-Some.ensures.is.has h) (λ q h. opening_point features opening q c.requires.own h))
+    (λ q h. level_vertex features level q c.in-Some.ensures.0.is.has h) (λ q h. opening_point features opening q c.requires.own h))
 
 pub returns-in-Some : goal.returns-in-Some
 returns-in-Some c =
     iff_along (subst (λ (points : List Point). IsTrue c.some_leaves.result ↔ SomeLeaves c.args.tolerance c.in-Some.level.now.shape points) c.as_slice.ensures c.some_leaves.ensures)
-    (opening_rule c.args.features.now c.args.tolerance c.args.opening.now c.in-Some.level.now c.in-Some.ensures)
+    (opening_rule c.args.features.now c.args.tolerance c.args.opening.now c.in-Some.level.now c.in-Some.ensures.0)
 
 pub returns-in-None : goal.returns-in-None
 returns-in-None c = never (OpeningLeaves c.args.features.now c.args.tolerance c.args.opening.now) (no_level_of_opening c.args.features.now c.args.tolerance c.args.opening.now c.in-None.ensures)

@@ -12,10 +12,10 @@ figure_leaves-requires-clause-close c =
     let level = c.in-Some.level.now in
     let unit = c.args.unit.now in
     beside_all (judged_positions features) level.shape (vertices unit.shape) c.requires.ready.close
-    (λ q h. level_vertex features level q c.in-Some.ensures.is.has h) (λ q h. unit_vertex features unit q c.requires.own h)
+    (λ q h. level_vertex features level q c.in-Some.ensures.0.is.has h) (λ q h. unit_vertex features unit q c.requires.own h)
 
 pub returns-in-Some : goal.returns-in-Some
-returns-in-Some c = iff_along c.figure_leaves.ensures (unit_rule c.args.features.now c.args.tolerance c.args.unit.now c.in-Some.level.now c.in-Some.ensures)
+returns-in-Some c = iff_along c.figure_leaves.ensures (unit_rule c.args.features.now c.args.tolerance c.args.unit.now c.in-Some.level.now c.in-Some.ensures.0)
 
 pub returns-in-None : goal.returns-in-None
 returns-in-None c = never (UnitLeaves c.args.features.now c.args.tolerance c.args.unit.now) (no_level_of_unit c.args.features.now c.args.tolerance c.args.unit.now c.in-None.ensures)

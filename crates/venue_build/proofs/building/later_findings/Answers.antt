@@ -15,8 +15,16 @@ returns-then-not-is_empty c =
     First-stops finding_cmp (IsMisnamed features) (IsPlaneBroken features c.args.settings.now.contain_tol) found
     (not_empty c.is_empty.result found c.is_empty.ensures c.if-not-is_empty.true) c.in_ok-misnamed.ensures
 
-pub plane_findings-requires-own_ids : goal.plane_findings-requires-own_ids
-plane_findings-requires-own_ids c =
+pub plane_findings-requires-clause-own_ids : goal.plane_findings-requires-clause-own_ids
+plane_findings-requires-clause-own_ids c =
     let features = c.args.features.now in
     let found = c.in_ok-misnamed.misnamed in
     c.own_ids.ensures features (nothing (IsMisnamed features) found (empty c.is_empty.result found c.is_empty.ensures c.if-not-is_empty.false) c.in_ok-misnamed.ensures)
+
+pub returns : goal.returns
+returns c =
+    let features = c.args.features.now in
+    let found = c.in_ok-misnamed.misnamed in
+    let none = empty c.is_empty.result found c.is_empty.ensures c.if-not-is_empty.false in
+    First-goes_on finding_cmp (IsMisnamed features) (IsPlaneBroken features c.args.settings.now.contain_tol) c.in_ok-misplaced.misplaced
+    (subst (λ (xs : List Finding). IsReport (IsMisnamed features) xs) none c.in_ok-misnamed.ensures) c.in_ok-misplaced.ensures

@@ -1,9 +1,8 @@
-use Rattle.std.proofs.Common.{◌≡◌, ◌∙◌, List, map, ap, sym, subst}
+use Rattle.std.proofs.Common.{◌∙◌, List, map, ap, sym, subst}
 use Rattle.venue_types.specs.declared.feature_id.FeatureId.{FeatureId}
 use Rattle.venue_types.specs.declared.features.LevelRow.{LevelRow}
 use Rattle.venue_types.specs.declared.features.UnitRow.{UnitRow}
-use Rattle.imdf_forms.specs.declared.files.File.TheVariants as file
-use Rattle.sound_rows.specs.Rows.{ids_of}
+use Rattle.contain_rules.specs.Frames.{AreFramed}
 use Rattle.contain_rules.specs.Indexes.{IsIndex}
 use Rattle.contain_rules.proofs.Indexing.{level_once, unit_once}
 use Rattle.contain_rules.proofs.index.Holders.of.Goals as goal
@@ -25,4 +24,6 @@ returns c =
     record {
       levels = subst (λ (ids : List FeatureId). IsIndex ids c.in_ok-levels.levels) levels c.in_ok-levels.ensures;
       units = subst (λ (ids : List FeatureId). IsIndex ids c.in_ok-units.units) units c.in_ok-units.ensures;
+      level_frames = subst (λ (rows : List LevelRow). AreFramed (map (λ (row : LevelRow). row.shape) rows) c.in_ok-level_frames.level_frames.items) c.as_slice-3.ensures c.in_ok-level_frames.ensures;
+      unit_frames = subst (λ (rows : List UnitRow). AreFramed (map (λ (row : UnitRow). row.shape) rows) c.in_ok-unit_frames.unit_frames.items) c.as_slice-4.ensures c.in_ok-unit_frames.ensures;
     }
