@@ -1,0 +1,224 @@
+//! Trials of `check`: each row is a name, what is changed in the station, and what is then printed.
+
+mod bulk_rows;
+mod feature_rows;
+mod figure_rows;
+mod file_rows;
+mod files;
+mod folder;
+mod holding_rows;
+mod notation;
+mod program;
+mod property_rows;
+mod reference_rows;
+mod ring_rows;
+mod sound_rows;
+mod station;
+mod stop_rows;
+
+use bulk_rows::{BYTES, BulkRow, COUNTS, LONG, POSITIONS};
+use feature_rows::FEATURES;
+use figure_rows::FIGURES;
+use file_rows::FILES;
+use folder::{Change, Edit, files_of};
+use holding_rows::HOLDING;
+use program::{ending, knows};
+use property_rows::PROPERTIES;
+use reference_rows::{IDENTIFIERS, REFERENCES};
+use ring_rows::RINGS;
+use sound_rows::{HIGH, SOUND};
+use std::alloc::{AllocError, Global};
+use std::process::Abort;
+use std::test::Fail;
+use stop_rows::{STOPS, WORDS};
+
+const CHECK: [&str; 3] = ["check", "base", "station"];
+
+fn plain_change(edits: &'static [Edit]) -> Change {
+    Change {
+        edits,
+        piece: "",
+        times: 1,
+        third: "",
+    }
+}
+
+// The status that goes with a printed text.
+fn status_of(text: &str) -> u8 {
+    if text.starts_with("accepted") {
+        0
+    } else if text.starts_with("rejected") {
+        1
+    } else if text.starts_with("fault") {
+        3
+    } else {
+        2
+    }
+}
+
+// The whole program over the changed station, of which a read may fail, prints this.
+fn judge(
+    rt: &impl Abort,
+    alloc: Global,
+    name: &str,
+    change: Change,
+    failing: u64,
+    text: &str,
+) -> Result<(), Fail> {
+    let files = files_of(alloc, change)?;
+    let printed = ending(rt, alloc, files, failing, &CHECK)?;
+    let written = printed.text.as_slice();
+    if !knows(text) {
+        let is_later = text.starts_with("rejected");
+        assert!(rt; !is_later || written.starts_with(b"accepted"), "at {name}");
+        return Ok(());
+    }
+    if text.len() < 500 {
+        assert_eq!(rt; str::from_utf8(written), Ok(text), "at {name}");
+    }
+    assert!(rt; written == text.as_bytes(), "at {name}");
+    assert_eq!(rt; printed.status, status_of(text), "at {name}");
+    Ok(())
+}
+
+#[test]
+fn sound_folders(rt: HostRuntime) -> Result<(), Fail> {
+    for (name, edits, text) in &SOUND {
+        judge(&rt, rt.alloc(), name, plain_change(edits), 0, text)?;
+    }
+    let (name, edits, text) = HIGH;
+    let change = Change {
+        third: ",3.5",
+        ..plain_change(edits)
+    };
+    judge(&rt, rt.alloc(), name, change, 0, text)
+}
+
+#[test]
+fn first_phase(rt: HostRuntime) -> Result<(), Fail> {
+    for table in [
+        FILES.as_slice(),
+        FEATURES.as_slice(),
+        PROPERTIES.as_slice(),
+        FIGURES.as_slice(),
+    ] {
+        for (name, edits, text) in table {
+            judge(&rt, rt.alloc(), name, plain_change(edits), 0, text)?;
+        }
+    }
+    Ok(())
+}
+
+// Judges rows with a piece that is repeated.
+fn judge_bulk(rt: &impl Abort, alloc: Global, table: &[BulkRow]) -> Result<(), Fail> {
+    for (name, edits, piece, times, text) in table {
+        let change = Change {
+            piece: *piece,
+            times: *times,
+            ..plain_change(edits)
+        };
+        judge(rt, alloc, name, change, 0, text)?;
+    }
+    Ok(())
+}
+
+#[test]
+fn limits_of_bytes(rt: HostRuntime) -> Result<(), Fail> {
+    judge_bulk(&rt, rt.alloc(), &BYTES)
+}
+
+#[test]
+fn limits_of_features(rt: HostRuntime) -> Result<(), Fail> {
+    judge_bulk(&rt, rt.alloc(), &COUNTS)
+}
+
+#[test]
+fn limits_of_positions(rt: HostRuntime) -> Result<(), Fail> {
+    judge_bulk(&rt, rt.alloc(), &POSITIONS)
+}
+
+// The first lines, and then one for each index, of which at most 500 are printed.
+fn long_text(
+    alloc: Global,
+    head: &str,
+    front: &str,
+    count: u32,
+    back: &str,
+) -> Result<String, AllocError> {
+    let mut text = String::from_str(alloc, head)?;
+    for index in 0..count.min(500) {
+        let line = format!(in alloc; "{front} {index} {back}\n")?;
+        text.push_str(line.as_str())?;
+    }
+    Ok(text)
+}
+
+#[test]
+fn long_reports(rt: HostRuntime) -> Result<(), Fail> {
+    for (name, edits, piece, times, head, front, back) in &LONG {
+        let text = long_text(rt.alloc(), head, front, *times, back)?;
+        let change = Change {
+            piece: *piece,
+            times: *times,
+            ..plain_change(edits)
+        };
+        judge(&rt, rt.alloc(), name, change, 0, text.as_str())?;
+    }
+    Ok(())
+}
+
+#[test]
+fn later_phases(rt: HostRuntime) -> Result<(), Fail> {
+    for table in [IDENTIFIERS.as_slice(), RINGS.as_slice(), HOLDING.as_slice()] {
+        for (name, edits, text) in table {
+            judge(&rt, rt.alloc(), name, plain_change(edits), 0, text)?;
+        }
+    }
+    Ok(())
+}
+
+#[test]
+fn references(rt: HostRuntime) -> Result<(), Fail> {
+    let alloc = rt.alloc();
+    for (edits, right, count, other, place) in &REFERENCES {
+        let accepted = format!(in alloc; "accepted {count}\nnotes 0\n")?;
+        let nothing = format!(in alloc; "rejected 1\nfinding X1 {place}\n")?;
+        let mistaken = format!(in alloc; "rejected 1\nfinding X2 {place}\n")?;
+        for (piece, text) in [
+            (*right, accepted.as_str()),
+            ("@0999", nothing.as_str()),
+            (*other, mistaken.as_str()),
+        ] {
+            let change = Change {
+                piece,
+                ..plain_change(edits)
+            };
+            judge(&rt, alloc, place, change, 0, text)?;
+        }
+    }
+    Ok(())
+}
+
+#[test]
+fn stops(rt: HostRuntime) -> Result<(), Fail> {
+    for (name, edits, failing, text) in &STOPS {
+        judge(&rt, rt.alloc(), name, plain_change(edits), *failing, text)?;
+    }
+    if !knows("words\n") {
+        return Ok(());
+    }
+    for words in &WORDS {
+        let files = files_of(rt.alloc(), plain_change(&[]))?;
+        let printed = ending(&rt, rt.alloc(), files, 0, words)?;
+        assert_eq!(rt; printed.text.as_slice(), b"words\n".as_slice());
+        assert_eq!(rt; printed.status, 2);
+    }
+    // Another folder of the base, where nothing lies.
+    let files = files_of(rt.alloc(), plain_change(&[]))?;
+    let printed = ending(&rt, rt.alloc(), files, 0, &["check", "base", "night-1_b"])?;
+    assert_eq!(rt;
+        printed.text.as_slice(),
+        b"rejected 2\nfinding F1 manifest.json 0 0\nfinding V1 venue.geojson 0 0\n".as_slice()
+    );
+    Ok(())
+}
