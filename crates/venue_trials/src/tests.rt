@@ -16,21 +16,21 @@ mod sound_rows;
 mod station;
 mod stop_rows;
 
-use bulk_rows::{BYTES, BulkRow, COUNTS, LONG, POSITIONS};
+use bulk_rows::{BYTES, BulkRow, COUNTS, LONG, LongRow, POSITIONS};
 use feature_rows::FEATURES;
 use figure_rows::FIGURES;
 use file_rows::FILES;
-use folder::{Change, Edit, files_of};
+use folder::{Change, Edit, Row, files_of};
 use holding_rows::HOLDING;
 use program::{ending, knows};
 use property_rows::PROPERTIES;
-use reference_rows::{IDENTIFIERS, REFERENCES};
+use reference_rows::{IDENTIFIERS, REFERENCES, Reference};
 use ring_rows::RINGS;
 use sound_rows::{HIGH, SOUND};
 use std::alloc::{AllocError, Global};
 use std::process::Abort;
 use std::test::Fail;
-use stop_rows::{STOPS, WORDS};
+use stop_rows::{STOPS, StopRow, WORDS};
 
 const CHECK: [&str; 3] = ["check", "base", "station"];
 
@@ -81,35 +81,14 @@ fn judge(
     Ok(())
 }
 
-#[test]
-fn sound_folders(rt: HostRuntime) -> Result<(), Fail> {
-    for (name, edits, text) in &SOUND {
-        judge(&rt, rt.alloc(), name, plain_change(edits), 0, text)?;
-    }
-    let (name, edits, text) = HIGH;
-    let change = Change {
-        third: ",3.5",
-        ..plain_change(edits)
-    };
-    judge(&rt, rt.alloc(), name, change, 0, text)
-}
-
-#[test]
-fn first_phase(rt: HostRuntime) -> Result<(), Fail> {
-    for table in [
-        FILES.as_slice(),
-        FEATURES.as_slice(),
-        PROPERTIES.as_slice(),
-        FIGURES.as_slice(),
-    ] {
-        for (name, edits, text) in table {
-            judge(&rt, rt.alloc(), name, plain_change(edits), 0, text)?;
-        }
+fn judge_rows(rt: &impl Abort, alloc: Global, table: &[Row]) -> Result<(), Fail> {
+    for (name, edits, text) in table {
+        judge(rt, alloc, name, plain_change(edits), 0, text)?;
     }
     Ok(())
 }
 
-// Judges rows with a piece that is repeated.
+// Rows with a piece that is repeated.
 fn judge_bulk(rt: &impl Abort, alloc: Global, table: &[BulkRow]) -> Result<(), Fail> {
     for (name, edits, piece, times, text) in table {
         let change = Change {
@@ -120,21 +99,6 @@ fn judge_bulk(rt: &impl Abort, alloc: Global, table: &[BulkRow]) -> Result<(), F
         judge(rt, alloc, name, change, 0, text)?;
     }
     Ok(())
-}
-
-#[test]
-fn limits_of_bytes(rt: HostRuntime) -> Result<(), Fail> {
-    judge_bulk(&rt, rt.alloc(), &BYTES)
-}
-
-#[test]
-fn limits_of_features(rt: HostRuntime) -> Result<(), Fail> {
-    judge_bulk(&rt, rt.alloc(), &COUNTS)
-}
-
-#[test]
-fn limits_of_positions(rt: HostRuntime) -> Result<(), Fail> {
-    judge_bulk(&rt, rt.alloc(), &POSITIONS)
 }
 
 // The first lines, and then one for each index, of which at most 500 are printed.
@@ -153,72 +117,153 @@ fn long_text(
     Ok(text)
 }
 
-#[test]
-fn long_reports(rt: HostRuntime) -> Result<(), Fail> {
-    for (name, edits, piece, times, head, front, back) in &LONG {
-        let text = long_text(rt.alloc(), head, front, *times, back)?;
+fn judge_long(rt: &impl Abort, alloc: Global, table: &[LongRow]) -> Result<(), Fail> {
+    for (name, edits, piece, times, head, front, back) in table {
+        let text = long_text(alloc, head, front, *times, back)?;
         let change = Change {
             piece: *piece,
             times: *times,
             ..plain_change(edits)
         };
-        judge(&rt, rt.alloc(), name, change, 0, text.as_str())?;
+        judge(rt, alloc, name, change, 0, text.as_str())?;
     }
     Ok(())
 }
 
-#[test]
-fn later_phases(rt: HostRuntime) -> Result<(), Fail> {
-    for table in [IDENTIFIERS.as_slice(), RINGS.as_slice(), HOLDING.as_slice()] {
-        for (name, edits, text) in table {
-            judge(&rt, rt.alloc(), name, plain_change(edits), 0, text)?;
-        }
-    }
-    Ok(())
+// A reference with this identifier in it.
+fn judge_reference(
+    rt: &impl Abort,
+    alloc: Global,
+    row: &Reference,
+    piece: &'static str,
+    text: &str,
+) -> Result<(), Fail> {
+    let (edits, _, _, _, place) = row;
+    let change = Change {
+        piece,
+        ..plain_change(edits)
+    };
+    judge(rt, alloc, place, change, 0, text)
 }
 
-#[test]
-fn references(rt: HostRuntime) -> Result<(), Fail> {
-    let alloc = rt.alloc();
-    for (edits, right, count, other, place) in &REFERENCES {
+fn judge_references(rt: &impl Abort, alloc: Global, table: &[Reference]) -> Result<(), Fail> {
+    for row in table {
+        let (_, right, count, other, place) = row;
         let accepted = format!(in alloc; "accepted {count}\nnotes 0\n")?;
+        judge_reference(rt, alloc, row, right, accepted.as_str())?;
         let nothing = format!(in alloc; "rejected 1\nfinding X1 {place}\n")?;
+        judge_reference(rt, alloc, row, "@0999", nothing.as_str())?;
         let mistaken = format!(in alloc; "rejected 1\nfinding X2 {place}\n")?;
-        for (piece, text) in [
-            (*right, accepted.as_str()),
-            ("@0999", nothing.as_str()),
-            (*other, mistaken.as_str()),
-        ] {
-            let change = Change {
-                piece,
-                ..plain_change(edits)
-            };
-            judge(&rt, alloc, place, change, 0, text)?;
-        }
+        judge_reference(rt, alloc, row, other, mistaken.as_str())?;
     }
     Ok(())
+}
+
+fn judge_stops(rt: &impl Abort, alloc: Global, table: &[StopRow]) -> Result<(), Fail> {
+    for (name, edits, failing, text) in table {
+        judge(rt, alloc, name, plain_change(edits), *failing, text)?;
+    }
+    Ok(())
+}
+
+// The station as it is, under other words.
+fn judge_words(rt: &impl Abort, alloc: Global, words: &[&str], text: &str) -> Result<(), Fail> {
+    let files = files_of(alloc, plain_change(&[]))?;
+    let printed = ending(rt, alloc, files, 0, words)?;
+    assert_eq!(rt; printed.text.as_slice(), text.as_bytes());
+    assert_eq!(rt; printed.status, status_of(text));
+    Ok(())
+}
+
+#[test]
+fn sound_folders(rt: HostRuntime) -> Result<(), Fail> {
+    judge_rows(&rt, rt.alloc(), &SOUND)?;
+    let (name, edits, text) = HIGH;
+    let change = Change {
+        third: ",3.5",
+        ..plain_change(edits)
+    };
+    judge(&rt, rt.alloc(), name, change, 0, text)
+}
+
+#[test]
+fn broken_files(rt: HostRuntime) -> Result<(), Fail> {
+    judge_rows(&rt, rt.alloc(), &FILES)
+}
+
+#[test]
+fn broken_features(rt: HostRuntime) -> Result<(), Fail> {
+    judge_rows(&rt, rt.alloc(), &FEATURES)
+}
+
+#[test]
+fn broken_properties(rt: HostRuntime) -> Result<(), Fail> {
+    judge_rows(&rt, rt.alloc(), &PROPERTIES)
+}
+
+#[test]
+fn broken_figures(rt: HostRuntime) -> Result<(), Fail> {
+    judge_rows(&rt, rt.alloc(), &FIGURES)
+}
+
+#[test]
+fn limits_of_bytes(rt: HostRuntime) -> Result<(), Fail> {
+    judge_bulk(&rt, rt.alloc(), &BYTES)
+}
+
+#[test]
+fn limits_of_features(rt: HostRuntime) -> Result<(), Fail> {
+    judge_bulk(&rt, rt.alloc(), &COUNTS)
+}
+
+#[test]
+fn limits_of_positions(rt: HostRuntime) -> Result<(), Fail> {
+    judge_bulk(&rt, rt.alloc(), &POSITIONS)
+}
+
+#[test]
+fn broken_identifiers(rt: HostRuntime) -> Result<(), Fail> {
+    judge_rows(&rt, rt.alloc(), &IDENTIFIERS)
+}
+
+#[test]
+fn broken_references(rt: HostRuntime) -> Result<(), Fail> {
+    judge_references(&rt, rt.alloc(), &REFERENCES)
+}
+
+#[test]
+fn broken_rings(rt: HostRuntime) -> Result<(), Fail> {
+    judge_rows(&rt, rt.alloc(), &RINGS)
+}
+
+#[test]
+fn broken_holding(rt: HostRuntime) -> Result<(), Fail> {
+    judge_rows(&rt, rt.alloc(), &HOLDING)
+}
+
+#[test]
+fn long_reports(rt: HostRuntime) -> Result<(), Fail> {
+    judge_long(&rt, rt.alloc(), &LONG)
 }
 
 #[test]
 fn stops(rt: HostRuntime) -> Result<(), Fail> {
-    for (name, edits, failing, text) in &STOPS {
-        judge(&rt, rt.alloc(), name, plain_change(edits), *failing, text)?;
-    }
+    judge_stops(&rt, rt.alloc(), &STOPS)
+}
+
+#[test]
+fn other_words(rt: HostRuntime) -> Result<(), Fail> {
     if !knows("words\n") {
         return Ok(());
     }
     for words in &WORDS {
-        let files = files_of(rt.alloc(), plain_change(&[]))?;
-        let printed = ending(&rt, rt.alloc(), files, 0, words)?;
-        assert_eq!(rt; printed.text.as_slice(), b"words\n".as_slice());
-        assert_eq!(rt; printed.status, 2);
+        judge_words(&rt, rt.alloc(), words, "words\n")?;
     }
-    // Another folder of the base, where nothing lies.
-    let files = files_of(rt.alloc(), plain_change(&[]))?;
-    let printed = ending(&rt, rt.alloc(), files, 0, &["check", "base", "night-1_b"])?;
-    assert_eq!(rt;
-        printed.text.as_slice(),
-        b"rejected 2\nfinding F1 manifest.json 0 0\nfinding V1 venue.geojson 0 0\n".as_slice()
-    );
-    Ok(())
+    // A folder of the base where nothing lies.
+    judge_words(
+        &rt,
+        rt.alloc(),
+        &["check", "base", "night-1_b"],
+        "rejected 2\nfinding F1 manifest.json 0 0\nfinding V1 venue.geojson 0 0\n",
+    )
 }

@@ -17,17 +17,28 @@ fn add_position(
     text.push_str(position.as_str())
 }
 
+// What follows a bracket that opens: a place up to the bracket that closes, and more.
+fn add_placed(
+    alloc: Global,
+    text: &mut String,
+    piece: &str,
+    third: &str,
+) -> Result<(), AllocError> {
+    match piece.split_once(')') {
+        Some((place, behind)) => {
+            add_position(alloc, text, place, third)?;
+            text.push_str(behind)
+        }
+        None => text.push_str(piece),
+    }
+}
+
 // Writes the positions out.
 fn placed(alloc: Global, short: &str, third: &str) -> Result<String, AllocError> {
     let mut text = String::new(alloc);
-    let mut rest = short;
-    while let Some((front, back)) = rest.split_once('(') {
-        text.push_str(front)?;
-        let (place, behind) = back.split_once(')').unwrap_or((back, ""));
-        add_position(alloc, &mut text, place, third)?;
-        rest = behind;
+    for piece in short.split('(') {
+        add_placed(alloc, &mut text, piece, third)?;
     }
-    text.push_str(rest)?;
     Ok(text)
 }
 
