@@ -23,7 +23,7 @@ use file_rows::FILES;
 use folder::{Change, Edit, Row, files_of};
 use holding_rows::HOLDING;
 use program::{ending, knows};
-use property_rows::PROPERTIES;
+use property_rows::{REFERENCE_FORMS, VALUE_FORMS};
 use reference_rows::{IDENTIFIERS, REFERENCES, Reference};
 use ring_rows::RINGS;
 use sound_rows::{HIGH, SOUND};
@@ -197,8 +197,13 @@ fn broken_features(rt: HostRuntime) -> Result<(), Fail> {
 }
 
 #[test]
-fn broken_properties(rt: HostRuntime) -> Result<(), Fail> {
-    judge_rows(&rt, rt.alloc(), &PROPERTIES)
+fn broken_reference_forms(rt: HostRuntime) -> Result<(), Fail> {
+    judge_rows(&rt, rt.alloc(), &REFERENCE_FORMS)
+}
+
+#[test]
+fn broken_value_forms(rt: HostRuntime) -> Result<(), Fail> {
+    judge_rows(&rt, rt.alloc(), &VALUE_FORMS)
 }
 
 #[test]

@@ -6,7 +6,8 @@ use super::files::{
 };
 use super::folder::Row;
 
-pub(super) static PROPERTIES: [Row; 44] = [
+// References: properties 1 to 9, and one of a category that is missing.
+pub(super) static REFERENCE_FORMS: [Row; 28] = [
     (
         "C6",
         &[(UNIT, "@0307", ",'category':'column'", "")],
@@ -212,6 +213,10 @@ pub(super) static PROPERTIES: [Row; 44] = [
         )],
         "rejected 1\nfinding C6 relationship.geojson 2 9\n",
     ),
+];
+
+// Values: properties 10 to 16, and the order of findings.
+pub(super) static VALUE_FORMS: [Row; 16] = [
     (
         "category of an amenity",
         &[(AMENITY, "", "'restroom'", "1")],
