@@ -12,6 +12,8 @@ mod settings;
 mod status;
 #[cfg(test)]
 mod tests;
+#[cfg(test)]
+mod trials;
 mod verifying;
 mod words;
 
