@@ -149,7 +149,7 @@ take_front t rest = let n : length (t ++ rest) - length rest ≡ length t = omeg
     take_whole [] rest = refl
     take_whole (x ∷ xs) rest = ap (λ l. x ∷ l) (take_whole xs rest)
 
-number_front : (b t z : List ℕ) → number_at b ≡ Some (t, z) → (b ≡ t ++ z) × IsNumber t
+pub number_front : (b t z : List ℕ) → number_at b ≡ Some (t, z) → (b ≡ t ++ z) × IsNumber t
 unfolding number_at
 number_front b t z h =
     let n = then_some (λ rest. cond (ends_value (head rest)) (Some (take (length b - length rest) b, rest)) None) (after_number b) (t, z) h in
@@ -163,13 +163,13 @@ number_front b t z h =
 
 -- ---- literals
 
-same_bytes : (a b : List ℕ) → bytes_eq a b ≡ true → b ≡ a
+pub same_bytes : (a b : List ℕ) → bytes_eq a b ≡ true → b ≡ a
 same_bytes [] [] h = refl
 same_bytes [] (y ∷ b) h = absurd (false≢true h)
 same_bytes (x ∷ a) [] h = absurd (false≢true h)
 same_bytes (x ∷ a) (y ∷ b) h = let p = and_parts (x == y) (bytes_eq a b) h in ap₂ (λ u v. u ∷ v) (sym (eqb-true x y p.0)) (same_bytes a b p.1)
 
-literal_front : (name : List ℕ) (i j : Json) (b z : List ℕ) → literal name i b ≡ Some (j, z) → (b ≡ name ++ z) × (i ≡ j)
+pub literal_front : (name : List ℕ) (i j : Json) (b z : List ℕ) → literal name i b ≡ Some (j, z) → (b ≡ name ++ z) × (i ≡ j)
 literal_front name i j b z h =
     let c = tested (starts_with nat_eq b name) (Some (i, drop (length name) b)) (j, z) h in
     let same = pair_parts i j (drop (length name) b) z c.1 in
@@ -203,7 +203,7 @@ text_value d b j z q h =
     let t = text_front b m.0 z q m.1 in
     subst (λ k. (s : List ℕ) × (b ≡ s ++ z) × Spells k s × (depth k ≤ d)) m.2 (t.0, t.1, t.2, omega arith)
 
-branch : {A : Type 0} (c d : Bool) (x y w : A) → c ≡ d → cond c x y ≡ w → cond d x y ≡ w
+pub branch : {A : Type 0} (c d : Bool) (x y w : A) → c ≡ d → cond c x y ≡ w → cond d x y ≡ w
 branch c d x y w e h = ap (λ b. cond b x y) (sym e) ∙ h
 
 token_value : (d : ℕ) (b : List ℕ) (j : Json) (z : List ℕ) → token_at b ≡ Some (j, z) → ValueFront d b j z

@@ -9,6 +9,7 @@ mod Quiet
 mod Fronts
 mod Agreement
 mod Document
+mod Slices
 mod Sizes
 mod Escapes
 mod Utf8

@@ -1,5 +1,6 @@
 -- Reading elements, turn by turn, and a value by its first byte.
-use Rattle.std.proofs.Common.{◌≡◌, ◌≢◌, ℕ, zero, suc, ◌-◌, ◌<◌, ◌≤◌, Bool, cond, ◌==◌, ◌∙◌, List, [], ◌∷◌, ◌++◌, drop, length, map, Option, Some, None, option_and_then, Result, Ok, Err, refl, sym, ap, ap₂, arith}
+use Rattle.std.proofs.Common.{◌≡◌, ◌≢◌, ℕ, zero, suc, ◌-◌, ◌<◌, ◌≤◌, Bool, cond, ◌==◌, ◌∙◌, List, [], ◌∷◌, ◌++◌, take, drop, length, map, Option, Some, None, option_and_then, Result, Ok, Err, refl, sym, ap, ap₂, arith, length-append}
+use Rattle.std.proofs.lemmas.List.{drop-append-le, take-append-le}
 use Rattle.std.proofs.lemmas.Bool.{ne_eqb, eq-eqb}
 use Rattle.exact_json.specs.Json.{Json}
 use Rattle.exact_json.specs.declared.fault.JsonFault.{JsonFault}
@@ -38,6 +39,17 @@ joined_more xs e (Some p) = ap (λ es. Some (es, p.1)) (pushed xs e p.0)
 pub map_pushed : {X E : Type 0} (v : X → E) (ts : List X) (t : X) → map v ts ++ v t ∷ [] ≡ map v (ts ++ t ∷ [])
 map_pushed v [] t = refl
 map_pushed v (s ∷ ts) t = ap (λ l. v s ∷ l) (map_pushed v ts t)
+
+-- ---- one more on a list whose front stays
+
+pub drop_pushed : {X : Type 0} (n : ℕ) (old new all : List X) (x : X) → n ≤ length old → new ≡ old → all ≡ new ++ x ∷ [] → drop n all ≡ drop n old ++ x ∷ []
+drop_pushed n old new all x le same pushed = ap (drop n) (pushed ∙ ap (λ l. l ++ x ∷ []) same) ∙ drop-append-le n old (x ∷ []) le
+
+pub take_pushed : {X : Type 0} (n : ℕ) (old new all : List X) (x : X) → n ≤ length old → new ≡ old → all ≡ new ++ x ∷ [] → take n all ≡ take n old
+take_pushed n old new all x le same pushed = ap (take n) (pushed ∙ ap (λ l. l ++ x ∷ []) same) ∙ take-append-le n old (x ∷ []) le
+
+pub length_pushed : {X : Type 0} (n : ℕ) (old new all : List X) (x : X) → n ≤ length old → new ≡ old → all ≡ new ++ x ∷ [] → n ≤ length all
+length_pushed n old new all x le same pushed = omega (arith, le, ap length pushed, ap length same, length-append new (x ∷ []))
 
 -- ---- a turn
 

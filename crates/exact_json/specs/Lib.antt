@@ -5,6 +5,8 @@ pub mod View
 pub mod Number
 pub mod Strings
 pub mod Grammar
+pub mod Slices
+pub mod Unclosed
 pub mod Reading
 pub mod Scanning
 pub mod Nesting

@@ -1,5 +1,5 @@
 -- The value that a tree stands for.
-use Rattle.std.specs.Prelude.{◌≡◌, ◌≤◌, ℕ, List, [], ◌∷◌, ◌++◌, length, map}
+use Rattle.std.specs.Prelude.{ℕ, List, [], ◌∷◌, map}
 use Rattle.exact_json.specs.Json.{Json, null, boolean, number, text, items, object, Items, no_items, item, Members, no_pairs, pair}
 use Rattle.exact_json.specs.declared.tree.JsonText.{JsonText}
 use Rattle.exact_json.specs.declared.tree.JsonText.TheVariants.{Plain, Made}
@@ -14,12 +14,6 @@ use Rattle.exact_json.specs.declared.tree.Members.{Members as ObjectMembers}
 abbrev pub text_view : JsonText → List ℕ
 text_view (Plain s) = s.now
 text_view (Made v) = v.items
-
--- Of a string that is read behind its opening quote, with the text b there, and `rest` behind its closing one:
--- it is a slice of b, as far as the closing quote, or a text of its own, and then it has a backslash.
-abbrev pub IsCopiedOnlyWhereEscaped : List ℕ → JsonText → List ℕ → Type 0
-IsCopiedOnlyWhereEscaped b (Plain s) rest = b ≡ s.now ++ 34 ∷ rest
-IsCopiedOnlyWhereEscaped b (Made v) rest = (front back : List ℕ) × (b ≡ front ++ 92 ∷ back) × (length rest ≤ length back)
 
 abbrev pub items_of : List Json → Items
 items_of [] = no_items

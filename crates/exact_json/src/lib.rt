@@ -11,6 +11,7 @@ mod scan;
 mod tests;
 mod text;
 mod tree;
+mod unclosed;
 mod whole;
 
 pub use fault::JsonFault;

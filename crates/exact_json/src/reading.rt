@@ -1,14 +1,17 @@
 //! A value in front of a text, and what follows it.
 
-ghost use Rattle.std.specs.Prelude.{◌≡◌, ◌≤◌, ◌<◌, length, map, IfOk, IfSome, option_map};
+ghost use Rattle.std.specs.Prelude.{◌≡◌, ◌≤◌, ◌<◌, [], ◌∷◌, length, map, IfOk, IfSome, OnOk, option_map};
 ghost use Rattle.exact_json.specs.Number.{ends_value};
 ghost use Rattle.exact_json.specs.View.{tree_view, text_view, pair_view};
+ghost use Rattle.exact_json.specs.Slices.{texts_of, items_texts, pair_texts, members_texts, AreTextsBefore};
+ghost use Rattle.exact_json.specs.Unclosed.{Keeps};
 ghost use Rattle.exact_json.specs.Reading.{Gives, Finds, skip, elements_at, value, scalar_at, token_at, number_at, name_at, pair_at, literal};
 
 use crate::fault::JsonFault;
 use crate::number::{after, after_number, byte_at};
 use crate::text::read_text;
 use crate::tree::{JsonText, Pair, Tree, array, record};
+use crate::unclosed::Unclosed;
 use std::alloc::Global;
 
 pub(crate) fn skip_spaces(text: &[u8]) -> &[u8]
@@ -31,6 +34,7 @@ fn ends_value(c: u8) -> bool
     space | (c == b',') | (c == b']') | (c == b'}')
 }
 
+#[inline(always)]
 #[tactic(auto, unfolding(crate::specs::Reading::number_at))]
 fn read_number(text: &[u8]) -> Option<(&[u8], &[u8])>
     ensures value { option_map (λ r. (r.0.now, r.1.now)) result ≡ number_at text.now }
@@ -44,9 +48,11 @@ fn read_number(text: &[u8]) -> Option<(&[u8], &[u8])>
     }
 }
 
+#[inline(never)]
 fn read_literal<'a>(text: &'a [u8], name: &[u8], tree: Tree<'a>) -> Option<(Tree<'a>, &'a [u8])>
     ensures value { option_map (λ r. (tree_view r.0, r.1.now)) result
         ≡ literal name.now (tree_view tree.entry) text.now }
+    ensures texts { IfSome result (λ r. texts_of r.0 ≡ texts_of tree.entry) }
     ensures within { IfSome result (λ r. length r.1.now ≤ length text.now) }
 {
     if text.starts_with(name) {
@@ -57,8 +63,10 @@ fn read_literal<'a>(text: &'a [u8], name: &[u8], tree: Tree<'a>) -> Option<(Tree
 }
 
 // A literal or a number in front.
+#[inline(always)]
 pub(crate) fn read_token(text: &[u8]) -> Option<(Tree<'_>, &[u8])>
     ensures value { option_map (λ r. (tree_view r.0, r.1.now)) result ≡ token_at text.now }
+    ensures texts { IfSome result (λ r. texts_of r.0 ≡ []) }
     ensures within { IfSome result (λ r. length r.1.now ≤ length text.now) }
 {
     match byte_at(text, 0) {
@@ -73,8 +81,10 @@ pub(crate) fn read_token(text: &[u8]) -> Option<(Tree<'_>, &[u8])>
 }
 
 // A value that is no list and no object.
+#[inline(always)]
 fn read_scalar<'a>(alloc: Global, text: &'a [u8]) -> Result<(Tree<'a>, &'a [u8]), JsonFault>
     ensures value { Finds (λ r. (tree_view r.0, r.1.now)) (scalar_at text.now) result }
+    ensures slices { IfOk result (λ r. AreTextsBefore (texts_of r.0) text.now r.1.now) }
     ensures within { IfOk result (λ r. length r.1.now ≤ length text.now) }
 {
     if byte_at(text, 0) == b'"' {
@@ -91,6 +101,7 @@ fn read_scalar<'a>(alloc: Global, text: &'a [u8]) -> Result<(Tree<'a>, &'a [u8])
 #[tactic(auto, unfolding(crate::specs::Reading::name_at))]
 fn read_name<'a>(alloc: Global, text: &'a [u8]) -> Result<(JsonText<'a>, &'a [u8]), JsonFault>
     ensures value { Finds (λ r. (text_view r.0, r.1.now)) (name_at text.now) result }
+    ensures slices { IfOk result (λ r. AreTextsBefore (r.0 ∷ []) text.now r.1.now) }
     ensures within { IfOk result (λ r. length r.1.now ≤ length text.now) }
 {
     if byte_at(text, 0) != b'"' {
@@ -105,29 +116,34 @@ fn read_name<'a>(alloc: Global, text: &'a [u8]) -> Result<(JsonText<'a>, &'a [u8
     }
 }
 
-// One value, with lists and objects nested no deeper than `depth`.
+// One value, with lists and objects nested no deeper than `depth`, by which the recursion is measured.
 #[cycle(read)]
+#[inline(always)]
 pub(crate) fn read_value<'a>(
     alloc: Global,
+    unclosed: &mut Unclosed<'a>,
     text: &'a [u8],
     depth: usize,
 ) -> Result<(Tree<'a>, &'a [u8]), JsonFault>
+    requires { depth ≤ 64 }
     ensures value { Gives (λ r. (tree_view r.0, r.1.now)) depth (λ d. value d text.now) result }
+    ensures slices { IfOk result (λ r. AreTextsBefore (texts_of r.0) text.now r.1.now) }
     ensures within { IfOk result (λ r. length r.1.now ≤ length text.now) }
+    ensures kept { OnOk result (Keeps unclosed.old unclosed.new) }
 {
     match byte_at(text, 0) {
         b'[' => {
             if depth == 0 {
                 return Err(JsonFault::Deep);
             }
-            let (list, rest) = read_items(alloc, after(text, 1), depth - 1)?;
+            let (list, rest) = read_items(alloc, unclosed, after(text, 1), depth - 1)?;
             Ok((array(list), rest))
         }
         b'{' => {
             if depth == 0 {
                 return Err(JsonFault::Deep);
             }
-            let (pairs, rest) = read_members(alloc, after(text, 1), depth - 1)?;
+            let (pairs, rest) = read_members(alloc, unclosed, after(text, 1), depth - 1)?;
             Ok((record(pairs), rest))
         }
         _ => read_scalar(alloc, text),
@@ -136,28 +152,32 @@ pub(crate) fn read_value<'a>(
 
 // The items behind an opening bracket, and what follows the closing one.
 #[cycle(read)]
+#[inline(never)]
 fn read_items<'a>(
     alloc: Global,
+    unclosed: &mut Unclosed<'a>,
     text: &'a [u8],
     depth: usize,
 ) -> Result<(Vec<Tree<'a>>, &'a [u8]), JsonFault>
+    requires { depth ≤ 64 }
     ensures value { Gives (λ r. (map tree_view r.0.items, r.1.now)) depth
         (λ d. elements_at 93 (value d) text.now) result }
+    ensures slices { IfOk result (λ r. AreTextsBefore (items_texts r.0.items) text.now r.1.now) }
     ensures within { IfOk result (λ r. length r.1.now ≤ length text.now) }
+    ensures kept { OnOk result (Keeps unclosed.old unclosed.new) }
 {
     let mut rest = skip_spaces(text);
     if byte_at(rest, 0) == b']' {
         return Ok((Vec::new(alloc), after(rest, 1)));
     }
-    // Most lists of a feature collection are positions, which have two numbers.
-    let mut list = Vec::with_capacity(alloc, 2)?;
+    let start = unclosed.trees.len();
     loop {
-        let (tree, behind) = read_value(alloc, skip_spaces(rest), depth)?;
-        list.push(tree)?;
+        let (tree, behind) = read_value(alloc, unclosed, skip_spaces(rest), depth)?;
+        unclosed.trees.push(tree)?;
         let mark = skip_spaces(behind);
         match byte_at(mark, 0) {
             b',' => rest = after(mark, 1),
-            b']' => return Ok((list, after(mark, 1))),
+            b']' => return Ok((unclosed.trees.split_off(start)?, after(mark, 1))),
             _ => return Err(JsonFault::Text),
         }
     }
@@ -165,43 +185,53 @@ fn read_items<'a>(
 
 // A name, its colon and a value.
 #[cycle(read)]
+#[inline(always)]
 fn read_pair<'a>(
     alloc: Global,
+    unclosed: &mut Unclosed<'a>,
     text: &'a [u8],
     depth: usize,
 ) -> Result<(Pair<'a>, &'a [u8]), JsonFault>
+    requires { depth ≤ 64 }
     ensures value { Gives (λ r. (pair_view r.0, r.1.now)) depth
         (λ d. pair_at (value d) text.now) result }
+    ensures slices { IfOk result (λ r. AreTextsBefore (pair_texts r.0) text.now r.1.now) }
     ensures within { IfOk result (λ r. length r.1.now ≤ length text.now) }
+    ensures kept { OnOk result (Keeps unclosed.old unclosed.new) }
 {
     let (name, rest) = read_name(alloc, text)?;
-    let (value, behind) = read_value(alloc, skip_spaces(rest), depth)?;
+    let (value, behind) = read_value(alloc, unclosed, skip_spaces(rest), depth)?;
     Ok((Pair { name, value }, behind))
 }
 
 // The pairs behind an opening bracket, and what follows the closing one.
 #[cycle(read)]
+#[inline(never)]
 fn read_members<'a>(
     alloc: Global,
+    unclosed: &mut Unclosed<'a>,
     text: &'a [u8],
     depth: usize,
 ) -> Result<(Vec<Pair<'a>>, &'a [u8]), JsonFault>
+    requires { depth ≤ 64 }
     ensures value { Gives (λ r. (map pair_view r.0.items, r.1.now)) depth
         (λ d. elements_at 125 (pair_at (value d)) text.now) result }
+    ensures slices { IfOk result (λ r. AreTextsBefore (members_texts r.0.items) text.now r.1.now) }
     ensures within { IfOk result (λ r. length r.1.now ≤ length text.now) }
+    ensures kept { OnOk result (Keeps unclosed.old unclosed.new) }
 {
-    let mut pairs = Vec::new(alloc);
     let mut rest = skip_spaces(text);
     if byte_at(rest, 0) == b'}' {
-        return Ok((pairs, after(rest, 1)));
+        return Ok((Vec::new(alloc), after(rest, 1)));
     }
+    let start = unclosed.pairs.len();
     loop {
-        let (pair, behind) = read_pair(alloc, skip_spaces(rest), depth)?;
-        pairs.push(pair)?;
+        let (pair, behind) = read_pair(alloc, unclosed, skip_spaces(rest), depth)?;
+        unclosed.pairs.push(pair)?;
         let mark = skip_spaces(behind);
         match byte_at(mark, 0) {
             b',' => rest = after(mark, 1),
-            b'}' => return Ok((pairs, after(mark, 1))),
+            b'}' => return Ok((unclosed.pairs.split_off(start)?, after(mark, 1))),
             _ => return Err(JsonFault::Text),
         }
     }

@@ -1,11 +1,12 @@
 //! Strings (RFC 8259, section 7), from behind the opening quote on.
 
-ghost use Rattle.std.specs.Prelude.{◌≡◌, ◌≢◌, ◌+◌, ◌≤◌, ◌<◌, ◌++◌, length, option_map, IfOk, IfSome, OnOk, encode_utf8};
+ghost use Rattle.std.specs.Prelude.{◌≡◌, ◌≢◌, ◌+◌, ◌≤◌, ◌<◌, ◌++◌, [], ◌∷◌, length, option_map, IfOk, IfSome, OnOk, encode_utf8};
 ghost use Rattle.std.specs.List.{prefix_len};
 ghost use Rattle.std.specs.Char.{digit_value};
 ghost use Rattle.exact_json.specs.Strings.{code_unit, short_escape, low_next, is_low, unit_escape, after_high, escape, text_at, is_plain};
 ghost use Rattle.exact_json.specs.Reading.{Finds};
-ghost use Rattle.exact_json.specs.View.{text_view, IsCopiedOnlyWhereEscaped};
+ghost use Rattle.exact_json.specs.View.{text_view};
+ghost use Rattle.exact_json.specs.Slices.{AreTextsBefore};
 ghost use Rattle.exact_json.specs.Scanning.{rest_of};
 
 use crate::fault::JsonFault;
@@ -158,6 +159,7 @@ fn append(made: &mut Vec<u8>, c: char) -> Result<(), AllocError>
 }
 
 // The text up to the closing quote, with its escapes replaced, and what follows that.
+#[inline(never)]
 fn unescape<'a>(alloc: Global, text: &'a [u8]) -> Result<(Vec<u8>, &'a [u8]), JsonFault>
     ensures value { Finds (λ r. (r.0.items, r.1.now)) (text_at 0 text.now) result }
     ensures within { IfOk result (λ r. length r.1.now ≤ length text.now) }
@@ -184,12 +186,13 @@ fn unescape<'a>(alloc: Global, text: &'a [u8]) -> Result<(Vec<u8>, &'a [u8]), Js
 }
 
 /// The text up to the closing quote, and what follows that. A text without escapes is not copied.
+#[inline(always)]
 pub(crate) fn read_text<'a>(
     alloc: Global,
     text: &'a [u8],
 ) -> Result<(JsonText<'a>, &'a [u8]), JsonFault>
     ensures value { Finds (λ r. (text_view r.0, r.1.now)) (text_at 0 text.now) result }
-    ensures slice { IfOk result (λ r. IsCopiedOnlyWhereEscaped text.now r.0 r.1.now) }
+    ensures slices { IfOk result (λ r. AreTextsBefore (r.0 ∷ []) (34 ∷ text.now) r.1.now) }
     ensures within { IfOk result (λ r. length r.1.now ≤ length text.now) }
 {
     let count = plain_len(text);

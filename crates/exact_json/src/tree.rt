@@ -4,6 +4,7 @@ ghost use Rattle.std.specs.Prelude.{◌≡◌, option_map};
 ghost use Rattle.std.specs.Prelude.{map};
 ghost use Rattle.exact_json.specs.Json.{items, object, last_member, truth, token, text_bytes, items_list, list_items, list_values, object_members};
 ghost use Rattle.exact_json.specs.View.{tree_view, text_view, items_view, members_view, list_view, object_view};
+ghost use Rattle.exact_json.specs.Slices.{texts_of, items_texts, members_texts};
 
 /// The bytes of a string, which are UTF-8.
 #[derive(Drop)]
@@ -120,14 +121,16 @@ impl<'a> Tree<'a> {
 
 // The tree of a list's items.
 pub(crate) fn array<'a>(list: Vec<Tree<'a>>) -> Tree<'a>
-    ensures { tree_view result ≡ items (items_view list.entry.items) }
+    ensures value { tree_view result ≡ items (items_view list.entry.items) }
+    ensures texts { texts_of result ≡ items_texts list.entry.items }
 {
     Tree::Items(Items { list })
 }
 
 // The tree of an object's pairs.
 pub(crate) fn record<'a>(pairs: Vec<Pair<'a>>) -> Tree<'a>
-    ensures { tree_view result ≡ object (members_view pairs.entry.items) }
+    ensures value { tree_view result ≡ object (members_view pairs.entry.items) }
+    ensures texts { texts_of result ≡ members_texts pairs.entry.items }
 {
     Tree::Object(Members { pairs })
 }

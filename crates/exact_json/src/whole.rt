@@ -3,6 +3,7 @@
 ghost use Rattle.std.specs.Prelude.{◌≡◌, ◌≤◌, ◌<◌, ℕ, List, None, Err, IfOk, length};
 ghost use Rattle.exact_json.specs.Json.{Json, depth, IsNarrow, HasTexts};
 ghost use Rattle.exact_json.specs.View.{tree_view};
+ghost use Rattle.exact_json.specs.Slices.{texts_of, AreTextsOf};
 ghost use Rattle.exact_json.specs.Grammar.{IsSpace, IsJson, Starts, Answers, Misread, bare};
 ghost use Rattle.exact_json.specs.Reading.{value};
 ghost use Rattle.exact_json.specs.Scanning.{Reads};
@@ -12,6 +13,7 @@ use crate::number::after;
 use crate::reading::{read_value, skip_spaces};
 use crate::scan::scan;
 use crate::tree::Tree;
+use crate::unclosed::Unclosed;
 use std::alloc::Global;
 
 /// How deep lists and objects may nest.
@@ -38,9 +40,11 @@ fn deep_fault(alloc: Global, start: &[u8]) -> JsonFault
 fn read_start<'a>(alloc: Global, start: &'a [u8]) -> Result<Tree<'a>, JsonFault>
     ensures only { (j : Json) → (z : List ℕ) → IsSpace z → Reads start.now j z → Answers j result }
     ensures found { IfOk result (λ t. Starts start.now (tree_view t) × (depth (tree_view t) ≤ 64)) }
+    ensures slices { IfOk result (λ t. AreTextsOf (texts_of t) start.now) }
     ensures deep { result ≡ Err JsonFault.Deep → (j : Json) × Starts start.now j × (64 < depth j) }
 {
-    match read_value(alloc, start, MOST) {
+    let mut unclosed = Unclosed::new(alloc);
+    match read_value(alloc, &mut unclosed, start, MOST) {
         Ok((tree, rest)) => {
             if skip_spaces(rest).is_empty() {
                 Ok(tree)
@@ -68,7 +72,9 @@ fn bare(bytes: &[u8]) -> &[u8]
 /// The value of a JSON text (RFC 8259). A byte order mark in front is skipped once.
 ///
 /// A list or an object that nests deeper than 64 is refused as `Deep`, if the text is JSON.
-/// It takes time in proportion to the bytes. No recursion is deeper than the limit.
+/// It takes time in proportion to the bytes, and each list and object takes its memory once, with no room to spare.
+/// No recursion is deeper than the limit: the functions that call themselves (`read_value` and those that it calls)
+/// require `depth ≤ 64`, are proved to end by a measure of `depth`, and pass one less behind each open bracket.
 pub fn read<'a>(alloc: Global, bytes: &'a [u8]) -> Result<Tree<'a>, JsonFault>
     // What is read is what the bytes spell.
     ensures ok { IfOk result
@@ -82,6 +88,8 @@ pub fn read<'a>(alloc: Global, bytes: &'a [u8]) -> Result<Tree<'a>, JsonFault>
     // What the layers above count on.
     ensures narrow { IfOk result (λ t. IsNarrow (length bytes.now) (tree_view t)) }
     ensures texts { IfOk result (λ t. HasTexts (tree_view t)) }
+    // Its texts, names too, are those of the strings in the bytes, in order, and one without an escape is a slice.
+    ensures slices { IfOk result (λ t. AreTextsOf (texts_of t) bytes.now) }
 {
     let text = bare(bytes);
     if std::str::from_utf8(text).is_err() {

@@ -1,5 +1,5 @@
 -- One feature more in the index, one file more, and all.
-use Rattle.std.proofs.Common.{◌≡◌, ◌∙◌, ℕ, ◌+◌, ◌<◌, ◌≤◌, Option, Some, Bool, true, false, ◌&&◌, ◌||◌, not, eqb, length, IsTrue, ◌↔◌, refl, sym, ap, subst, arith, ◌⊎◌, inl, inr}
+use Rattle.std.proofs.Common.{◌≡◌, ◌∙◌, ℕ, ◌+◌, ◌<◌, ◌≤◌, Some, Bool, true, false, ◌&&◌, ◌||◌, eqb, length, refl, sym, ap, arith, ◌⊎◌, inl, inr}
 use Rattle.std.specs.Prelude.{slice_get}
 use Rattle.std.specs.Ordering.{nat_cmp}
 use Rattle.std.specs.BTreeSet.{contains}
@@ -11,8 +11,7 @@ use Rattle.imdf_forms.specs.declared.files.File.{File}
 use Rattle.imdf_forms.specs.Files.{file_number}
 use Rattle.sound_rows.specs.Rows.{ids_of, IsFeature}
 use Rattle.imdf_refs.specs.declared.known.Known.{Known}
-use Rattle.imdf_refs.specs.Rules.{IsNamed}
-use Rattle.imdf_refs.specs.Index.{pair_cmp, has_id, has_typed, IsNamedBefore, IsTypedBefore, HasBefore, IsTyped, HasAll}
+use Rattle.imdf_refs.specs.Index.{pair_cmp, HasBefore, HasAll}
 use Rattle.imdf_refs.proofs.FileOrder.{same_number, from_one, up_to_16}
 
 either : (a b : Bool) → (a || b) ≡ true → (a ≡ true) ⊎ (b ≡ true)

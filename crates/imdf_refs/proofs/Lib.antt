@@ -1,3 +1,4 @@
+mod OwnIds
 pub mod Loops
 pub mod FileOrder
 pub mod Indexing

@@ -1,5 +1,5 @@
 -- The step of a loop that finds something at each item.
-use Rattle.std.proofs.Common.{◌≡◌, ◌∙◌, ℕ, ◌+◌, ◌<◌, List, ◌∷◌, ◌++◌, length, get_or, drop, map, refl, sym, ap, append_assoc, add-one, drop-cons}
+use Rattle.std.proofs.Common.{◌≡◌, ◌∙◌, ℕ, ◌+◌, ◌<◌, List, ◌++◌, length, get_or, drop, map, refl, sym, ap, append_assoc, add-one, drop-cons}
 use Rattle.report_laws.specs.Passes.{over}
 
 rest_step : {X Y A : Type 0} (find : ℕ → Y → List A) (view : X → Y) (xs : List X) (k : ℕ) (d : X) → k < length xs

@@ -1,5 +1,5 @@
 -- What is found at references, and the report of all.
-use Rattle.std.proofs.Common.{◌≡◌, ◌≢◌, ◌∙◌, ℕ, ◌+◌, ◌*◌, List, [], ◌++◌, Option, Some, None, Bool, true, false, not, ◌&&◌, refl, sym, ap, subst, arith, ◌⊎◌, inl, inr, ◌↔◌}
+use Rattle.std.proofs.Common.{◌≡◌, ◌≢◌, ◌∙◌, ℕ, ◌+◌, ◌*◌, List, [], ◌++◌, Option, Some, None, Bool, true, false, not, ◌&&◌, refl, sym, ap, subst, ◌⊎◌, inl, inr, ◌↔◌}
 use Rattle.std.specs.Prelude.{Contains, slice_get}
 use Rattle.std.specs.List.{flat_map}
 use Rattle.std.proofs.lemmas.List.Elements.{Contains-append_left, Contains-append_right, Contains-append_cases}
@@ -13,15 +13,14 @@ use Rattle.imdf_forms.specs.Properties.{property_number, properties}
 use Rattle.sound_rows.specs.Rows.{IsFeature}
 use Rattle.report_laws.specs.Passes.{Adds, found}
 use Rattle.report_laws.proofs.Members.{Contains-nil}
-use Rattle.report_laws.proofs.Finds.{Finds, Finds-same, Finds-found, Finds-append, Finds-over, Finds-flat_map}
+use Rattle.report_laws.proofs.Finds.{Finds, Finds-found, Finds-append, Finds-over, Finds-flat_map}
 use Rattle.imdf_refs.specs.declared.known.Known.{Known}
-use Rattle.imdf_refs.specs.declared.place.Place.{Place}
 use Rattle.imdf_refs.specs.declared.rules.Rule.{Rule}
 use Rattle.imdf_refs.specs.declared.rules.Rule.TheVariants.{C7, X1, X2}
-use Rattle.imdf_refs.specs.References.{Reference, Refers, references_in, file_named}
+use Rattle.imdf_refs.specs.References.{Reference, references_in, file_named}
 use Rattle.imdf_refs.specs.Rules.{rule_number, IsNamed, IsOfOtherType, ReferenceBreaks, BreaksInId, BreaksInReference, IsMisnamed}
-use Rattle.imdf_refs.specs.Index.{has_id, has_typed, HasAll, IsTyped}
-use Rattle.imdf_refs.specs.Gathering.{finding_at, place_of, dangles, at_reference, at_feature, in_property, RepeatsIn, Repeats}
+use Rattle.imdf_refs.specs.Index.{has_id, has_typed, HasAll}
+use Rattle.imdf_refs.specs.Gathering.{finding_at, place_of, at_reference, at_feature, in_property, Repeats}
 
 true_or_false : (b : Bool) → (b ≡ true) ⊎ (b ≡ false)
 true_or_false true = inl refl

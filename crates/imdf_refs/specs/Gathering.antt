@@ -1,5 +1,5 @@
 -- What the passes find, given the index of identifiers.
-use Rattle.std.specs.Prelude.{◌≡◌, ℕ, ◌+◌, ◌*◌, List, [], ◌∷◌, ◌++◌, map, Option, Some, None, Bool, ◌&&◌, not}
+use Rattle.std.specs.Prelude.{◌≡◌, ℕ, ◌+◌, ◌*◌, List, [], ◌∷◌, ◌++◌, map, Option, ◌&&◌, not}
 use Rattle.report_laws.specs.Passes.{found, over}
 use Rattle.venue_types.specs.declared.feature_id.FeatureId.{FeatureId}
 use Rattle.venue_types.specs.declared.features.Features.{Features}
@@ -18,9 +18,11 @@ use Rattle.imdf_refs.specs.References.{Reference, by_id, by_object, references_i
 use Rattle.imdf_refs.specs.Rules.{rule_number, RepeatsEarlier}
 use Rattle.imdf_refs.specs.Index.{has_id, has_typed}
 
+-- the finding that the rule is broken at this place
 abbrev pub finding_at : Rule → Place → Finding
 finding_at r place = record { rule = rule_number r; file = file_number place.file; index = place.index; member = place.member }
 
+-- the k-th feature of the file, and the part of it that a finding tells of
 abbrev pub place_of : File → ℕ → ℕ → Place
 place_of f k member = record { file = f; index = k; member = member }
 
@@ -59,7 +61,7 @@ pub record RepeatsIn (features : Features) (f : File) (x : Finding) : Type 0 whe
   pub repeats : RepeatsEarlier features f x.index
   pub is : x ≡ finding_at C7 (place_of f x.index 0)
 
--- a feature of some file has
+-- a feature of some file has the identifier of an earlier one
 pub record Repeats (features : Features) (x : Finding) : Type 0 where
   pub source : File
   pub repeats : RepeatsIn features source x

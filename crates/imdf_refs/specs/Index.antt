@@ -31,7 +31,7 @@ pub record IsNamedBefore (features : Features) (n k : ℕ) (id : FeatureId) : Ty
   pub there : IsFeature features source place id
   pub before : (file_number source < n) ⊎ ((file_number source ≡ n) × (place < k))
 
--- such a feature of this file has it
+-- a feature of the file numbered f, before the k-th of the file numbered n, has the identifier
 pub record IsTypedBefore (features : Features) (n k : ℕ) (id : FeatureId) (f : ℕ) : Type 0 where
   pub source : File
   pub place : ℕ
@@ -51,7 +51,7 @@ pub record IsTyped (features : Features) (id : FeatureId) (f : ℕ) : Type 0 whe
   pub there : IsFeature features source place id
   pub of_file : file_number source ≡ f
 
--- the identifiers of all features are
+-- the identifiers of all features are in the index
 pub record HasAll (features : Features) (known : Known) : Type 0 where
   pub ids : (id : FeatureId) → (has_id known id ≡ true) ↔ IsNamed features id
   pub typed : (id : FeatureId) (f : ℕ) → (has_typed known id (Some f) ≡ true) ↔ IsTyped features id f

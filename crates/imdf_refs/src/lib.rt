@@ -4,6 +4,7 @@
 mod identifiers;
 mod judging;
 mod known;
+mod law;
 mod place;
 mod references;
 mod row;
@@ -12,5 +13,6 @@ mod rules;
 #[cfg(test)]
 mod tests;
 
+pub use law::own_ids;
 pub use references::reference_findings;
 pub use rules::Rule;

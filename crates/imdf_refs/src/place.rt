@@ -8,6 +8,8 @@ use crate::rules::Rule;
 use imdf_forms::{File, Property, PropertyRow};
 use venue_types::{Finding, OutOfMemory};
 
+const MOST_ITEMS: usize = 0x400_0000;
+
 /// A feature by its file and its index there, and the part of it that a finding tells of.
 #[derive(Clone, Copy, Debug, PartialEq, Eq)]
 pub(crate) struct Place {
@@ -30,14 +32,15 @@ impl Place {
     }
 }
 
-// The number of an item of a property's list, which fits a finding in the first 2^26 - 1 items.
+// The number of an item of a property's list.
 //
-// A longer list takes a gigabyte, and what lies beyond counts as something for which there is no memory.
+// From the place 2^26 on it doesn't fit a finding. A list that long takes more than a gigabyte, and counts as want of
+// memory.
 fn member_of(property: Property, place: usize) -> Result<u32, OutOfMemory>
     ensures is { IfOk result (λ member. member ≡ property_number property + 64 * place) }
-    ensures fits { place + 1 < 2 ^ 26 → IsOk result }
+    ensures fits { place < 2 ^ 26 → IsOk result }
 {
-    if place >= 0x3ff_ffff {
+    if place >= MOST_ITEMS {
         return Err(OutOfMemory);
     }
     Ok(property.number() as u32 + 64 * place as u32)
@@ -46,7 +49,7 @@ fn member_of(property: Property, place: usize) -> Result<u32, OutOfMemory>
 /// The place of an item of a property's list, in a feature of the property's file.
 pub(crate) fn item_place(row: &PropertyRow, index: u32, place: usize) -> Result<Place, OutOfMemory>
     ensures is { IfOk result (λ at. at ≡ place_of row.now.file index (property_number row.now.property + 64 * place)) }
-    ensures fits { place + 1 < 2 ^ 26 → IsOk result }
+    ensures fits { place < 2 ^ 26 → IsOk result }
 {
     let member = member_of(row.property, place)?;
     Ok(Place {

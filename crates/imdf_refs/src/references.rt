@@ -28,8 +28,8 @@ pub(crate) fn gather(alloc: Global, features: &Features) -> Result<Vec<Finding>,
 /// The whole second phase over the rows of a folder in which the first phase finds nothing.
 ///
 /// It takes n log n time for n features and references, and memory in proportion to the features and the findings.
-/// A list of 2^26 items or more in one property, which takes a gigabyte, counts as want of memory: the numbers of
-/// its last items don't fit a finding.
+/// A list of more than 2^26 items in one property, which takes over a gigabyte, counts as want of memory: its last
+/// items have no number that fits a finding.
 pub fn reference_findings(alloc: Global, features: &Features) -> Result<List<Finding>, OutOfMemory>
     requires { AreSound features.now }
     ensures { IfOk result (IsReport (IsMisnamed features.now)) }

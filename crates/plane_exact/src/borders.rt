@@ -52,8 +52,8 @@ fn near_rings(p: Point, rings: &[Ring], t: u32) -> bool
     false
 }
 
-/// Whether `p` is at most `t` from some edge of the ring.
-fn near_ring(p: Point, ring: &Ring, t: u32) -> bool
+/// Whether `p` is at most `t` nanodegrees from some edge of the ring alone. Stops at the first such edge.
+pub fn near_ring(p: Point, ring: &Ring, t: u32) -> bool
     requires close { AllClose (p ∷ ring.now.points) }
     requires tolerance { t ≤ 1000000 }
     ensures { IsTrue result ↔ IsNearSome p t (edges ring.now.points) }

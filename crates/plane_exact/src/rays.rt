@@ -35,7 +35,7 @@ fn is_odd_at_part(p: Point, part: &Part) -> bool
     requires { AllClose (p ∷ part_points part.now) }
     ensures { IsTrue result ↔ (crossings p (part_edges part.now) % 2 ≡ 1) }
 {
-    is_odd_at_ring(p, &part.outer) != is_odd_at_rings(p, part.holes.as_slice())
+    inside_ring(p, &part.outer) != is_odd_at_rings(p, part.holes.as_slice())
 }
 
 /// Whether an odd number of the rings' edges meets the ray from `p`.
@@ -45,15 +45,15 @@ fn is_odd_at_rings(p: Point, rings: &[Ring]) -> bool
 {
     let mut odd = false;
     for ring in rings {
-        if is_odd_at_ring(p, ring) {
+        if inside_ring(p, ring) {
             odd = !odd;
         }
     }
     odd
 }
 
-/// Whether an odd number of the ring's edges meets the ray from `p`.
-fn is_odd_at_ring(p: Point, ring: &Ring) -> bool
+/// Whether `p` is inside the ring alone: an odd number of its edges meets the ray from `p`. Looks at every edge.
+pub fn inside_ring(p: Point, ring: &Ring) -> bool
     requires { AllClose (p ∷ ring.now.points) }
     ensures { IsTrue result ↔ (crossings p (edges ring.now.points) % 2 ≡ 1) }
 {

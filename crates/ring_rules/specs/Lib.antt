@@ -1,2 +1,6 @@
+pub mod Bounds
 pub mod Rings
+pub mod Judged
 pub mod Rules
+pub mod Findings
+pub mod Testing

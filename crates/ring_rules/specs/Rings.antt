@@ -1,5 +1,5 @@
 -- Rings and their holes (RFC 7946, section 3.1.6): which cross themselves, lie outside, or have no area.
-use Rattle.std.specs.Prelude.{◌≡◌, ℕ, ℤ, pos, ◌%◌, ◌-ℤ◌, ◌*ℤ◌, ◌+ℤ◌, List, [], ◌∷◌, map, Option, Some, None, Contains}
+use Rattle.std.specs.Prelude.{◌≡◌, ℤ, pos, ◌%◌, ◌-ℤ◌, ◌*ℤ◌, ◌+ℤ◌, List, [], ◌∷◌, map, Option, Some, None, Contains}
 use Rattle.std.specs.List.{flat_map}
 use Rattle.venue_types.specs.declared.point.Point.{Point}
 use Rattle.venue_types.specs.declared.point.Ring.{Ring}
@@ -13,11 +13,11 @@ pub record Placed : Type 0 where
   pub ring : Ring
   pub border : Option Ring
 
-abbrev as_hole : Ring → Ring → Placed
+abbrev pub as_hole : Ring → Ring → Placed
 as_hole border ring = record { ring = ring; border = Some border }
 
 -- the rings of a polygon: its border, then its holes
-abbrev placed_in : Part → List Placed
+abbrev pub placed_in : Part → List Placed
 placed_in part = record { ring = part.outer; border = None } ∷ map (as_hole part.outer) part.holes
 
 -- the rings of a shape, polygon by polygon

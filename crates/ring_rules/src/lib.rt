@@ -1,9 +1,19 @@
 //! The rules on the spread of a folder's positions, and on its rings.
 #![tactic(auto)]
 
+mod area;
+mod bounds;
+mod crossings;
+mod holes;
+mod place;
+mod positioned;
 mod ring_findings;
 mod rules;
+mod shape_findings;
+mod shaped;
 mod spread;
+#[cfg(test)]
+mod tests;
 
 pub use ring_findings::add_ring_findings;
 pub use rules::RingRule;

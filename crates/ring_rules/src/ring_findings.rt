@@ -1,22 +1,65 @@
 //! The rings of a folder.
 
-ghost use Rattle.std.specs.Prelude.{OnOk};
+ghost use Rattle.std.specs.Prelude.{◌≤◌, OnOk, length, map};
+ghost use Rattle.plane_exact.specs.Figure.{AllClose};
 ghost use Rattle.report_laws.specs.Passes.{Adds};
 ghost use Rattle.sound_rows.specs.Sound.{AreSound};
 ghost use Rattle.sound_rows.specs.Figures.{judged_positions};
-ghost use Rattle.plane_exact.specs.Figure.{AllClose};
+ghost use Rattle.ring_rules.specs.Judged.{AreFitShapes};
+ghost use Rattle.ring_rules.specs.Findings.{FindsInShapes};
 ghost use Rattle.ring_rules.specs.Rules.{BreaksInRing};
 
-use venue_types::{Features, Finding, OutOfMemory};
+use crate::place::Place;
+use crate::shape_findings::add_shape;
+use crate::shaped::Shaped;
+use imdf_forms::File;
+use venue_types::{Features, Finding, List, OutOfMemory};
+
+// What is wrong with the rings of some rows of a file.
+fn add_rows<R: Shaped>(
+    findings: &mut Vec<Finding>,
+    file: File,
+    rows: &[R],
+) -> Result<(), OutOfMemory>
+    requires few { length rows.now ≤ 100000 }
+    requires fit { AreFitShapes (map R.shape_of rows.now) }
+    ensures { OnOk result (Adds (FindsInShapes file (map R.shape_of rows.now)) findings.old.items findings.new.items) }
+{
+    for k in 0..rows.len() {
+        let index = k as u32;
+        add_shape(findings, Place { file, index }, rows[k].shape())?;
+    }
+    Ok(())
+}
+
+// What is wrong with the rings of a file.
+fn add_file<R: Shaped>(
+    findings: &mut Vec<Finding>,
+    file: File,
+    rows: &List<R>,
+) -> Result<(), OutOfMemory>
+    requires few { length rows.now ≤ 100000 }
+    requires fit { AreFitShapes (map R.shape_of rows.now) }
+    ensures { OnOk result (Adds (FindsInShapes file (map R.shape_of rows.now)) findings.old.items findings.new.items) }
+{
+    add_rows(findings, file, rows.as_slice())
+}
 
 /// Adds what is wrong with the rings of a folder whose positions lie close together.
 ///
 /// The edges of a ring are compared pair by pair, so it takes time in proportion to the sum of the squares of the
 /// rings' lengths, and memory in proportion to the findings.
-pub fn add_ring_findings(features: &Features, findings: &mut Vec<Finding>) -> Result<(), OutOfMemory>
+pub fn add_ring_findings(
+    features: &Features,
+    findings: &mut Vec<Finding>,
+) -> Result<(), OutOfMemory>
     requires sound { AreSound features.now }
     requires close { AllClose (judged_positions features.now) }
     ensures { OnOk result (Adds (BreaksInRing features.now) findings.old.items findings.new.items) }
 {
-    Err(OutOfMemory)
+    add_file(findings, File::Fixture, &features.fixtures)?;
+    add_file(findings, File::Footprint, &features.footprints)?;
+    add_file(findings, File::Level, &features.levels)?;
+    add_file(findings, File::Unit, &features.units)?;
+    add_file(findings, File::Venue, &features.venues)
 }

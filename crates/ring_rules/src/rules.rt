@@ -1,5 +1,8 @@
 //! The rules on rings.
 
+ghost use Rattle.std.specs.Prelude.{◌≡◌};
+ghost use Rattle.ring_rules.specs.Rules.{ring_rule_number};
+
 /// A rule on a ring.
 #[derive(Clone, Copy, Debug, PartialEq, Eq)]
 pub enum RingRule {
@@ -9,4 +12,17 @@ pub enum RingRule {
     G4,
     /// The area of the ring is 0.
     G5,
+}
+
+impl RingRule {
+    /// The number that stands in findings.
+    pub fn number(self) -> u8
+        ensures { result ≡ ring_rule_number self }
+    {
+        match self {
+            RingRule::G3 => 27,
+            RingRule::G4 => 28,
+            RingRule::G5 => 29,
+        }
+    }
 }

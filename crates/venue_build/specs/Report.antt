@@ -7,10 +7,11 @@ use Rattle.report_laws.specs.Reports.{First}
 use Rattle.sound_rows.specs.Sound.{AreSound}
 use Rattle.imdf_read.specs.Broken.{IsBroken}
 use Rattle.imdf_refs.specs.Rules.{IsMisnamed}
+use Rattle.contain_rules.specs.Phases.{IsPlaneBroken}
 
--- the phases after the first, which judge rows: identifiers and references
+-- the phases after the first, which judge rows: identifiers and references, then positions on the plane
 abbrev pub IsLaterBroken : Features → Settings → Finding → Type 0
-IsLaterBroken features settings = IsMisnamed features
+IsLaterBroken features settings = First (IsMisnamed features) (IsPlaneBroken features settings.contain_tol)
 
 -- all phases: one is judged only where those before it find nothing
 abbrev pub IsWrong : Files → Features → Settings → Finding → Type 0

@@ -7,8 +7,9 @@ ghost use Rattle.venue_build.specs.Report.{IsLaterBroken};
 ghost use Rattle.venue_build.specs.Built.{IsBuilt};
 
 use crate::{Built, Venue};
+use contain_rules::plane_findings;
 use imdf_read::{ReadOut, read_folder};
-use imdf_refs::reference_findings;
+use imdf_refs::{own_ids, reference_findings};
 use report_laws::shortened;
 use sound_reading::sound_reading;
 use std::alloc::Global;
@@ -18,12 +19,18 @@ use venue_types::{Features, Files, Finding, List, OutOfMemory, Settings};
 fn later_findings(
     alloc: Global,
     features: &Features,
-    _settings: &Settings,
+    settings: &Settings,
 ) -> Result<List<Finding>, OutOfMemory>
     requires { AreSound features.now }
-    ensures { IfOk result (IsReport (IsLaterBroken features.now _settings.now)) }
+    ensures { IfOk result (IsReport (IsLaterBroken features.now settings.now)) }
 {
-    reference_findings(alloc, features)
+    own_ids();
+    let misnamed = reference_findings(alloc, features)?;
+    if !misnamed.is_empty() {
+        return Ok(misnamed);
+    }
+    let misplaced = plane_findings(alloc, features, settings)?;
+    Ok(misplaced)
 }
 
 /// Makes a venue of the seventeen files of a folder, or the report of the first phase of rules that finds something.

@@ -3,8 +3,10 @@
 
 mod building;
 mod built;
+mod law;
 mod venue;
 
 pub use building::build;
 pub use built::Built;
+pub use law::one_outcome;
 pub use venue::Venue;

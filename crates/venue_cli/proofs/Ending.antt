@@ -9,9 +9,10 @@ use Rattle.venue_cli.specs.declared.answer.Answer.{Answer}
 use Rattle.venue_cli.specs.declared.status.Status.{Status}
 use Rattle.venue_cli.specs.declared.status.Status.TheVariants.{Done, Negative, Wrong, Fault, Memory}
 use Rattle.venue_cli.specs.Steps.{IsPrinted}
-use Rattle.venue_cli.specs.Commands.{Asked, Price, Verify, IsBase, IsAsked, words_of}
-use Rattle.venue_cli.specs.Output.{PriceOutput, Output, other_words, answers_price, answers_verify}
+use Rattle.venue_cli.specs.Commands.{Asked, Price, Verify, Check, IsBase, IsFolder, IsAsked, words_of}
+use Rattle.venue_cli.specs.Output.{PriceOutput, Output, other_words, answers_price, answers_verify, answers_check}
 use Rattle.venue_cli.specs.Verified.{VerifyOutput}
+use Rattle.venue_cli.specs.Checked.{CheckOutput}
 use Rattle.venue_cli.specs.Ends.{Wrote, Run, Ends}
 
 pub price_told : (words : List (List ℕ)) (files : Option (List StoredFile)) (base : List ℕ) (r : Result Answer ReadFault) → IsBase base → words ≡ words_of (Price base)
@@ -26,11 +27,18 @@ verify_told words files base (Err e) is-base is told = tt
 verify_told words None base (Ok a) is-base is told = tt
 verify_told words (Some fs) base (Ok a) is-base is told = answers_verify base is-base is told
 
+pub check_told : (words : List (List ℕ)) (files : Option (List StoredFile)) (base folder : List ℕ) (r : Result Answer ReadFault) → IsBase base → IsFolder folder → words ≡ words_of (Check base folder)
+    → IfOk r (λ a. IfSome files (λ fs. CheckOutput fs base folder (string_bytes a.text) a.status)) → IfOk r (λ a. IfSome files (λ fs. Output words fs (string_bytes a.text) a.status))
+check_told words files base folder (Err e) is-base is-folder is told = tt
+check_told words None base folder (Ok a) is-base is-folder is told = tt
+check_told words (Some fs) base folder (Ok a) is-base is-folder is told = answers_check base folder (is-base, is-folder) is told
+
 -- the words ask for nothing
 pub asks_nothing : (words : List (List ℕ)) → ((base : List ℕ) → IsBase base → words ≡ words_of (Price base) → ⊥) → ((base : List ℕ) → IsBase base → words ≡ words_of (Verify base) → ⊥)
-    → (asked : Asked) → IsAsked asked → words ≡ words_of asked → ⊥
-asks_nothing words no_price no_verify (Price base) is-base is = no_price base is-base is
-asks_nothing words no_price no_verify (Verify base) is-base is = no_verify base is-base is
+    → ((base folder : List ℕ) → IsBase base → IsFolder folder → words ≡ words_of (Check base folder) → ⊥) → (asked : Asked) → IsAsked asked → words ≡ words_of asked → ⊥
+asks_nothing words no_price no_verify no_check (Price base) is-asked is = no_price base is-asked is
+asks_nothing words no_price no_verify no_check (Verify base) is-asked is = no_verify base is-asked is
+asks_nothing words no_price no_verify no_check (Check base folder) is-asked is = no_check base folder is-asked.0 is-asked.1 is
 
 pub other_told : (words : List (List ℕ)) (files : Option (List StoredFile)) (text : List ℕ) → ((asked : Asked) → IsAsked asked → words ≡ words_of asked → ⊥) → text ≡ line (codes "words")
     → IfSome files (λ fs. Output words fs text Wrong)

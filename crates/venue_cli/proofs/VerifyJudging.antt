@@ -16,7 +16,7 @@ use Rattle.venue_cli.specs.Verified.{AnswerForm, verdict_text, verdict_status, V
 use Rattle.venue_cli.proofs.Judging.{stops, reads}
 
 -- the files are as they were, so what is told of them then is told of them now
-told_before : (P : List StoredFile → Type 0) (fs : List StoredFile) (files' : Option (List StoredFile)) → files' ≡ Some fs → IfSome files' P → P fs
+pub told_before : (P : List StoredFile → Type 0) (fs : List StoredFile) (files' : Option (List StoredFile)) → files' ≡ Some fs → IfSome files' P → P fs
 told_before P fs files' same told = let here : IfSome (Some fs) P = subst (λ (o : Option (List StoredFile)). IfSome o P) same told in here
 
 pub stops_at_links : (files : Option (List StoredFile)) (base text : List ℕ) (status : Status) (judged : Result Table Cause) (cause : Cause)

@@ -1,10 +1,11 @@
 -- What the words of the command line can ask for.
-use Rattle.std.specs.Prelude.{ℕ, ◌<◌, ◌≤◌, List, [], ◌∷◌, length, codes}
-use Rattle.std.specs.List.{Contains}
+use Rattle.std.specs.Prelude.{◌≡◌, ℕ, ◌<◌, ◌≤◌, Bool, true, List, [], ◌∷◌, length, codes, nat_le, ◌==◌, ◌&&◌, ◌||◌}
+use Rattle.std.specs.List.{Contains, list_all}
 
 pub data Asked : Type 0 where
   Price : List ℕ → Asked
   Verify : List ℕ → Asked
+  Check : List ℕ → List ℕ → Asked
 
 -- the name of a base: 1 to 1,024 bytes without a zero byte
 pub record IsBase (base : List ℕ) : Type 0 where
@@ -12,12 +13,24 @@ pub record IsBase (base : List ℕ) : Type 0 where
   pub short : length base ≤ 1024
   pub whole : Contains base 0 → ⊥
 
+-- one of `a-z 0-9 _ -`
+abbrev pub is_folder_byte : ℕ → Bool
+is_folder_byte byte = (((nat_le 97 byte && nat_le byte 122) || (nat_le 48 byte && nat_le byte 57)) || byte == 95) || byte == 45
+
+-- the name of a folder of a base: 1 to 64 of `a-z 0-9 _ -`
+pub record IsFolder (folder : List ℕ) : Type 0 where
+  pub some : 0 < length folder
+  pub short : length folder ≤ 64
+  pub plain : list_all is_folder_byte folder ≡ true
+
 -- the words of a command
 abbrev pub words_of : Asked → List (List ℕ)
 words_of (Price base) = codes "price" ∷ base ∷ []
 words_of (Verify base) = codes "verify" ∷ base ∷ []
+words_of (Check base folder) = codes "check" ∷ base ∷ folder ∷ []
 
 -- its words are of their form
 abbrev pub IsAsked : Asked → Type 0
 IsAsked (Price base) = IsBase base
 IsAsked (Verify base) = IsBase base
+IsAsked (Check base folder) = IsBase base × IsFolder folder

@@ -11,9 +11,10 @@ use Rattle.route_certificate.specs.Forms.{IsTable, IsWalkText}
 use Rattle.route_certificate.specs.Prices.{IsPriced}
 use Rattle.venue_cli.specs.declared.status.Status.{Status}
 use Rattle.venue_cli.specs.declared.status.Status.TheVariants.{Done, Negative, Wrong}
-use Rattle.venue_cli.specs.Commands.{Asked, Price, Verify, IsAsked, words_of}
+use Rattle.venue_cli.specs.Commands.{Asked, Price, Verify, Check, IsAsked, words_of}
 use Rattle.venue_cli.specs.Files.{Reads, Stops, links_limit, links_name, walk_limit, walk_name}
 use Rattle.venue_cli.specs.Verified.{VerifyOutput}
+use Rattle.venue_cli.specs.Checked.{CheckOutput}
 
 -- a walk's text over a table
 abbrev pub WalkForm : Table → List ℕ → WalkIn → Type 0
@@ -42,4 +43,6 @@ pub data Output (words : List (List ℕ)) (files : List StoredFile) : List ℕ �
   answers_price : {text : List ℕ} {status : Status} (base : List ℕ) → IsAsked (Price base) → words ≡ words_of (Price base) → PriceOutput files base text status
       → Output words files text status
   answers_verify : {text : List ℕ} {status : Status} (base : List ℕ) → IsAsked (Verify base) → words ≡ words_of (Verify base) → VerifyOutput files base text status
+      → Output words files text status
+  answers_check : {text : List ℕ} {status : Status} (base folder : List ℕ) → IsAsked (Check base folder) → words ≡ words_of (Check base folder) → CheckOutput files base folder text status
       → Output words files text status

@@ -1,11 +1,16 @@
 -- What the parts of the program answer.
-use Rattle.std.specs.Prelude.{◌≡◌, ℕ, ◌<◌, ◌≤◌, List, length, Option, Some, None, Result, MatchResult}
+use Rattle.std.specs.Prelude.{◌≡◌, ℕ, ◌<◌, ◌≤◌, List, length, Option, Some, None, Result, Err, MatchResult, String, string_bytes}
+use Rattle.std.specs.declared.alloc.Global.{Global}
+use Rattle.venue_types.specs.declared.settings.Settings.{Settings}
 use Rattle.venue_cli.specs.declared.load.Loaded.{Loaded}
 use Rattle.venue_cli.specs.declared.load.Loaded.TheVariants as loaded
 use Rattle.venue_cli.specs.declared.status.Status.{Status}
 use Rattle.venue_cli.specs.declared.status.Status.TheVariants.{Done, Negative, Wrong, Fault, Memory}
 use Rattle.venue_cli.specs.declared.load.Cause.{Cause}
 use Rattle.venue_cli.specs.Files.{Reads, StopsBy}
+use Rattle.venue_cli.specs.Checked.{SettingsForm, settings_limit, IsFaultText, NoSettings}
+use Rattle.venue_settings.specs.declared.fault.SettingsFault.{SettingsFault}
+use Rattle.venue_settings.specs.Settings.{IsSettingsOf}
 
 -- what a file is, against its limit
 abbrev pub IsLoaded : ℕ → Option (List ℕ) → Loaded → Type 0
@@ -30,3 +35,12 @@ IsPrinted Negative = Unit {0}
 IsPrinted Wrong = Unit {0}
 IsPrinted Fault = ⊥
 IsPrinted Memory = ⊥
+
+-- the text is of these settings, or this is the line of its fault
+abbrev pub IsJudgedText : List ℕ → Result Settings (String Global) → Type 0
+IsJudgedText bytes judged =
+    MatchResult judged (SettingsForm bytes) (λ text. (why : SettingsFault) × IsSettingsOf bytes (Err why) × IsFaultText why (string_bytes text))
+
+-- the settings of the base are read, or this line stops the command
+abbrev pub IsSettled : Option (List ℕ) → Result Settings (String Global) → Type 0
+IsSettled found settled = MatchResult settled (Reads SettingsForm settings_limit found) (λ text. NoSettings found (string_bytes text))

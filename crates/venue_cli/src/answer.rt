@@ -7,10 +7,11 @@ ghost use Rattle.venue_cli.specs.Output.{priced_text, priced_status, PriceOutput
 ghost use Rattle.venue_cli.specs.Steps.{IsPrinted};
 
 use crate::base::{table_of, walk_of};
+use crate::checking::check_answer;
 use crate::load::Cause;
 use crate::status::Status;
 use crate::verifying::verify_answer;
-use crate::words::base_of;
+use crate::words::{base_of, folder_of};
 use route_certificate::{Priced, price};
 use std::alloc::{AllocError, Global};
 use venue_ports::{Folders, ReadFault};
@@ -89,6 +90,9 @@ pub(crate) fn answer_to<F: Folders>(
     }
     if let Some(base) = base_of(words, "verify") {
         return verify_answer(alloc, base, folders);
+    }
+    if let Some((base, folder)) = folder_of(words) {
+        return check_answer(alloc, base, folder, folders);
     }
     Ok(Answer {
         status: Status::Wrong,

@@ -3,9 +3,12 @@
 
 mod answer;
 mod base;
+mod checking;
+mod folder;
 mod load;
 mod printing;
 mod running;
+mod settings;
 mod status;
 #[cfg(test)]
 mod tests;

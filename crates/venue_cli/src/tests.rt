@@ -26,6 +26,7 @@ struct Case<'a> {
     links: &'a str,
     walk: &'a str,
     answer: &'a str,
+    settings: &'a str,
     failing: u64,
     text: &'a str,
     status: Status,
@@ -38,6 +39,7 @@ fn over<'a>(links: &'a str, walk: &'a str, text: &'a str, status: Status) -> Cas
         links,
         walk,
         answer: "",
+        settings: "",
         failing: 0,
         text,
         status,
@@ -50,6 +52,15 @@ fn about<'a>(links: &'a str, answer: &'a str, text: &'a str, status: Status) -> 
         command: "verify",
         answer,
         ..over(links, "", text, status)
+    }
+}
+
+// A folder that is checked.
+fn under<'a>(settings: &'a str, text: &'a str, status: Status) -> Case<'a> {
+    Case {
+        command: "check",
+        settings,
+        ..over("", "", text, status)
     }
 }
 
@@ -77,6 +88,7 @@ fn ends(
     add(alloc, &mut files, "links.txt", case.links)?;
     add(alloc, &mut files, "walk.txt", case.walk)?;
     add(alloc, &mut files, "answer.txt", case.answer)?;
+    add(alloc, &mut files, "venue.toml", case.settings)?;
     let failing = Vec::from_slice(alloc, &[case.failing])?;
     let folders = MemoryFolders::new(files, failing).expect(rt, "folders");
     let doors = QuietDoors::new(alloc, Vec::new(alloc)).expect(rt, "doors");
@@ -273,9 +285,22 @@ fn commands_answer(rt: HostRuntime) -> Result<(), Fail> {
             failing: 2,
             ..over("imdf-links 1\n", "", "form links.txt 2\n", Status::Wrong)
         },
+        under("kx = 0\nky = 1\n", "settings 4 kx\n", Status::Wrong),
+        under("kx", "settings 1\n", Status::Wrong),
+        // The settings are judged before the folder is read.
+        Case {
+            failing: 2,
+            ..under("", "missing venue.toml\n", Status::Wrong)
+        },
+        Case {
+            failing: 2,
+            ..under("kx = 1\nky = 1\n", "fault folder\n", Status::Fault)
+        },
     ] {
         let mut console = console(&rt, alloc, 100, 0)?;
-        let status = ends(&rt, alloc, &[case.command, "base"], case, &mut console)?;
+        let words = [case.command, "base", "station"];
+        let count = if case.command == "check" { 3 } else { 2 };
+        let status = ends(&rt, alloc, &words[..count], case, &mut console)?;
         assert_eq!(rt;
             console.written(),
             case.text.as_bytes(),
@@ -290,6 +315,8 @@ fn commands_answer(rt: HostRuntime) -> Result<(), Fail> {
         &["prize", "base"],
         &["price"],
         &["price", "base", "x"],
+        &["check", "base"],
+        &["check", "base", "Station"],
         &[],
     ] {
         let mut console = console(&rt, alloc, 100, 0)?;

@@ -1,8 +1,9 @@
 //! The words of the command line.
 
-ghost use Rattle.std.specs.Prelude.{◌≡◌, ℕ, List, [], ◌∷◌, map, string_bytes, IfSome, IfNone};
+ghost use Rattle.std.specs.Prelude.{◌≡◌, ℕ, List, [], ◌∷◌, map, codes, string_bytes, IfSome, IfNone};
 ghost use Rattle.std.specs.Bool.{OnTrue, OnFalse};
-ghost use Rattle.venue_cli.specs.Commands.{IsBase};
+ghost use Rattle.std.specs.List.{list_all};
+ghost use Rattle.venue_cli.specs.Commands.{IsBase, IsFolder, is_folder_byte};
 
 // Whether a word names a base.
 fn is_base(word: &str) -> bool
@@ -10,6 +11,21 @@ fn is_base(word: &str) -> bool
     ensures no { OnFalse result (IsBase word.now → ⊥) }
 {
     !word.is_empty() && word.len() <= 1024 && !word.as_bytes().contains(&0)
+}
+
+// Whether a word has only the bytes of a folder's name.
+fn is_plain(word: &str) -> bool
+    ensures { result ≡ list_all is_folder_byte word.now }
+{
+    word.as_bytes().iter().all(|byte| matches!(*byte, b'a'..=b'z' | b'0'..=b'9' | b'_' | b'-'))
+}
+
+// Whether a word names a folder of a base.
+fn is_folder(word: &str) -> bool
+    ensures yes { OnTrue result (IsFolder word.now) }
+    ensures no { OnFalse result (IsFolder word.now → ⊥) }
+{
+    !word.is_empty() && word.len() <= 64 && is_plain(word)
 }
 
 // The words, where they are two.
@@ -31,6 +47,30 @@ pub(crate) fn base_of<'a>(words: &'a [String], name: &str) -> Option<&'a str>
     let (command, base) = two_words(words)?;
     if command == name && is_base(base) {
         Some(base)
+    } else {
+        None
+    }
+}
+
+// The words, where they are three.
+fn three_words(words: &[String]) -> Option<(&str, &str, &str)>
+    ensures found { IfSome result (λ three. map string_bytes words.now ≡ three.0.now ∷ three.1.now ∷ three.2.now ∷ []) }
+    ensures none { IfNone result ((first second third : List ℕ) → map string_bytes words.now ≡ first ∷ second ∷ third ∷ [] → ⊥) }
+{
+    match words {
+        [first, second, third] => Some((first.as_str(), second.as_str(), third.as_str())),
+        _ => None,
+    }
+}
+
+/// The base and the folder, where the words ask for a check.
+pub(crate) fn folder_of(words: &[String]) -> Option<(&str, &str)>
+    ensures found { IfSome result (λ pair. IsBase pair.0.now × IsFolder pair.1.now × (map string_bytes words.now ≡ codes "check" ∷ pair.0.now ∷ pair.1.now ∷ [])) }
+    ensures none { IfNone result ((base folder : List ℕ) → IsBase base → IsFolder folder → map string_bytes words.now ≡ codes "check" ∷ base ∷ folder ∷ [] → ⊥) }
+{
+    let (command, base, folder) = three_words(words)?;
+    if command == "check" && is_base(base) && is_folder(folder) {
+        Some((base, folder))
     } else {
         None
     }

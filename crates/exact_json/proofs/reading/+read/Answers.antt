@@ -1,9 +1,12 @@
-use Rattle.std.proofs.Common.{◌≡◌, ◌≢◌, ℕ, suc, ◌-◌, ◌≤◌, [], ◌∷◌, ◌++◌, length, map, Some, None, sym, ap, ◌∙◌, arith, rules}
+use Rattle.std.proofs.Common.{◌≡◌, ◌≢◌, ℕ, suc, ◌-◌, ◌≤◌, [], ◌∷◌, ◌++◌, take, drop, length, map, Some, None, refl, sym, ap, ◌∙◌, subst, arith, rules}
+use Rattle.std.proofs.Math.Seq.{drop-length, take-length}
 use Rattle.std.proofs.lemmas.Result.{err_from_is_err_and}
 use Rattle.exact_json.specs.View.{tree_view, pair_view}
 use Rattle.exact_json.specs.Number.{head}
+use Rattle.exact_json.specs.Slices.{texts_of, pair_texts, items_texts, members_texts, AreTextsBefore}
 use Rattle.exact_json.specs.Reading.{more_elements, elements_at, pair_at, value}
-use Rattle.exact_json.proofs.Lists.{joined, joined_nil, map_pushed, comma_turn, last_turn, bad_turn, lost_turn, no_elements, some_elements, list_too_deep, object_too_deep, carry, carry_up, list_is, object_is, no_list, no_object, scalar_is}
+use Rattle.exact_json.proofs.Lists.{joined, joined_nil, map_pushed, drop_pushed, take_pushed, length_pushed, comma_turn, last_turn, bad_turn, lost_turn, no_elements, some_elements, list_too_deep, object_too_deep, carry, carry_up, list_is, object_is, no_list, no_object, scalar_is}
+use Rattle.exact_json.proofs.Slices.{joins, then_quiet, spaces, one_byte, spaced_byte, more_texts}
 use Rattle.exact_json.proofs.reading.+read.Goals as goal
 
 -- ---- a value
@@ -26,7 +29,7 @@ read_value-returns-in_ok-list-in-91-clause-value t c =
     let h : head b ≡ 91 = grind arith in
     let found = c.in_ok-list-in-91 in
     let least = λ (d : ℕ) (le : c.args.depth ≤ d). list_is (c.args.depth - 1) b c.after.result.now found.rest.now (map tree_view found.list.items) h c.after.ensures.value found.ensures.value d (omega arith) in
-    λ d le. least d le ∙ ap (λ j. Some (j, found.rest.now)) (sym c.array.ensures)
+    λ d le. least d le ∙ ap (λ j. Some (j, found.rest.now)) (sym c.array.ensures.value)
 
 pub read_value-returns-in_ok-pairs-in-123-clause-value : goal.read_value-returns-in_ok-pairs-in-123-clause-value
 read_value-returns-in_ok-pairs-in-123-clause-value t c =
@@ -34,7 +37,7 @@ read_value-returns-in_ok-pairs-in-123-clause-value t c =
     let h : head b ≡ 123 = grind arith in
     let found = c.in_ok-pairs-in-123 in
     let least = λ (d : ℕ) (le : c.args.depth ≤ d). object_is (c.args.depth - 1) b c.after-in-123.result.now found.rest.now (map pair_view found.pairs.items) h c.after-in-123.ensures.value found.ensures.value d (omega arith) in
-    λ d le. least d le ∙ ap (λ j. Some (j, found.rest.now)) (sym c.record.ensures)
+    λ d le. least d le ∙ ap (λ j. Some (j, found.rest.now)) (sym c.record.ensures.value)
 
 pub read_value-returns-in_err-list-in-91-clause-value : goal.read_value-returns-in_err-list-in-91-clause-value
 read_value-returns-in_err-list-in-91-clause-value t c =
@@ -62,6 +65,33 @@ read_value-returns-in_default-clause-value t c =
     let g : head c.args.text.now ≢ 123 = grind arith in
     scalar_is _ c.args.depth c.args.text.now c.read_scalar.result h g c.read_scalar.ensures.value
 
+-- ---- the texts
+
+pub read_value-returns-in_ok-list-in-91-clause-slices : goal.read_value-returns-in_ok-list-in-91-clause-slices
+read_value-returns-in_ok-list-in-91-clause-slices t c =
+    let b = c.args.text.now in
+    let h : head b ≡ 91 = grind arith in
+    let found = c.in_ok-list-in-91 in
+    subst (λ ts. AreTextsBefore ts b found.rest.now) (sym c.array.ensures.texts)
+    (joins [] (items_texts found.list.items) b c.after.result.now found.rest.now (one_byte 91 b c.after.result.now (λ e. omega (arith, e)) (λ e. omega (arith, e)) h c.after.ensures.value) found.ensures.slices)
+
+pub read_value-returns-in_ok-pairs-in-123-clause-slices : goal.read_value-returns-in_ok-pairs-in-123-clause-slices
+read_value-returns-in_ok-pairs-in-123-clause-slices t c =
+    let b = c.args.text.now in
+    let h : head b ≡ 123 = grind arith in
+    let found = c.in_ok-pairs-in-123 in
+    subst (λ ts. AreTextsBefore ts b found.rest.now) (sym c.record.ensures.texts)
+    (joins [] (members_texts found.pairs.items) b c.after-in-123.result.now found.rest.now (one_byte 123 b c.after-in-123.result.now (λ e. omega (arith, e)) (λ e. omega (arith, e)) h c.after-in-123.ensures.value) found.ensures.slices)
+
+pub read_pair-returns-clause-slices : goal.read_pair-returns-clause-slices
+read_pair-returns-clause-slices t c =
+    let name = c.in_ok-name.name in
+    let rest = c.in_ok-name.rest.now in
+    let s = c.skip_spaces.result.now in
+    let behind = c.in_ok-value.behind.now in
+    let texts = texts_of c.in_ok-value.value in
+    joins (name ∷ []) texts c.args.text.now rest behind c.in_ok-name.ensures.slices (joins [] texts rest s behind (spaces rest s c.skip_spaces.ensures.value) c.in_ok-value.ensures.slices)
+
 -- ---- read_items
 
 pub read_items-returns-then-byte_at-eq93-clause-value : goal.read_items-returns-then-byte_at-eq93-clause-value
@@ -70,52 +100,104 @@ read_items-returns-then-byte_at-eq93-clause-value t c =
     let h : head s ≡ 93 = grind arith in
     λ d le. no_elements 93 (value d) c.args.text.now s c.after.result.now c.skip_spaces-rest.ensures.value h c.after.ensures.value ∙ ap (λ l. Some (map tree_view l, c.after.result.now)) (sym c.new.ensures.items)
 
-pub read_items-loop-list-init : goal.read_items-loop-list-init
-read_items-loop-list-init t c =
+pub read_items-returns-then-byte_at-eq93-clause-slices : goal.read_items-returns-then-byte_at-eq93-clause-slices
+read_items-returns-then-byte_at-eq93-clause-slices t c =
     let s = c.skip_spaces-rest.result.now in
-    let h : head s ≢ 93 = grind arith in (
+    let h : head s ≡ 93 = grind arith in
+    subst (λ l. AreTextsBefore (items_texts l) c.args.text.now c.after.result.now) (sym c.new.ensures.items)
+    (spaced_byte 93 c.args.text.now s c.after.result.now (λ e. omega (arith, e)) (λ e. omega (arith, e)) c.skip_spaces-rest.ensures.value h c.after.ensures.value)
+
+pub read_items-loop-tree-init : goal.read_items-loop-tree-init
+read_items-loop-tree-init t c =
+    let s = c.skip_spaces-rest.result.now in
+    let all = c.args.unclosed.now.trees.items in
+    let start = c.len-start.result in
+    let count : start ≡ length all = grind arith in
+    let h : head s ≢ 93 = grind arith in
+    let none : drop start all ≡ [] = ap (λ n. drop n all) count ∙ drop-length all in (
       suc (length s),
       omega arith,
-      (λ d le. some_elements 93 (value d) c.args.text.now s c.skip_spaces-rest.ensures.value h ∙ joined_nil (more_elements 93 (value d) (suc (length s)) s) ∙ ap (λ l. joined (map tree_view l) (more_elements 93 (value d) (suc (length s)) s)) (sym c.in_ok-list.ensures.items)),
+      (λ d le. some_elements 93 (value d) c.args.text.now s c.skip_spaces-rest.ensures.value h ∙ joined_nil (more_elements 93 (value d) (suc (length s)) s) ∙ ap (λ l. joined (map tree_view l) (more_elements 93 (value d) (suc (length s)) s)) (sym none)),
       c.skip_spaces-rest.ensures.within,
+      subst (λ l. AreTextsBefore (items_texts l) c.args.text.now s) (sym none) (spaces c.args.text.now s c.skip_spaces-rest.ensures.value),
+      omega (arith, count),
+      ap (λ n. take n all) count ∙ take-length all,
+      refl,
     )
 
-pub read_items-loop-list-preserved : goal.read_items-loop-list-preserved
-read_items-loop-list-preserved t c =
-    let l = c.loop-list in
+pub read_items-loop-tree-preserved : goal.read_items-loop-tree-preserved
+read_items-loop-tree-preserved t c =
+    let l = c.loop-tree in
     let n = l.invariant.0 in
     let s = c.skip_spaces.result.now in
     let m = c.skip_spaces-mark.result.now in
     let tree = c.in_ok-tree.tree in
+    let behind = c.in_ok-tree.behind.now in
     let rest = c.after-rest.result.now in
+    let start = c.len-start.result in
+    let before = l.unclosed.trees.items in
+    let xs = drop start before in
+    let ys = drop start c.push.new.self.items in
+    let kept = c.in_ok-tree.ensures.kept in
     let h : head m ≡ 44 = grind arith in
-    let grown : c.push.new.self.items ≡ l.list.items ++ tree ∷ [] = search rules in
-    let seen : map tree_view l.list.items ++ tree_view tree ∷ [] ≡ map tree_view c.push.new.self.items = map_pushed tree_view l.list.items tree ∙ ap (map tree_view) (sym grown) in
+    let pushed : c.push.new.self.items ≡ c.read_value.new.unclosed.trees.items ++ tree ∷ [] = search rules in
+    let grown : ys ≡ xs ++ tree ∷ [] = drop_pushed start before _ _ tree l.invariant.5 kept.trees pushed in
+    let seen : map tree_view xs ++ tree_view tree ∷ [] ≡ map tree_view ys = map_pushed tree_view xs tree ∙ ap (map tree_view) (sym grown) in
     let inside = c.in_ok-tree.ensures.within in (
       n - 1,
       omega (arith, l.invariant.1, inside),
       (λ d le. l.invariant.2 d le
-          ∙ comma_turn 93 (value d) n l.rest.now s m (map tree_view l.list.items) (map tree_view c.push.new.self.items) (tree_view tree) c.in_ok-tree.behind.now rest (omega (arith, l.invariant.1)) c.skip_spaces.ensures.value (c.in_ok-tree.ensures.value d le) c.skip_spaces-mark.ensures.value h c.after-rest.ensures.value seen),
+          ∙ comma_turn 93 (value d) n l.rest.now s m (map tree_view xs) (map tree_view ys) (tree_view tree) behind rest (omega (arith, l.invariant.1)) c.skip_spaces.ensures.value (c.in_ok-tree.ensures.value d le) c.skip_spaces-mark.ensures.value h c.after-rest.ensures.value seen),
       omega (arith, l.invariant.3, inside),
+      then_quiet (items_texts ys) c.args.text.now behind rest
+          (more_texts texts_of xs ys tree c.args.text.now l.rest.now s behind grown l.invariant.4 c.skip_spaces.ensures.value c.in_ok-tree.ensures.slices)
+          (spaced_byte 44 behind m rest (λ e. omega (arith, e)) (λ e. omega (arith, e)) c.skip_spaces-mark.ensures.value h c.after-rest.ensures.value),
+      length_pushed start before _ _ tree l.invariant.5 kept.trees pushed,
+      take_pushed start before _ _ tree l.invariant.5 kept.trees pushed ∙ l.invariant.6,
+      kept.pairs ∙ l.invariant.7,
     )
 
 pub read_items-returns-in-93-clause-value : goal.read_items-returns-in-93-clause-value
 read_items-returns-in-93-clause-value t c =
-    let l = c.loop-list in
+    let l = c.loop-tree in
     let n = l.invariant.0 in
     let s = c.skip_spaces.result.now in
     let m = c.skip_spaces-mark.result.now in
     let tree = c.in_ok-tree.tree in
     let rest = c.after-in-93.result.now in
+    let start = c.len-start.result in
+    let before = l.unclosed.trees.items in
+    let xs = drop start before in
+    let ys = c.in_ok-split_off-in-93.field-0.items in
     let h : head m ≡ 93 = grind arith in
-    let grown : c.push.new.self.items ≡ l.list.items ++ tree ∷ [] = search rules in
-    let seen : map tree_view l.list.items ++ tree_view tree ∷ [] ≡ map tree_view c.push.new.self.items = map_pushed tree_view l.list.items tree ∙ ap (map tree_view) (sym grown) in
+    let pushed : c.push.new.self.items ≡ c.read_value.new.unclosed.trees.items ++ tree ∷ [] = search rules in
+    let grown : ys ≡ xs ++ tree ∷ [] = c.in_ok-split_off-in-93.ensures.tail ∙ drop_pushed start before _ _ tree l.invariant.5 c.in_ok-tree.ensures.kept.trees pushed in
+    let seen : map tree_view xs ++ tree_view tree ∷ [] ≡ map tree_view ys = map_pushed tree_view xs tree ∙ ap (map tree_view) (sym grown) in
     λ d le. l.invariant.2 d le
-    ∙ last_turn 93 (value d) n l.rest.now s m (map tree_view l.list.items) (map tree_view c.push.new.self.items) (tree_view tree) c.in_ok-tree.behind.now rest (λ e. omega (arith, e)) (omega (arith, l.invariant.1)) c.skip_spaces.ensures.value (c.in_ok-tree.ensures.value d le) c.skip_spaces-mark.ensures.value h c.after-in-93.ensures.value seen
+    ∙ last_turn 93 (value d) n l.rest.now s m (map tree_view xs) (map tree_view ys) (tree_view tree) c.in_ok-tree.behind.now rest (λ e. omega (arith, e)) (omega (arith, l.invariant.1)) c.skip_spaces.ensures.value (c.in_ok-tree.ensures.value d le) c.skip_spaces-mark.ensures.value h c.after-in-93.ensures.value seen
+
+pub read_items-returns-in-93-clause-slices : goal.read_items-returns-in-93-clause-slices
+read_items-returns-in-93-clause-slices t c =
+    let l = c.loop-tree in
+    let s = c.skip_spaces.result.now in
+    let m = c.skip_spaces-mark.result.now in
+    let tree = c.in_ok-tree.tree in
+    let behind = c.in_ok-tree.behind.now in
+    let rest = c.after-in-93.result.now in
+    let start = c.len-start.result in
+    let before = l.unclosed.trees.items in
+    let xs = drop start before in
+    let ys = c.in_ok-split_off-in-93.field-0.items in
+    let h : head m ≡ 93 = grind arith in
+    let pushed : c.push.new.self.items ≡ c.read_value.new.unclosed.trees.items ++ tree ∷ [] = search rules in
+    let grown : ys ≡ xs ++ tree ∷ [] = c.in_ok-split_off-in-93.ensures.tail ∙ drop_pushed start before _ _ tree l.invariant.5 c.in_ok-tree.ensures.kept.trees pushed in
+    then_quiet (items_texts ys) c.args.text.now behind rest
+    (more_texts texts_of xs ys tree c.args.text.now l.rest.now s behind grown l.invariant.4 c.skip_spaces.ensures.value c.in_ok-tree.ensures.slices)
+    (spaced_byte 93 behind m rest (λ e. omega (arith, e)) (λ e. omega (arith, e)) c.skip_spaces-mark.ensures.value h c.after-in-93.ensures.value)
 
 pub read_items-returns-in_default-clause-value : goal.read_items-returns-in_default-clause-value
 read_items-returns-in_default-clause-value t c =
-    let l = c.loop-list in
+    let l = c.loop-tree in
     let n = l.invariant.0 in
     let s = c.skip_spaces.result.now in
     let m = c.skip_spaces-mark.result.now in
@@ -123,18 +205,18 @@ read_items-returns-in_default-clause-value t c =
     let nc : head m ≢ 44 = grind arith in
     let nb : head m ≢ 93 = grind arith in
     λ d le. l.invariant.2 d le
-    ∙ bad_turn 93 (value d) n l.rest.now s m (map tree_view l.list.items) (tree_view tree) c.in_ok-tree.behind.now (omega (arith, l.invariant.1)) c.skip_spaces.ensures.value (c.in_ok-tree.ensures.value d le) c.skip_spaces-mark.ensures.value nc nb
+    ∙ bad_turn 93 (value d) n l.rest.now s m (map tree_view (drop c.len-start.result l.unclosed.trees.items)) (tree_view tree) c.in_ok-tree.behind.now (omega (arith, l.invariant.1)) c.skip_spaces.ensures.value (c.in_ok-tree.ensures.value d le) c.skip_spaces-mark.ensures.value nc nb
 
 pub read_items-returns-in_err-tree-clause-value : goal.read_items-returns-in_err-tree-clause-value
 read_items-returns-in_err-tree-clause-value t c =
-    let l = c.loop-list in
+    let l = c.loop-tree in
     let n = l.invariant.0 in
     let s = c.skip_spaces.result.now in
     let e = c.in_err-tree.field-0.0 in
-    let p = err_from_is_err_and c.from_residual-in_err-tree.result c.from_residual-in_err-tree.ensures.1 in
+    let p = err_from_is_err_and c.from_residual.result c.from_residual.ensures.1 in
     let same : p.0 ≡ e = first_of (search (rules, p.2), grind (arith, p.2)) in
     let q = λ (d : ℕ). elements_at 93 (value d) c.args.text.now in
-    let fails = λ (d : ℕ) (le : c.args.depth ≤ d) (none : (value d) s ≡ None). l.invariant.2 d le ∙ lost_turn 93 (value d) n l.rest.now s (map tree_view l.list.items) (omega (arith, l.invariant.1)) c.skip_spaces.ensures.value none in
+    let fails = λ (d : ℕ) (le : c.args.depth ≤ d) (none : (value d) s ≡ None). l.invariant.2 d le ∙ lost_turn 93 (value d) n l.rest.now s (map tree_view (drop c.len-start.result l.unclosed.trees.items)) (omega (arith, l.invariant.1)) c.skip_spaces.ensures.value none in
     rw (p.1, same) (carry c.args.depth (λ d. (value d) s) q fails e c.in_err-tree.ensures.value)
 
 -- ---- read_members
@@ -143,54 +225,106 @@ pub read_members-returns-then-byte_at-eq125-clause-value : goal.read_members-ret
 read_members-returns-then-byte_at-eq125-clause-value t c =
     let s = c.skip_spaces-rest.result.now in
     let h : head s ≡ 125 = grind arith in
-    λ d le. no_elements 125 (pair_at (value d)) c.args.text.now s c.after.result.now c.skip_spaces-rest.ensures.value h c.after.ensures.value ∙ ap (λ l. Some (map pair_view l, c.after.result.now)) (sym c.new-pairs.ensures.items)
+    λ d le. no_elements 125 (pair_at (value d)) c.args.text.now s c.after.result.now c.skip_spaces-rest.ensures.value h c.after.ensures.value ∙ ap (λ l. Some (map pair_view l, c.after.result.now)) (sym c.new.ensures.items)
 
-pub read_members-loop-pairs-init : goal.read_members-loop-pairs-init
-read_members-loop-pairs-init t c =
+pub read_members-returns-then-byte_at-eq125-clause-slices : goal.read_members-returns-then-byte_at-eq125-clause-slices
+read_members-returns-then-byte_at-eq125-clause-slices t c =
     let s = c.skip_spaces-rest.result.now in
-    let h : head s ≢ 125 = grind arith in (
+    let h : head s ≡ 125 = grind arith in
+    subst (λ l. AreTextsBefore (members_texts l) c.args.text.now c.after.result.now) (sym c.new.ensures.items)
+    (spaced_byte 125 c.args.text.now s c.after.result.now (λ e. omega (arith, e)) (λ e. omega (arith, e)) c.skip_spaces-rest.ensures.value h c.after.ensures.value)
+
+pub read_members-loop-pair-init : goal.read_members-loop-pair-init
+read_members-loop-pair-init t c =
+    let s = c.skip_spaces-rest.result.now in
+    let all = c.args.unclosed.now.pairs.items in
+    let start = c.len-start.result in
+    let count : start ≡ length all = grind arith in
+    let h : head s ≢ 125 = grind arith in
+    let none : drop start all ≡ [] = ap (λ n. drop n all) count ∙ drop-length all in (
       suc (length s),
       omega arith,
-      (λ d le. some_elements 125 (pair_at (value d)) c.args.text.now s c.skip_spaces-rest.ensures.value h ∙ joined_nil (more_elements 125 (pair_at (value d)) (suc (length s)) s) ∙ ap (λ l. joined (map pair_view l) (more_elements 125 (pair_at (value d)) (suc (length s)) s)) (sym c.new-pairs.ensures.items)),
+      (λ d le. some_elements 125 (pair_at (value d)) c.args.text.now s c.skip_spaces-rest.ensures.value h ∙ joined_nil (more_elements 125 (pair_at (value d)) (suc (length s)) s) ∙ ap (λ l. joined (map pair_view l) (more_elements 125 (pair_at (value d)) (suc (length s)) s)) (sym none)),
       c.skip_spaces-rest.ensures.within,
+      subst (λ l. AreTextsBefore (members_texts l) c.args.text.now s) (sym none) (spaces c.args.text.now s c.skip_spaces-rest.ensures.value),
+      omega (arith, count),
+      ap (λ n. take n all) count ∙ take-length all,
+      refl,
     )
 
-pub read_members-loop-pairs-preserved : goal.read_members-loop-pairs-preserved
-read_members-loop-pairs-preserved t c =
-    let l = c.loop-pairs in
+pub read_members-loop-pair-preserved : goal.read_members-loop-pair-preserved
+read_members-loop-pair-preserved t c =
+    let l = c.loop-pair in
     let n = l.invariant.0 in
     let s = c.skip_spaces.result.now in
     let m = c.skip_spaces-mark.result.now in
     let pair = c.in_ok-pair.pair in
+    let behind = c.in_ok-pair.behind.now in
     let rest = c.after-rest.result.now in
+    let start = c.len-start.result in
+    let before = l.unclosed.pairs.items in
+    let xs = drop start before in
+    let ys = drop start c.push.new.self.items in
+    let kept = c.in_ok-pair.ensures.kept in
     let h : head m ≡ 44 = grind arith in
-    let grown : c.push.new.self.items ≡ l.pairs.items ++ pair ∷ [] = search rules in
-    let seen : map pair_view l.pairs.items ++ pair_view pair ∷ [] ≡ map pair_view c.push.new.self.items = map_pushed pair_view l.pairs.items pair ∙ ap (map pair_view) (sym grown) in
+    let pushed : c.push.new.self.items ≡ c.read_pair.new.unclosed.pairs.items ++ pair ∷ [] = search rules in
+    let grown : ys ≡ xs ++ pair ∷ [] = drop_pushed start before _ _ pair l.invariant.5 kept.pairs pushed in
+    let seen : map pair_view xs ++ pair_view pair ∷ [] ≡ map pair_view ys = map_pushed pair_view xs pair ∙ ap (map pair_view) (sym grown) in
     let inside = c.in_ok-pair.ensures.within in (
       n - 1,
       omega (arith, l.invariant.1, inside),
       (λ d le. l.invariant.2 d le
-          ∙ comma_turn 125 (pair_at (value d)) n l.rest.now s m (map pair_view l.pairs.items) (map pair_view c.push.new.self.items) (pair_view pair) c.in_ok-pair.behind.now rest (omega (arith, l.invariant.1)) c.skip_spaces.ensures.value (c.in_ok-pair.ensures.value d le) c.skip_spaces-mark.ensures.value h c.after-rest.ensures.value seen),
+          ∙ comma_turn 125 (pair_at (value d)) n l.rest.now s m (map pair_view xs) (map pair_view ys) (pair_view pair) behind rest (omega (arith, l.invariant.1)) c.skip_spaces.ensures.value (c.in_ok-pair.ensures.value d le) c.skip_spaces-mark.ensures.value h c.after-rest.ensures.value seen),
       omega (arith, l.invariant.3, inside),
+      then_quiet (members_texts ys) c.args.text.now behind rest
+          (more_texts pair_texts xs ys pair c.args.text.now l.rest.now s behind grown l.invariant.4 c.skip_spaces.ensures.value c.in_ok-pair.ensures.slices)
+          (spaced_byte 44 behind m rest (λ e. omega (arith, e)) (λ e. omega (arith, e)) c.skip_spaces-mark.ensures.value h c.after-rest.ensures.value),
+      length_pushed start before _ _ pair l.invariant.5 kept.pairs pushed,
+      take_pushed start before _ _ pair l.invariant.5 kept.pairs pushed ∙ l.invariant.6,
+      kept.trees ∙ l.invariant.7,
     )
 
 pub read_members-returns-in-125-clause-value : goal.read_members-returns-in-125-clause-value
 read_members-returns-in-125-clause-value t c =
-    let l = c.loop-pairs in
+    let l = c.loop-pair in
     let n = l.invariant.0 in
     let s = c.skip_spaces.result.now in
     let m = c.skip_spaces-mark.result.now in
     let pair = c.in_ok-pair.pair in
     let rest = c.after-in-125.result.now in
+    let start = c.len-start.result in
+    let before = l.unclosed.pairs.items in
+    let xs = drop start before in
+    let ys = c.in_ok-split_off-in-125.field-0.items in
     let h : head m ≡ 125 = grind arith in
-    let grown : c.push.new.self.items ≡ l.pairs.items ++ pair ∷ [] = search rules in
-    let seen : map pair_view l.pairs.items ++ pair_view pair ∷ [] ≡ map pair_view c.push.new.self.items = map_pushed pair_view l.pairs.items pair ∙ ap (map pair_view) (sym grown) in
+    let pushed : c.push.new.self.items ≡ c.read_pair.new.unclosed.pairs.items ++ pair ∷ [] = search rules in
+    let grown : ys ≡ xs ++ pair ∷ [] = c.in_ok-split_off-in-125.ensures.tail ∙ drop_pushed start before _ _ pair l.invariant.5 c.in_ok-pair.ensures.kept.pairs pushed in
+    let seen : map pair_view xs ++ pair_view pair ∷ [] ≡ map pair_view ys = map_pushed pair_view xs pair ∙ ap (map pair_view) (sym grown) in
     λ d le. l.invariant.2 d le
-    ∙ last_turn 125 (pair_at (value d)) n l.rest.now s m (map pair_view l.pairs.items) (map pair_view c.push.new.self.items) (pair_view pair) c.in_ok-pair.behind.now rest (λ e. omega (arith, e)) (omega (arith, l.invariant.1)) c.skip_spaces.ensures.value (c.in_ok-pair.ensures.value d le) c.skip_spaces-mark.ensures.value h c.after-in-125.ensures.value seen
+    ∙ last_turn 125 (pair_at (value d)) n l.rest.now s m (map pair_view xs) (map pair_view ys) (pair_view pair) c.in_ok-pair.behind.now rest (λ e. omega (arith, e)) (omega (arith, l.invariant.1)) c.skip_spaces.ensures.value (c.in_ok-pair.ensures.value d le) c.skip_spaces-mark.ensures.value h c.after-in-125.ensures.value seen
+
+pub read_members-returns-in-125-clause-slices : goal.read_members-returns-in-125-clause-slices
+read_members-returns-in-125-clause-slices t c =
+    let l = c.loop-pair in
+    let s = c.skip_spaces.result.now in
+    let m = c.skip_spaces-mark.result.now in
+    let pair = c.in_ok-pair.pair in
+    let behind = c.in_ok-pair.behind.now in
+    let rest = c.after-in-125.result.now in
+    let start = c.len-start.result in
+    let before = l.unclosed.pairs.items in
+    let xs = drop start before in
+    let ys = c.in_ok-split_off-in-125.field-0.items in
+    let h : head m ≡ 125 = grind arith in
+    let pushed : c.push.new.self.items ≡ c.read_pair.new.unclosed.pairs.items ++ pair ∷ [] = search rules in
+    let grown : ys ≡ xs ++ pair ∷ [] = c.in_ok-split_off-in-125.ensures.tail ∙ drop_pushed start before _ _ pair l.invariant.5 c.in_ok-pair.ensures.kept.pairs pushed in
+    then_quiet (members_texts ys) c.args.text.now behind rest
+    (more_texts pair_texts xs ys pair c.args.text.now l.rest.now s behind grown l.invariant.4 c.skip_spaces.ensures.value c.in_ok-pair.ensures.slices)
+    (spaced_byte 125 behind m rest (λ e. omega (arith, e)) (λ e. omega (arith, e)) c.skip_spaces-mark.ensures.value h c.after-in-125.ensures.value)
 
 pub read_members-returns-in_default-clause-value : goal.read_members-returns-in_default-clause-value
 read_members-returns-in_default-clause-value t c =
-    let l = c.loop-pairs in
+    let l = c.loop-pair in
     let n = l.invariant.0 in
     let s = c.skip_spaces.result.now in
     let m = c.skip_spaces-mark.result.now in
@@ -198,16 +332,16 @@ read_members-returns-in_default-clause-value t c =
     let nc : head m ≢ 44 = grind arith in
     let nb : head m ≢ 125 = grind arith in
     λ d le. l.invariant.2 d le
-    ∙ bad_turn 125 (pair_at (value d)) n l.rest.now s m (map pair_view l.pairs.items) (pair_view pair) c.in_ok-pair.behind.now (omega (arith, l.invariant.1)) c.skip_spaces.ensures.value (c.in_ok-pair.ensures.value d le) c.skip_spaces-mark.ensures.value nc nb
+    ∙ bad_turn 125 (pair_at (value d)) n l.rest.now s m (map pair_view (drop c.len-start.result l.unclosed.pairs.items)) (pair_view pair) c.in_ok-pair.behind.now (omega (arith, l.invariant.1)) c.skip_spaces.ensures.value (c.in_ok-pair.ensures.value d le) c.skip_spaces-mark.ensures.value nc nb
 
 pub read_members-returns-in_err-pair-clause-value : goal.read_members-returns-in_err-pair-clause-value
 read_members-returns-in_err-pair-clause-value t c =
-    let l = c.loop-pairs in
+    let l = c.loop-pair in
     let n = l.invariant.0 in
     let s = c.skip_spaces.result.now in
     let e = c.in_err-pair.field-0.0 in
     let p = err_from_is_err_and c.from_residual.result c.from_residual.ensures.1 in
     let same : p.0 ≡ e = first_of (search (rules, p.2), grind (arith, p.2)) in
     let q = λ (d : ℕ). elements_at 125 (pair_at (value d)) c.args.text.now in
-    let fails = λ (d : ℕ) (le : c.args.depth ≤ d) (none : (pair_at (value d)) s ≡ None). l.invariant.2 d le ∙ lost_turn 125 (pair_at (value d)) n l.rest.now s (map pair_view l.pairs.items) (omega (arith, l.invariant.1)) c.skip_spaces.ensures.value none in
+    let fails = λ (d : ℕ) (le : c.args.depth ≤ d) (none : (pair_at (value d)) s ≡ None). l.invariant.2 d le ∙ lost_turn 125 (pair_at (value d)) n l.rest.now s (map pair_view (drop c.len-start.result l.unclosed.pairs.items)) (omega (arith, l.invariant.1)) c.skip_spaces.ensures.value none in
     rw (p.1, same) (carry c.args.depth (λ d. (pair_at (value d)) s) q fails e c.in_err-pair.ensures.value)

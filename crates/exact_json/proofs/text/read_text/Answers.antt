@@ -3,6 +3,7 @@ use Rattle.exact_json.specs.Number.{head}
 use Rattle.std.specs.List.{prefix_len}
 use Rattle.exact_json.specs.Strings.{is_plain}
 use Rattle.exact_json.proofs.Texts.{whole_run, quoted, head_cons, has_backslash}
+use Rattle.exact_json.proofs.Slices.{plain_text, made_text}
 use Rattle.exact_json.proofs.text.read_text.Goals as goal
 
 pub returns-then-byte_at-eq34-clause-value : goal.returns-then-byte_at-eq34-clause-value
@@ -14,18 +15,19 @@ returns-then-byte_at-eq34-clause-value c =
     whole_run b n s c.plain_len-count.ensures.value c.after-stop.ensures.value ∙ quoted s (take n b) c.after.result.now h c.after.ensures.value
     ∙ ap (λ l. Some (l, c.after.result.now)) (sym c.split_at.ensures.front)
 
-pub returns-then-byte_at-eq34-clause-slice : goal.returns-then-byte_at-eq34-clause-slice
-returns-then-byte_at-eq34-clause-slice c =
+pub returns-then-byte_at-eq34-clause-slices : goal.returns-then-byte_at-eq34-clause-slices
+returns-then-byte_at-eq34-clause-slices c =
     let b = c.args.text.now in
     let n = c.plain_len-count.result in
     let s = c.after-stop.result.now in
     let h : head s ≡ 34 = grind arith in
-    sym (take-append-drop n b) ∙ ap (λ l. take n b ++ l) (sym c.after-stop.ensures.value ∙ head_cons s 34 h (λ e. omega (arith, e))) ∙ ap₂ (λ u v. u ++ 34 ∷ v) (sym c.split_at.ensures.front) (sym c.after.ensures.value)
+    plain_text b c.after.result.now c.split_at.result.0 (returns-then-byte_at-eq34-clause-value c)
+    (sym (take-append-drop n b) ∙ ap (λ l. take n b ++ l) (sym c.after-stop.ensures.value ∙ head_cons s 34 h (λ e. omega (arith, e))) ∙ ap₂ (λ u v. u ++ 34 ∷ v) (sym c.split_at.ensures.front) (sym c.after.ensures.value))
 
-pub returns-in_ok-made-clause-slice : goal.returns-in_ok-made-clause-slice
-returns-in_ok-made-clause-slice c =
+pub returns-in_ok-made-clause-slices : goal.returns-in_ok-made-clause-slices
+returns-in_ok-made-clause-slices c =
     let b = c.args.text.now in
     let s = c.after-stop.result.now in
     let at : s ≡ drop (prefix_len is_plain b) b = c.after-stop.ensures.value ∙ ap (λ n. drop n b) c.plain_len-count.ensures.value in
     let ne : head s ≢ 34 = grind arith in
-    has_backslash b c.in_ok-made.made.items c.in_ok-made.rest.now c.in_ok-made.ensures.value (subst (λ l. head l ≢ 34) at ne)
+    made_text b c.in_ok-made.rest.now c.in_ok-made.made c.in_ok-made.ensures.value (has_backslash b c.in_ok-made.made.items c.in_ok-made.rest.now c.in_ok-made.ensures.value (subst (λ l. head l ≢ 34) at ne))

@@ -6,6 +6,8 @@ use Rattle.exact_json.specs.Reading.{skip}
 use Rattle.exact_json.proofs.Document.{whole, is_json, if_ok}
 use Rattle.exact_json.proofs.Sizes.{narrow_text}
 use Rattle.exact_json.proofs.Utf8.{texts_of}
+use Rattle.exact_json.specs.Slices.{texts_of as tree_texts}
+use Rattle.exact_json.proofs.Slices.{whole_text}
 use Rattle.exact_json.proofs.whole.read.Goals as goal
 
 pub returns-clause-ok : goal.returns-clause-ok
@@ -42,3 +44,6 @@ returns-clause-texts c =
     let u : IsUtf8 c.bare-text.result.now = first_of (search rules, grind arith) in
     let at = c.skip_spaces.ensures.value ∙ ap skip c.bare-text.ensures in
     if_ok c.read_start.result (λ t h. texts_of c.args.bytes.now (tree_view t) (is_json c.args.bytes.now c.skip_spaces.result.now (tree_view t) (subst IsUtf8 c.bare-text.ensures u) at h.0)) c.read_start.ensures.found
+
+pub returns-clause-slices : goal.returns-clause-slices
+returns-clause-slices c = if_ok c.read_start.result (λ t h. whole_text (tree_texts t) c.args.bytes.now c.skip_spaces.result.now (c.skip_spaces.ensures.value ∙ ap skip c.bare-text.ensures) h) c.read_start.ensures.slices

@@ -4,8 +4,8 @@ use Rattle.plane_exact.specs.Figure.{AllClose, ring_points}
 use Rattle.plane_exact.proofs.CloseLemmas.{AllClose-left, AllClose-right}
 use Rattle.plane_exact.proofs.rays.is_odd_at_part.Goals as goal
 
-pub is_odd_at_ring-requires : goal.is_odd_at_ring-requires
-is_odd_at_ring-requires c = AllClose-left c.args.p c.args.part.now.outer.points (ring_points c.args.part.now.holes) c.requires
+pub inside_ring-requires : goal.inside_ring-requires
+inside_ring-requires c = AllClose-left c.args.p c.args.part.now.outer.points (ring_points c.args.part.now.holes) c.requires
 
 pub is_odd_at_rings-requires : goal.is_odd_at_rings-requires
 is_odd_at_rings-requires c =

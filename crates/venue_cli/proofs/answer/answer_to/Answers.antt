@@ -1,5 +1,5 @@
 use Rattle.std.specs.Prelude.{string_bytes, map}
-use Rattle.venue_cli.proofs.Ending.{price_told, verify_told, other_told, asks_nothing}
+use Rattle.venue_cli.proofs.Ending.{price_told, verify_told, check_told, other_told, asks_nothing}
 use Rattle.venue_cli.proofs.answer.answer_to.Goals as goal
 
 pub returns-in-Some-clause-told : goal.returns-in-Some-clause-told
@@ -12,7 +12,12 @@ returns-in-Some-base_of-clause-told g c =
     let found = c.in-Some-base_of.ensures.found in
     verify_told (map string_bytes c.args.words.now) (g.F.Folders.files c.args.folders.now) c.in-Some-base_of.base.now c.verify_answer.result found.0 found.1 c.verify_answer.ensures.told
 
+pub returns-in-Some-folder_of-clause-told : goal.returns-in-Some-folder_of-clause-told
+returns-in-Some-folder_of-clause-told g c =
+    let found = c.in-Some-folder_of.ensures.found in
+    check_told (map string_bytes c.args.words.now) (g.F.Folders.files c.args.folders.now) _ _ c.check_answer.result found.0 found.1 found.2 c.check_answer.ensures.told
+
 pub returns-clause-told : goal.returns-clause-told
 returns-clause-told g c =
     other_told (map string_bytes c.args.words.now) (g.F.Folders.files c.args.folders.now) (string_bytes c.in_ok-from_str.field-0)
-    (asks_nothing (map string_bytes c.args.words.now) c.in_default.ensures.none c.in_default-base_of.ensures.none) c.in_ok-from_str.ensures.ok
+    (asks_nothing (map string_bytes c.args.words.now) c.in_default.ensures.none c.in_default-base_of.ensures.none c.in_default-folder_of.ensures.none) c.in_ok-from_str.ensures.ok

@@ -1,0 +1,63 @@
+#!/usr/bin/env bash
+# `exact_json` over 32 MiB of many small features and of few large rings, beside the kit's `json` and RapidJSON.
+# Wants the kit (rt), python3, g++ and Debian's rapidjson-dev. The first build proves the crate and takes some minutes.
+set -e
+cd "$(dirname "$0")/.."
+[ -e /usr/include/rapidjson/document.h ] || { echo "json.sh: RapidJSON is not installed: apt-get install rapidjson-dev" >&2; exit 1; }
+work=$(mktemp -d)
+trap 'rm -rf "$work"' EXIT
+python3 bench/make_json.py "$work/features.json" "$work/rings.json"
+g++ -O3 -DNDEBUG -std=c++17 -o "$work/read_rapidjson" bench/read_rapidjson.cpp
+
+# A repository of its own, with a program that times both readers of Rattle.
+mkdir -p "$work/crates/exact_json" "$work/crates/read_json/src"
+cp -r crates/exact_json/src crates/exact_json/specs crates/exact_json/proofs "$work/crates/exact_json"
+printf 'exact_json:\nread_json: exact_json json\n' >"$work/crates.txt"
+cat >"$work/crates/read_json/src/main.rt" <<'END'
+//! Loads a file, reads its bytes as JSON by the reader that is named, and prints the seconds of the reading.
+#![tactic(auto)]
+
+use json::{Scratch, Value};
+use std::env;
+use std::fs;
+use std::io::{self, Error};
+use std::time::Instant;
+
+fn seconds(rt: &HostRuntime, start: Instant, ok: bool) -> io::Result<f64> {
+    if ok {
+        Ok(start.elapsed(rt)?.as_secs_f64())
+    } else {
+        Err(Error::other("not read"))
+    }
+}
+
+fn time_exact(rt: &HostRuntime, bytes: &[u8]) -> io::Result<f64> {
+    let start = Instant::now(rt)?;
+    let read = exact_json::read(rt.alloc(), bytes);
+    seconds(rt, start, read.is_ok())
+}
+
+fn time_kit(rt: &HostRuntime, bytes: &[u8]) -> io::Result<f64> {
+    let mut scratch = Scratch::new(rt.alloc());
+    let start = Instant::now(rt)?;
+    let read = Value::from_slice(rt.alloc(), bytes, &mut scratch);
+    seconds(rt, start, read.is_ok())
+}
+
+fn main(rt: HostRuntime) -> io::Result<()> {
+    let words: Vec<String> = env::args(&rt)?.collect(rt.alloc())?;
+    if words.len() < 3 {
+        return Err(Error::other("usage: read_json (exact | kit | load) FILE"));
+    }
+    let bytes = fs::read(&rt, words[2].as_str())?;
+    let seconds = match words[1].as_str() {
+        "exact" => time_exact(&rt, &bytes)?,
+        "kit" => time_kit(&rt, &bytes)?,
+        _ => 0.0,
+    };
+    println!(rt; "{seconds}")?;
+    Ok(())
+}
+END
+(cd "$work/crates/read_json" && rt run -- load "$work/features.json") >"$work/build.log" 2>&1 || { tail -n 20 "$work/build.log" >&2; exit 1; }
+python3 bench/time_readers.py 5 "$work/crates/read_json/out/read_json" "$work/read_rapidjson" "$work/features.json" "$work/rings.json"

@@ -1,0 +1,10 @@
+//! The printed text of a check: the report of a rejected folder, or the notes of an accepted one.
+#![tactic(auto)]
+
+mod names;
+#[cfg(test)]
+mod tests;
+mod text;
+
+pub use names::file_names;
+pub use text::{accepted_text, rejected_text};

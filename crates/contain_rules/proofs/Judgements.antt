@@ -1,0 +1,92 @@
+-- The rules, put together from what each pass adds.
+use Rattle.std.proofs.Common.{◌≡◌, ◌∙◌, ℕ, ◌<◌, ◌≤◌, List, length, get_or, Bool, true, IsTrue, ◌↔◌, refl, sym, ap, subst, ◌⊎◌, inl, inr}
+use Rattle.std.specs.Prelude.{slice_get, Some}
+use Rattle.std.proofs.lemmas.Option.{slice_get_read, slice_get-get_or}
+use Rattle.venue_types.specs.declared.features.Features.{Features}
+use Rattle.venue_types.specs.declared.finding.Finding.{Finding}
+use Rattle.imdf_forms.specs.Files.{file_number}
+use Rattle.report_laws.specs.Passes.{Adds}
+use Rattle.report_laws.proofs.Adding.{Adds-same, Adds-then, Among}
+use Rattle.contain_rules.specs.declared.rules.HoldRule.{HoldRule}
+use Rattle.contain_rules.specs.declared.rules.HoldRule.TheVariants.{K1, K2, K3, K4}
+use Rattle.contain_rules.specs.Rules.{BreaksHold, HoldBreaks, hold_rule_number, file_judged}
+use Rattle.contain_rules.specs.Judging.{BreaksBy, hold_finding}
+
+-- the row at hand, of a list that is seen as a slice
+pub row_there : {R : Type 0} (xs rows : List R) (k : ℕ) (row : R) → xs ≡ rows → k < length xs → row ≡ get_or xs k row → slice_get rows k ≡ Some row
+row_there {R} xs rows k row same within is = subst (λ (ys : List R). slice_get ys k ≡ Some row) same (slice_get_read xs (length xs) k row refl within is)
+
+pub copy_there : {R : Type 0} (xs rows : List R) (k : ℕ) (d : R) → xs ≡ rows → k < length xs → slice_get rows k ≡ Some (get_or xs k d)
+copy_there {R} xs rows k d same within = subst (λ (ys : List R). slice_get ys k ≡ Some (get_or xs k d)) same (slice_get-get_or xs k d within)
+
+pub all_past : {R : Type 0} (xs rows : List R) (k : ℕ) → xs ≡ rows → length xs ≤ k → length rows ≤ k
+all_past {R} xs rows k same past = subst (λ (ys : List R). length ys ≤ k) same past
+
+-- the feature at this place leaves what is to hold it, which is told of it
+abbrev pub LeavesAt : {R : Type 0} → (R → Type 0) → HoldRule → ℕ → R → Finding → Type 0
+LeavesAt Leaves rule k row x = Leaves row × (x ≡ hold_finding rule k)
+
+pub adds_row : {R : Type 0} (Leaves : R → Type 0) (rule : HoldRule) (k : ℕ) (row : R) (leaves : Bool) (place : Finding) (old new : List Finding)
+    → (IsTrue leaves ↔ Leaves row) → place ≡ hold_finding rule k
+    → ((P : Finding → Type 0) → (leaves ≡ true → P place) → ((x : Finding) → P x → (leaves ≡ true) × (x ≡ place)) → Adds P old new)
+    → Adds (LeavesAt Leaves rule k row) old new
+adds_row Leaves rule k row leaves place old new decides is adds =
+    adds (LeavesAt Leaves rule k row) (λ h. (decides.0 h, is)) (λ x h. (decides.1 h.0, h.1 ∙ sym is))
+
+-- a rule, from what its features add
+pub adds_rule : {R : Type 0} (Leaves : R → Type 0) (rows : List R) (rule : HoldRule) (features : Features) (t : ℕ) (a b : List Finding)
+    → ((k : ℕ) → ((row : R) × (slice_get rows k ≡ Some row) × Leaves row) → HoldBreaks rule features t k)
+    → ((k : ℕ) → HoldBreaks rule features t k → (row : R) × (slice_get rows k ≡ Some row) × Leaves row)
+    → Adds (Among (λ k row. LeavesAt Leaves rule k row) rows) a b → Adds (BreaksBy rule features t) a b
+adds_rule {R} Leaves rows rule features t a b into back adds = Adds-same (BreaksBy rule features t) adds
+    (λ x h.
+    let at : h.place ≡ x.index = sym (ap (λ (z : Finding). z.index) h.holds.1) in
+    record {
+      breaks = subst (λ (k : ℕ). HoldBreaks rule features t k) at (into h.place (h.item, h.there, h.holds.0));
+      is = h.holds.1 ∙ ap (hold_finding rule) at;
+    })
+    (λ x h. let row = back x.index h.breaks in record { place = x.index; item = row.0; there = row.1; holds = (row.2, h.is) })
+
+abbrev finding : ℕ → ℕ → ℕ → ℕ → Finding
+finding rule file index member = record { rule = rule; file = file; index = index; member = member }
+
+finding_is : (x : Finding) (r f m : ℕ) → x.rule ≡ r → x.file ≡ f → x.member ≡ m → x ≡ finding r f x.index m
+finding_is x r f m rule file member =
+    ap (λ (n : ℕ). finding n x.file x.index x.member) rule ∙ ap (λ (n : ℕ). finding r n x.index x.member) file ∙ ap (λ (n : ℕ). finding r f x.index n) member
+
+into_hold : (rule : HoldRule) (features : Features) (t : ℕ) (x : Finding) → BreaksBy rule features t x → BreaksHold features t x
+into_hold rule features t x h = record {
+  rule = rule;
+  number = ap (λ (z : Finding). z.rule) h.is;
+  breaks = h.breaks;
+  in_file = ap (λ (z : Finding). z.file) h.is;
+  at_member = ap (λ (z : Finding). z.member) h.is;
+}
+
+by_rule : (rule : HoldRule) (features : Features) (t : ℕ) (x : Finding) → x.rule ≡ hold_rule_number rule → HoldBreaks rule features t x.index → x.file ≡ file_number (file_judged rule) → x.member ≡ 0 → BreaksBy rule features t x
+by_rule rule features t x number breaks in_file at_member = record {
+  breaks = breaks;
+  is = finding_is x (hold_rule_number rule) (file_number (file_judged rule)) 0 number in_file at_member;
+}
+
+abbrev Parts : Features → ℕ → Finding → Type 0
+Parts features t x = BreaksBy K1 features t x ⊎ (BreaksBy K2 features t x ⊎ (BreaksBy K3 features t x ⊎ BreaksBy K4 features t x))
+
+part : (rule : HoldRule) (features : Features) (t : ℕ) (x : Finding) → BreaksBy rule features t x → Parts features t x
+part K1 features t x h = inl h
+part K2 features t x h = inr (inl h)
+part K3 features t x h = inr (inr (inl h))
+part K4 features t x h = inr (inr (inr h))
+
+pub four_rules : (features : Features) (t : ℕ) (a b c d e : List Finding) → Adds (BreaksBy K1 features t) a b → Adds (BreaksBy K2 features t) b c → Adds (BreaksBy K3 features t) c d → Adds (BreaksBy K4 features t) d e
+    → Adds (BreaksHold features t) a e
+four_rules features t a b c d e one two three four = Adds-then (BreaksHold features t) one
+    (Adds-then (λ x. BreaksBy K2 features t x ⊎ (BreaksBy K3 features t x ⊎ BreaksBy K4 features t x)) two
+    (Adds-then (λ x. BreaksBy K3 features t x ⊎ BreaksBy K4 features t x) three four (λ x h. inl h) (λ x h. inr h) (λ x h. h))
+    (λ x h. inl h) (λ x h. inr h) (λ x h. h))
+    (λ x h. into_hold K1 features t x h)
+    (λ x h. elim h [
+      | inl second ↦ into_hold K2 features t x second
+      | inr rest ↦ elim rest [ inl third ↦ into_hold K3 features t x third | inr fourth ↦ into_hold K4 features t x fourth ]
+    ])
+    (λ x h. part h.rule features t x (by_rule h.rule features t x h.number h.breaks h.in_file h.at_member))

@@ -1,0 +1,9 @@
+mod Planes
+mod Boxes
+mod Closeness
+mod Framing
+mod Indexing
+mod Judgements
+mod Lists
+mod Numbers
+mod RowRules

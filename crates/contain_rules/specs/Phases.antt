@@ -1,0 +1,15 @@
+-- The third phase of rules and the fourth.
+use Rattle.std.specs.Prelude.{ℕ, ◌⊎◌}
+use Rattle.venue_types.specs.declared.features.Features.{Features}
+use Rattle.venue_types.specs.declared.finding.Finding.{Finding}
+use Rattle.report_laws.specs.Reports.{First}
+use Rattle.ring_rules.specs.Rules.{BreaksSpread, BreaksInRing}
+use Rattle.contain_rules.specs.Rules.{BreaksHold}
+
+-- a rule of the fourth phase is broken there
+abbrev pub IsMisplaced : Features → ℕ → Finding → Type 0
+IsMisplaced features tolerance x = BreaksInRing features x ⊎ BreaksHold features tolerance x
+
+-- the third phase, and, where it has nothing, the fourth
+abbrev pub IsPlaneBroken : Features → ℕ → Finding → Type 0
+IsPlaneBroken features tolerance = First (BreaksSpread features) (IsMisplaced features tolerance)

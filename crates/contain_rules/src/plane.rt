@@ -1,0 +1,43 @@
+//! The two phases on the plane.
+
+ghost use Rattle.std.specs.Prelude.{IfOk};
+ghost use Rattle.report_laws.specs.Reports.{IsReport};
+ghost use Rattle.sound_rows.specs.Rows.{HaveOwnIds};
+ghost use Rattle.sound_rows.specs.Sound.{AreSound};
+ghost use Rattle.contain_rules.specs.Phases.{IsPlaneBroken};
+
+use crate::holding::add_hold_findings;
+use report_laws::in_order;
+use ring_rules::{add_ring_findings, is_spread};
+use std::alloc::Global;
+use venue_types::{Features, Finding, List, OutOfMemory, Settings};
+
+// That the positions of a folder lie too far apart, which is told of the folder.
+const SPREAD: Finding = Finding {
+    rule: 26,
+    file: 0,
+    index: 0,
+    member: 0,
+};
+
+/// The third phase, and, where it has nothing, the fourth, over rows in which the phases before find nothing.
+///
+/// The time is that of `add_ring_findings` and `add_hold_findings`, and n log n for n findings.
+pub fn plane_findings(
+    alloc: Global,
+    features: &Features,
+    settings: &Settings,
+) -> Result<List<Finding>, OutOfMemory>
+    requires sound { AreSound features.now }
+    requires own_ids { HaveOwnIds features.now }
+    ensures { IfOk result (IsReport (IsPlaneBroken features.now settings.now.contain_tol)) }
+{
+    let mut findings = Vec::new(alloc);
+    if is_spread(features) {
+        findings.push(SPREAD)?;
+        return Ok(in_order(findings));
+    }
+    add_ring_findings(features, &mut findings)?;
+    add_hold_findings(alloc, features, settings.contain_tol, &mut findings)?;
+    Ok(in_order(findings))
+}

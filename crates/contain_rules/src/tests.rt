@@ -1,0 +1,101 @@
+//! Units beside a square level with a square hole, worked out by hand.
+
+ghost use Rattle.std.specs.Prelude.{All, IfOk};
+ghost use Rattle.plane_exact.specs.Testing.{IsInBox};
+ghost use Rattle.plane_exact.specs.Figure.{vertices};
+
+use crate::frame::frame_of;
+use crate::leaving::figure_leaves;
+use crate::rules::HoldRule;
+use std::alloc::{AllocError, Global};
+use std::test::Fail;
+use venue_types::{Finding, List, Part, Point, Ring, Shape};
+
+/// A position at most 100,000,000 from the middle on each axis, so that any two are close.
+fn at(place: (i64, i64)) -> Point
+    ensures { IsInBox result }
+{
+    Point {
+        x: place.0.clamp(-100_000_000, 100_000_000),
+        y: place.1.clamp(-100_000_000, 100_000_000),
+    }
+}
+
+fn ring(alloc: Global, points: &[(i64, i64)]) -> Result<Ring, AllocError>
+    ensures { IfOk result (λ ring. All IsInBox ring.points) }
+{
+    let mut list = Vec::new(alloc);
+    for point in points {
+        list.push(at(*point))?;
+    }
+    Ok(Ring {
+        points: List::from_vec(list),
+    })
+}
+
+fn polygon(alloc: Global, outer: &[(i64, i64)], hole: &[(i64, i64)]) -> Result<Shape, AllocError>
+    ensures { IfOk result (λ shape. All IsInBox (vertices shape)) }
+{
+    let outer = ring(alloc, outer)?;
+    let hole = ring(alloc, hole)?;
+    let part = Part {
+        outer,
+        holes: List::from_vec(vec![in alloc; hole]?),
+    };
+    Ok(Shape {
+        parts: List::from_vec(vec![in alloc; part]?),
+    })
+}
+
+fn leaves(level: &Shape, tolerance: u32, unit: &Shape) -> bool
+    requires level { All IsInBox (vertices level.now) }
+    requires unit { All IsInBox (vertices unit.now) }
+{
+    figure_leaves(level, frame_of(level), u32::min(tolerance, 1_000_000), unit)
+}
+
+#[test]
+fn units_leave_their_level(rt: HostRuntime) -> Result<(), Fail> {
+    let level = polygon(
+        rt.alloc(),
+        &[(0, 0), (1000, 0), (1000, 1000), (0, 1000), (0, 0)],
+        &[(400, 400), (400, 600), (600, 600), (600, 400), (400, 400)],
+    )?;
+    // The tolerance, two opposite corners of the unit, and whether it leaves the level.
+    let table = [
+        (0, (100, 100), (300, 300), false),
+        (0, (0, 0), (1000, 1000), false),
+        // One side beyond the east, the north, the west and the south.
+        (0, (100, 100), (1001, 300), true),
+        (1, (100, 100), (1001, 300), false),
+        (5, (100, 100), (300, 1006), true),
+        (6, (100, 100), (300, 1006), false),
+        (5, (-6, 100), (300, 300), true),
+        (6, (-6, 100), (300, 300), false),
+        (5, (100, -6), (300, 300), true),
+        (6, (100, -6), (300, 300), false),
+        // One corner in the middle of the hole.
+        (99, (100, 100), (500, 500), true),
+        (100, (100, 100), (500, 500), false),
+        // One corner off the level's corner, at the distances 5 and the square root of 32.
+        (5, (900, 900), (1003, 1004), false),
+        (5, (900, 900), (1004, 1004), true),
+    ];
+    for (tolerance, low, high, want) in table {
+        let corners = [low, (high.0, low.1), high, (low.0, high.1), low];
+        let unit = polygon(rt.alloc(), &corners, &[])?;
+        assert_eq!(rt;
+            leaves(&level, tolerance, &unit),
+            want,
+            "{tolerance} {low:?} {high:?}"
+        );
+    }
+    let finding = Finding {
+        rule: 32,
+        file: 2,
+        index: 7,
+        member: 0,
+    };
+    assert_eq!(rt; HoldRule::K3.finding(7), finding);
+    Ok(())
+}

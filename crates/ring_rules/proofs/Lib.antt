@@ -1,0 +1,7 @@
+pub mod BoundsLemmas
+pub mod AreaLemmas
+pub mod EdgeLemmas
+pub mod FitLemmas
+pub mod FindingLemmas
+pub mod FolderLemmas
+pub mod SmallLemmas

@@ -1,0 +1,43 @@
+-- What is found in a ring, in the rings of a feature, and in a file.
+use Rattle.std.specs.Prelude.{◌≡◌, ℕ, ◌+◌, List, Some, None, slice_get}
+use Rattle.venue_types.specs.declared.finding.Finding.{Finding}
+use Rattle.venue_types.specs.declared.point.Ring.{Ring}
+use Rattle.venue_types.specs.declared.point.Shape.{Shape}
+use Rattle.imdf_forms.specs.declared.files.File.{File}
+use Rattle.imdf_forms.specs.Files.{file_number}
+use Rattle.ring_rules.specs.declared.rules.RingRule.{RingRule}
+use Rattle.ring_rules.specs.Rings.{Placed, placed_rings}
+use Rattle.ring_rules.specs.Rules.{ring_rule_number, RingBreaks}
+
+-- the finding that the rule is broken by the ring of this number of the feature
+abbrev pub finding_at : RingRule → File → ℕ → ℕ → Finding
+finding_at rule source index number = record { rule = ring_rule_number rule; file = file_number source; index = index; member = number }
+
+-- this rule is broken by the ring of this number
+pub record FindsRule (source : File) (index number : ℕ) (placed : Placed) (rule : RingRule) (x : Finding) : Type 0 where
+  pub breaks : RingBreaks rule placed
+  pub is : x ≡ finding_at rule source index number
+
+-- a rule is broken by the ring of this number
+pub record FindsInRing (source : File) (index number : ℕ) (placed : Placed) (x : Finding) : Type 0 where
+  pub rule : RingRule
+  pub breaks : RingBreaks rule placed
+  pub is : x ≡ finding_at rule source index number
+
+-- a ring that is no hole
+abbrev pub alone : Ring → Placed
+alone ring = record { ring = ring; border = None }
+
+-- a rule is broken by one of these rings of a feature, the first of which has this number
+pub record FindsFrom (source : File) (index first : ℕ) (list : List Placed) (x : Finding) : Type 0 where
+  pub place : ℕ
+  pub placed : Placed
+  pub there : slice_get list place ≡ Some placed
+  pub finds : FindsInRing source index (first + place) placed x
+
+-- a rule is broken by a ring of one of these shapes of a file
+pub record FindsInShapes (source : File) (shapes : List Shape) (x : Finding) : Type 0 where
+  pub place : ℕ
+  pub shape : Shape
+  pub there : slice_get shapes place ≡ Some shape
+  pub finds : FindsFrom source place 0 (placed_rings shape) x

@@ -1,0 +1,155 @@
+//! What has positions.
+
+ghost use Rattle.std.specs.Prelude.{List, flat_map};
+ghost use Rattle.venue_types.specs.declared.point.Point.{Point};
+ghost use Rattle.ring_rules.specs.Bounds.{AreBounds};
+
+use crate::bounds::Bounds;
+use venue_types::{
+    AmenityRow, AnchorRow, FixtureRow, FootprintRow, LevelRow, List, OpeningRow, Part, Point, Ring,
+    Shape, UnitRow, VenueRow,
+};
+
+/// What has positions.
+pub(crate) trait Positioned {
+    /// Its positions.
+    ghost positions: { Self → List Point };
+
+    /// The bounds of its positions.
+    fn bounds(&self) -> Bounds
+        ensures { AreBounds (positions self.now) result };
+}
+
+/// The bounds of the positions of all items.
+pub(crate) fn bounds_of<T: Positioned>(items: &List<T>) -> Bounds
+    ensures { AreBounds (flat_map T.positions items.now) result }
+{
+    bounds_in(items.as_slice())
+}
+
+// The same of a slice.
+fn bounds_in<T: Positioned>(items: &[T]) -> Bounds
+    ensures { AreBounds (flat_map T.positions items.now) result }
+{
+    let mut bounds = Bounds::none();
+    for item in items {
+        bounds = bounds.join(item.bounds());
+    }
+    bounds
+}
+
+impl Positioned for Point {
+    ghost use Rattle.std.specs.Prelude.{[], ◌∷◌};
+
+    ghost positions = { λ p. p ∷ [] };
+
+    fn bounds(&self) -> Bounds {
+        Bounds::of(*self)
+    }
+}
+
+impl Positioned for Ring {
+    ghost positions = { λ ring. ring.points };
+
+    fn bounds(&self) -> Bounds {
+        bounds_of(&self.points)
+    }
+}
+
+impl Positioned for Part {
+    ghost use Rattle.plane_exact.specs.Figure.{part_points};
+
+    ghost positions = { part_points };
+
+    fn bounds(&self) -> Bounds {
+        self.outer.bounds().join(bounds_of(&self.holes))
+    }
+}
+
+impl Positioned for Shape {
+    ghost use Rattle.plane_exact.specs.Figure.{vertices};
+
+    ghost positions = { vertices };
+
+    fn bounds(&self) -> Bounds {
+        bounds_of(&self.parts)
+    }
+}
+
+impl Positioned for AmenityRow {
+    ghost use Rattle.std.specs.Prelude.{[], ◌∷◌};
+
+    ghost positions = { λ row. row.point ∷ [] };
+
+    fn bounds(&self) -> Bounds {
+        self.point.bounds()
+    }
+}
+
+impl Positioned for AnchorRow {
+    ghost use Rattle.std.specs.Prelude.{[], ◌∷◌};
+
+    ghost positions = { λ row. row.point ∷ [] };
+
+    fn bounds(&self) -> Bounds {
+        self.point.bounds()
+    }
+}
+
+impl Positioned for OpeningRow {
+    ghost positions = { λ row. row.line.points };
+
+    fn bounds(&self) -> Bounds {
+        bounds_of(&self.line.points)
+    }
+}
+
+impl Positioned for FixtureRow {
+    ghost use Rattle.plane_exact.specs.Figure.{vertices};
+
+    ghost positions = { λ row. vertices row.shape };
+
+    fn bounds(&self) -> Bounds {
+        self.shape.bounds()
+    }
+}
+
+impl Positioned for FootprintRow {
+    ghost use Rattle.plane_exact.specs.Figure.{vertices};
+
+    ghost positions = { λ row. vertices row.shape };
+
+    fn bounds(&self) -> Bounds {
+        self.shape.bounds()
+    }
+}
+
+impl Positioned for LevelRow {
+    ghost use Rattle.plane_exact.specs.Figure.{vertices};
+
+    ghost positions = { λ row. vertices row.shape };
+
+    fn bounds(&self) -> Bounds {
+        self.shape.bounds()
+    }
+}
+
+impl Positioned for UnitRow {
+    ghost use Rattle.plane_exact.specs.Figure.{vertices};
+
+    ghost positions = { λ row. vertices row.shape };
+
+    fn bounds(&self) -> Bounds {
+        self.shape.bounds()
+    }
+}
+
+impl Positioned for VenueRow {
+    ghost use Rattle.plane_exact.specs.Figure.{vertices};
+
+    ghost positions = { λ row. vertices row.shape };
+
+    fn bounds(&self) -> Bounds {
+        self.shape.bounds()
+    }
+}

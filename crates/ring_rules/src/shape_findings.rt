@@ -1,0 +1,118 @@
+//! The rings of one shape.
+
+ghost use Rattle.std.specs.Prelude.{◌≡◌, ◌+◌, ◌∷◌, [], OnOk, IfOk, length, map, flat_map};
+ghost use Rattle.plane_exact.specs.Figure.{rings, rings_of};
+ghost use Rattle.report_laws.specs.Passes.{Adds};
+ghost use Rattle.ring_rules.specs.Rings.{as_hole, placed_in, placed_rings};
+ghost use Rattle.ring_rules.specs.Judged.{AreFit};
+ghost use Rattle.ring_rules.specs.Findings.{FindsInRing, FindsFrom, alone};
+
+use crate::area::has_no_area;
+use crate::crossings::crosses_itself;
+use crate::holes::leaves_border;
+use crate::place::Place;
+use crate::rules::RingRule;
+use report_laws::add;
+use venue_types::{Finding, OutOfMemory, Part, Ring, Shape};
+
+// The number after this one. No feature that fits into memory has a ring whose number fits no `u32`.
+fn next(number: u32) -> Result<u32, OutOfMemory>
+    ensures { IfOk result (λ n. n ≡ number + 1) }
+{
+    match number.checked_add(1) {
+        Some(next) => Ok(next),
+        None => Err(OutOfMemory),
+    }
+}
+
+// What is wrong with a ring, be it a hole or not.
+fn add_ring(
+    findings: &mut Vec<Finding>,
+    place: Place,
+    number: u32,
+    ring: &Ring,
+) -> Result<(), OutOfMemory>
+    requires { AreFit (ring.now ∷ []) }
+    ensures { OnOk result (Adds (FindsInRing place.file place.index number (alone ring.now)) findings.old.items findings.new.items) }
+{
+    let crosses = crosses_itself(ring);
+    add(findings, crosses, place.finding(RingRule::G3, number))?;
+    let flat = has_no_area(ring);
+    add(findings, flat, place.finding(RingRule::G5, number))
+}
+
+// What is wrong with a hole.
+fn add_hole(
+    findings: &mut Vec<Finding>,
+    place: Place,
+    number: u32,
+    hole: &Ring,
+    border: &Ring,
+) -> Result<(), OutOfMemory>
+    requires { AreFit (border.now ∷ hole.now ∷ []) }
+    ensures { OnOk result (Adds (FindsInRing place.file place.index number (as_hole border.now hole.now)) findings.old.items findings.new.items) }
+{
+    let leaves = leaves_border(hole, border);
+    add(findings, leaves, place.finding(RingRule::G4, number))?;
+    add_ring(findings, place, number, hole)
+}
+
+// What is wrong with holes, of which the first has this number; the number after theirs.
+fn add_holes(
+    findings: &mut Vec<Finding>,
+    place: Place,
+    first: u32,
+    holes: &[Ring],
+    border: &Ring,
+) -> Result<u32, OutOfMemory>
+    requires { AreFit (border.now ∷ holes.now) }
+    ensures adds { OnOk result (Adds (FindsFrom place.file place.index first (map (as_hole border.now) holes.now)) findings.old.items findings.new.items) }
+    ensures next { IfOk result (λ n. n ≡ first + length holes.now) }
+{
+    let mut number = first;
+    for hole in holes {
+        add_hole(findings, place, number, hole, border)?;
+        number = next(number)?;
+    }
+    Ok(number)
+}
+
+// What is wrong with a polygon whose border has this number; the number after its rings'.
+fn add_part(
+    findings: &mut Vec<Finding>,
+    place: Place,
+    first: u32,
+    part: &Part,
+) -> Result<u32, OutOfMemory>
+    requires { AreFit (rings_of part.now) }
+    ensures adds { OnOk result (Adds (FindsFrom place.file place.index first (placed_in part.now)) findings.old.items findings.new.items) }
+    ensures next { IfOk result (λ n. n ≡ first + length (placed_in part.now)) }
+{
+    add_ring(findings, place, first, &part.outer)?;
+    let hole = next(first)?;
+    add_holes(findings, place, hole, part.holes.as_slice(), &part.outer)
+}
+
+// What is wrong with polygons.
+fn add_parts(findings: &mut Vec<Finding>, place: Place, parts: &[Part]) -> Result<(), OutOfMemory>
+    requires { AreFit (flat_map rings_of parts.now) }
+    ensures { OnOk result (Adds (FindsFrom place.file place.index 0 (flat_map placed_in parts.now)) findings.old.items findings.new.items) }
+{
+    let mut number = 0;
+    for part in parts {
+        number = add_part(findings, place, number, part)?;
+    }
+    Ok(())
+}
+
+/// What is wrong with the rings of a shape.
+pub(crate) fn add_shape(
+    findings: &mut Vec<Finding>,
+    place: Place,
+    shape: &Shape,
+) -> Result<(), OutOfMemory>
+    requires { AreFit (rings shape.now) }
+    ensures { OnOk result (Adds (FindsFrom place.file place.index 0 (placed_rings shape.now)) findings.old.items findings.new.items) }
+{
+    add_parts(findings, place, shape.parts.as_slice())
+}

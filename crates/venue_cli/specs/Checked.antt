@@ -1,0 +1,75 @@
+-- What `check BASE FOLDER` prints.
+use Rattle.std.specs.Prelude.{◌≡◌, ℕ, ◌+◌, ◌<◌, ◌≤◌, List, ◌++◌, length, map, take, Option, Some, None, Ok, Err, codes}
+use Rattle.venue_types.specs.declared.files.Files.{Files}
+use Rattle.venue_types.specs.declared.files.Slot.{Slot}
+use Rattle.venue_types.specs.declared.files.Slot.TheVariants as slot
+use Rattle.venue_types.specs.declared.finding.Report.{Report}
+use Rattle.venue_types.specs.declared.settings.Settings.{Settings}
+use Rattle.venue_ports.specs.Files.{StoredFile, file_at}
+use Rattle.text_forms.specs.Lines.{line}
+use Rattle.venue_settings.specs.declared.fault.SettingsFault.{SettingsFault}
+use Rattle.venue_settings.specs.declared.fault.SettingsFault.TheVariants as fault
+use Rattle.venue_settings.specs.Settings.{IsSettingsOf}
+use Rattle.sound_rows.specs.Rows.{feature_count}
+use Rattle.venue_build.specs.declared.venue.Venue.{Venue}
+use Rattle.venue_build.specs.Built.{IsRejected, IsVenueOf}
+use Rattle.check_text.specs.Names.{file_names}
+use Rattle.check_text.specs.Text.{rejected_text, accepted_text}
+use Rattle.venue_cli.specs.declared.status.Status.{Status}
+use Rattle.venue_cli.specs.declared.status.Status.TheVariants.{Done, Negative, Wrong}
+use Rattle.venue_cli.specs.Files.{Reads}
+
+abbrev pub settings_name : List ℕ
+settings_name = codes "venue.toml"
+
+abbrev pub settings_limit : ℕ
+settings_limit = 1048576
+
+-- the text of these settings
+abbrev pub SettingsForm : List ℕ → Settings → Type 0
+SettingsForm text settings = IsSettingsOf text (Ok settings)
+
+-- the line of a fault; want of memory has none
+abbrev pub IsFaultText : SettingsFault → List ℕ → Type 0
+IsFaultText fault.NotToml text = text ≡ line (codes "settings 1")
+IsFaultText (fault.Missing key) text = text ≡ line (codes "settings 2 " ++ key)
+IsFaultText (fault.WrongKind key) text = text ≡ line (codes "settings 3 " ++ key)
+IsFaultText (fault.Range key) text = text ≡ line (codes "settings 4 " ++ key)
+IsFaultText (fault.Unknown key) text = text ≡ line (codes "settings 5 " ++ key)
+IsFaultText (fault.Twice name) text = text ≡ line (codes "settings 6 " ++ name)
+IsFaultText fault.OutOfMemory text = ⊥
+
+-- what is printed where the settings stop the command: they are not there, over their limit, or have a first fault
+pub data NoSettings (found : Option (List ℕ)) : List ℕ → Type 0 where
+  missing : found ≡ None → NoSettings found (line (codes "missing " ++ settings_name))
+  large : (bytes : List ℕ) → found ≡ Some bytes → settings_limit < length bytes → NoSettings found (line (codes "large " ++ settings_name))
+  unfit : {text : List ℕ} (bytes : List ℕ) (why : SettingsFault) → found ≡ Some bytes → length bytes ≤ settings_limit → IsSettingsOf bytes (Err why) → IsFaultText why text
+      → NoSettings found text
+
+-- how many bytes a folder's file has at most
+abbrev pub file_limit : ℕ
+file_limit = 33554432
+
+-- the path of a folder of the base
+abbrev pub folder_path : List ℕ → List ℕ → List ℕ
+folder_path base folder = base ++ (codes "/" ++ folder)
+
+-- a folder's file, cut one byte after its limit, which shows that it is larger
+abbrev pub slot_of : Option (List ℕ) → Slot
+slot_of None = slot.Absent
+slot_of (Some bytes) = slot.Held (take (file_limit + 1) bytes)
+
+-- the seventeen files of a folder, in the order of their numbers
+abbrev pub folder_files : List StoredFile → List ℕ → Files
+folder_files files path = record { slots = map (λ name. slot_of (file_at files path name)) file_names }
+
+-- what is printed of a folder under settings: its report, or the number of its features and what is worth a note
+pub data FolderOutput (files : Files) (settings : Settings) : List ℕ → Status → Type 0 where
+  rejected : (report : Report) → IsRejected files settings report → FolderOutput files settings (rejected_text report) Negative
+  accepted : (venue : Venue) → IsVenueOf files settings venue → FolderOutput files settings (accepted_text (feature_count venue.features) venue.notes) Done
+
+-- `check BASE FOLDER`: the settings are judged before the folder is
+pub data CheckOutput (files : List StoredFile) (base folder : List ℕ) : List ℕ → Status → Type 0 where
+  no_settings : {text : List ℕ} → NoSettings (file_at files base settings_name) text → CheckOutput files base folder text Wrong
+  checked : {text : List ℕ} {status : Status} (settings : Settings) → Reads SettingsForm settings_limit (file_at files base settings_name) settings
+      → FolderOutput (folder_files files (folder_path base folder)) settings text status → CheckOutput files base folder text status
