@@ -1,7 +1,7 @@
-"""Runs each command some times, in turns, and prints its least time and its peak memory.
+"""Runs each command some times, in turns, and prints its least time, its peak memory and its least processor time.
 
 usage: measure.py ROUNDS NAME COMMAND [NAME COMMAND ..]   (a COMMAND is one word for the shell)
-The last line is the ratio of the first command's time to the second's.
+The last line is the ratio of the first command's time to the second's, then that of their processor times.
 """
 import os
 import subprocess
@@ -15,24 +15,27 @@ def run(command):
     _, status, usage = os.wait4(child.pid, 0)
     if os.waitstatus_to_exitcode(status) not in (0, 1):
         sys.exit(f"{command}: status {os.waitstatus_to_exitcode(status)}")
-    return time.monotonic() - begin, usage.ru_maxrss / 1024
+    return time.monotonic() - begin, usage.ru_maxrss / 1024, usage.ru_utime + usage.ru_stime
 
 
 def main():
     rounds = int(sys.argv[1])
     commands = list(zip(sys.argv[2::2], sys.argv[3::2]))
     times = {name: [] for name, _ in commands}
+    busy = {name: [] for name, _ in commands}
     peaks = {name: 0.0 for name, _ in commands}
     for _ in range(rounds):
         for name, command in commands:
-            seconds, peak = run(command)
+            seconds, peak, processor = run(command)
             times[name].append(seconds)
+            busy[name].append(processor)
             peaks[name] = max(peaks[name], peak)
     for name, _ in commands:
-        print(f"{name}: {min(times[name]):.3f} s, peak {peaks[name]:.0f} MiB")
+        print(f"{name}: {min(times[name]):.3f} s, peak {peaks[name]:.0f} MiB, processor {min(busy[name]):.3f} s")
     if len(commands) > 1:
         first, second = commands[0][0], commands[1][0]
-        print(f"ratio {first} / {second}: {min(times[first]) / min(times[second]):.2f}")
+        ratio, of_busy = (min(kept[first]) / min(kept[second]) for kept in (times, busy))
+        print(f"ratio {first} / {second}: {ratio:.2f}, processor {of_busy:.2f}")
 
 
 main()
