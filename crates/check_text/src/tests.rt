@@ -7,13 +7,10 @@ use venue_types::{Finding, List, Note, Report};
 
 // How many lines a text has.
 fn lines(text: &str) -> usize {
-    let mut count = 0;
-    for byte in text.as_bytes() {
-        if *byte == b'\n' {
-            count += 1;
-        }
-    }
-    count
+    text.as_bytes()
+        .iter()
+        .filter(|byte| **byte == b'\n')
+        .count()
 }
 
 #[test]

@@ -298,9 +298,17 @@ fn commands_answer(rt: HostRuntime) -> Result<(), Fail> {
         },
     ] {
         let mut console = console(&rt, alloc, 100, 0)?;
-        let words = [case.command, "base", "station"];
-        let count = if case.command == "check" { 3 } else { 2 };
-        let status = ends(&rt, alloc, &words[..count], case, &mut console)?;
+        let status = if case.command == "check" {
+            ends(
+                &rt,
+                alloc,
+                &["check", "base", "station"],
+                case,
+                &mut console,
+            )?
+        } else {
+            ends(&rt, alloc, &[case.command, "base"], case, &mut console)?
+        };
         assert_eq!(rt;
             console.written(),
             case.text.as_bytes(),

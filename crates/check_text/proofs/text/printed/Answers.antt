@@ -1,4 +1,4 @@
-use Rattle.std.proofs.Common.{ℕ, ◌≡◌, ◌∙◌, ap, take}
+use Rattle.std.proofs.Common.{ℕ, ◌∙◌, ap, take}
 use Rattle.std.proofs.lemmas.List.{take_min}
 use Rattle.check_text.proofs.text.printed.Goals as goal
 
