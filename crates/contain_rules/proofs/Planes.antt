@@ -29,7 +29,7 @@ pub spread_report : (features : Features) (tolerance : ℕ) (findings : List Fin
 spread_report features tolerance findings spread all =
     Lists-same finding_cmp (Contains (spread_finding ∷ [])) (IsPlaneBroken features tolerance) findings
     (λ x has. let e = one_there spread_finding x has in
-        inl (subst (λ (y : Finding). BreaksSpread features y) e (record { spread = spread; rule = refl; in_file = refl; at_index = refl; at_member = refl })))
+    inl (subst (λ (y : Finding). BreaksSpread features y) e (record { spread = spread; rule = refl; in_file = refl; at_index = refl; at_member = refl })))
     (λ x broken. elim broken [
       | inl b ↦ subst (λ (y : Finding). Contains (spread_finding ∷ []) y) (same_finding x b.rule b.in_file b.at_index b.at_member) (Contains-first spread_finding [])
       | inr later ↦ absurd (later.0 spread_finding (record { spread = spread; rule = refl; in_file = refl; at_index = refl; at_member = refl }))
@@ -42,10 +42,13 @@ pub misplaced_report : (features : Features) (tolerance : ℕ) (gathered rings f
     → IsReport (Contains gathered) findings → IsReport (IsPlaneBroken features tolerance) findings
 misplaced_report features tolerance gathered rings findings not_spread first second all =
     Lists-same finding_cmp (Contains gathered) (IsPlaneBroken features tolerance) findings
-    (λ x has. inr ((λ y b. not_spread b.spread), elim (second.only x has) [
-      | inl before ↦ elim (first.only x before) [ inl nil ↦ absurd (Contains-nil x nil) | inr in_ring ↦ inl in_ring ]
-      | inr hold ↦ inr hold
-    ]))
+    (λ x has. inr (
+      (λ y b. not_spread b.spread),
+      elim (second.only x has) [
+        | inl before ↦ elim (first.only x before) [ inl nil ↦ absurd (Contains-nil x nil) | inr in_ring ↦ inl in_ring ]
+        | inr hold ↦ inr hold
+      ],
+    ))
     (λ x broken. elim broken [
       | inl b ↦ absurd (not_spread b.spread)
       | inr later ↦ elim later.1 [ inl in_ring ↦ second.kept x (first.whole x in_ring) | inr hold ↦ second.whole x hold ]

@@ -18,12 +18,15 @@ module _ (features : Features) (none : (x : Finding) → ¬ IsMisnamed features 
       none (record { rule = 23; file = file_number f; index = k; member = 0 }) (record {
         rule = C7;
         number = refl;
-        breaks = inl (refl, record {
-          source = f;
-          repeats = record { id = id; here = here; source = g; place = j; there = there; earlier = earlier };
-          in_file = refl;
-          at_member = refl;
-        });
+        breaks = inl (
+          refl,
+          record {
+            source = f;
+            repeats = record { id = id; here = here; source = g; place = j; there = there; earlier = earlier };
+            in_file = refl;
+            at_member = refl;
+          },
+        );
       })
 
   same_file : (f g : File) (k j : ℕ) (id : FeatureId) → IsFeature features f k id → IsFeature features g j id → f ≡ g
