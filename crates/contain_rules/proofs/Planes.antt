@@ -1,17 +1,17 @@
 -- The findings of the two phases on the plane.
-use Rattle.std.proofs.Common.{◌≡◌, ℕ, List, [], ◌∷◌, ◌++◌, true, refl, sym, subst, arith, ◌⊎◌, inl, inr}
+use Rattle.std.proofs.Common.{◌≡◌, ℕ, List, [], ◌∷◌, true, refl, subst, arith, inl, inr}
 use Rattle.std.specs.Prelude.{Contains}
 use Rattle.venue_types.specs.declared.features.Features.{Features}
 use Rattle.venue_types.specs.declared.finding.Finding.{Finding}
 use Rattle.report_laws.specs.Passes.{Adds}
-use Rattle.report_laws.specs.Reports.{IsReport, First}
+use Rattle.report_laws.specs.Reports.{IsReport}
 use Rattle.report_laws.specs.Order.{finding_cmp}
 use Rattle.report_laws.proofs.Members.{Contains-nil, Contains-first}
 use Rattle.report_laws.proofs.Passes.{Contains-found}
 use Rattle.report_laws.proofs.Phases.{Lists-same}
 use Rattle.ring_rules.specs.Rules.{IsSpread, BreaksSpread, BreaksInRing}
 use Rattle.contain_rules.specs.Rules.{BreaksHold}
-use Rattle.contain_rules.specs.Phases.{IsPlaneBroken, IsMisplaced}
+use Rattle.contain_rules.specs.Phases.{IsPlaneBroken}
 
 abbrev pub spread_finding : Finding
 spread_finding = record { rule = 26; file = 0; index = 0; member = 0 }
