@@ -1,5 +1,5 @@
 -- From what a read finds to a file's place in a folder.
-use Rattle.std.proofs.Common.{◌≡◌, ◌≤◌, ℕ, List, [], ◌∷◌, Option, Some, None, Ok, Bor, refl, sym, ap, subst, ◌∙◌, map, take, length}
+use Rattle.std.proofs.Common.{◌≡◌, ◌≤◌, ℕ, List, [], ◌∷◌, Option, Some, None, Ok, Bor, refl, ap, subst, ◌∙◌, map, take, length}
 use Rattle.std.proofs.lemmas.List.{take_all}
 use Rattle.std.specs.Prelude.{IfSome, Vec}
 use Rattle.std.specs.Option.{option_map}

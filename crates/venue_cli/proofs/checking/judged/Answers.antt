@@ -1,6 +1,5 @@
-use Rattle.std.proofs.Common.{◌≡◌, List, ℕ, sym, subst}
 use Rattle.std.specs.Prelude.{string_bytes}
-use Rattle.venue_build.specs.Built.{IsBuilt, IsRejected, IsVenueOf}
+use Rattle.venue_build.specs.Built.{IsRejected, IsVenueOf}
 use Rattle.venue_cli.proofs.CheckJudging.{rejects, accepts}
 use Rattle.venue_cli.proofs.checking.judged.Goals as goal
 

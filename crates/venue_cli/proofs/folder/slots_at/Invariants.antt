@@ -1,4 +1,4 @@
-use Rattle.std.proofs.Common.{◌≡◌, ◌≤◌, ℕ, map, take, length}
+use Rattle.std.proofs.Common.{◌≡◌, ◌≤◌, map, take, length}
 use Rattle.std.specs.Prelude.{IfSome}
 use Rattle.venue_ports.specs.Files.{file_at}
 use Rattle.venue_cli.specs.Checked.{slot_of}
