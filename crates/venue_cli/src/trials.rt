@@ -1,5 +1,6 @@
 //! Trials of `check`: each row is a name, what is changed in the station, and what is then printed.
 
+mod accepted_rows;
 mod bulk_rows;
 mod feature_rows;
 mod figure_rows;
@@ -12,10 +13,10 @@ mod program;
 mod property_rows;
 mod reference_rows;
 mod ring_rows;
-mod sound_rows;
 mod station;
 mod stop_rows;
 
+use accepted_rows::{HIGH, SOUND};
 use bulk_rows::{BYTES, BulkRow, COUNTS, LONG, LongRow, POSITIONS};
 use feature_rows::FEATURES;
 use figure_rows::FIGURES;
@@ -26,7 +27,6 @@ use program::ending;
 use property_rows::{REFERENCE_FORMS, VALUE_FORMS};
 use reference_rows::{IDENTIFIERS, REFERENCES, Reference};
 use ring_rows::RINGS;
-use sound_rows::{HIGH, SOUND};
 use std::alloc::{AllocError, Global};
 use std::process::Abort;
 use std::test::Fail;
