@@ -16,7 +16,7 @@ use Rattle.venue_types.specs.declared.features.LevelRow.{LevelRow}
 use Rattle.venue_types.specs.declared.features.UnitRow.{UnitRow}
 use Rattle.imdf_forms.specs.declared.files.File.TheVariants as file
 use Rattle.sound_rows.specs.Rows.{ids_of, HaveOwnIds}
-use Rattle.contain_rules.specs.Rules.{IsLevel, IsUnit}
+use Rattle.sound_rows.specs.Named.{IsLevel, IsUnit}
 use Rattle.contain_rules.specs.Indexes.{AreOnce, IsIndex, place_of}
 use Rattle.contain_rules.specs.Judging.{IsTheLevel, IsTheUnit}
 use Rattle.contain_rules.specs.declared.index.Index.{Index}

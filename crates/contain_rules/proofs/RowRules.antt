@@ -9,7 +9,8 @@ use Rattle.venue_types.specs.declared.features.OpeningRow.{OpeningRow}
 use Rattle.venue_types.specs.declared.features.UnitRow.{UnitRow}
 use Rattle.venue_types.specs.declared.point.Point.{Point}
 use Rattle.plane_exact.specs.Figure.{vertices}
-use Rattle.contain_rules.specs.Rules.{IsHeld, IsLevel, IsUnit, UnitLeaves, AnchorLeaves, AmenityLeaves, OpeningLeaves}
+use Rattle.sound_rows.specs.Named.{IsLevel, IsUnit}
+use Rattle.contain_rules.specs.Rules.{IsHeld, UnitLeaves, AnchorLeaves, AmenityLeaves, OpeningLeaves}
 use Rattle.contain_rules.specs.Judging.{IsTheLevel, IsTheUnit, SomeLeaves, UnitHolds, OneHolds}
 use Rattle.contain_rules.proofs.Lists.{any_item, item_any}
 

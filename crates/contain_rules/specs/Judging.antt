@@ -13,7 +13,8 @@ use Rattle.plane_exact.specs.Figure.{AllClose, vertices}
 use Rattle.contain_rules.specs.declared.rules.HoldRule.{HoldRule}
 use Rattle.contain_rules.specs.declared.index.Holders.{Holders}
 use Rattle.contain_rules.specs.Indexes.{AreHolders}
-use Rattle.contain_rules.specs.Rules.{IsHeld, IsLevel, IsUnit, HoldBreaks, hold_rule_number, file_judged}
+use Rattle.sound_rows.specs.Named.{IsLevel, IsUnit}
+use Rattle.contain_rules.specs.Rules.{IsHeld, HoldBreaks, hold_rule_number, file_judged}
 
 -- each of the positions is close to the shape
 pub record AreBeside (shape : Shape) (points : List Point) : Type 0 where

@@ -14,22 +14,13 @@ use Rattle.imdf_forms.specs.declared.files.File.{File}
 use Rattle.imdf_forms.specs.declared.files.File.TheVariants as file
 use Rattle.imdf_forms.specs.Files.{file_number}
 use Rattle.plane_exact.specs.Figure.{IsInside, IsNear, vertices}
+use Rattle.sound_rows.specs.Named.{IsLevel, IsUnit}
 use Rattle.contain_rules.specs.declared.rules.HoldRule.{HoldRule}
 use Rattle.contain_rules.specs.declared.rules.HoldRule.TheVariants.{K1, K2, K3, K4}
 
 -- the position is inside the shape, or near its border, within the tolerance
 abbrev pub IsHeld : ℕ → Shape → Point → Type 0
 IsHeld tolerance shape p = IsInside p shape ⊎ IsNear p shape tolerance
-
--- a level of the folder, by its identifier
-pub record IsLevel (features : Features) (id : FeatureId) (level : LevelRow) : Type 0 where
-  pub has : Contains features.levels level
-  pub named : level.id ≡ id
-
--- a unit of the folder, by its identifier
-pub record IsUnit (features : Features) (id : FeatureId) (unit : UnitRow) : Type 0 where
-  pub has : Contains features.units unit
-  pub named : unit.id ≡ id
 
 abbrev pub hold_rule_number : HoldRule → ℕ
 hold_rule_number K1 = 30

@@ -3,7 +3,8 @@
 ghost use Rattle.std.specs.Prelude.{◌≡◌, ◌↔◌, IsTrue, MatchOption, Any, Contains};
 ghost use Rattle.venue_types.specs.declared.features.LevelRow.{LevelRow as ALevelRow};
 ghost use Rattle.venue_types.specs.declared.features.UnitRow.{UnitRow as AUnitRow};
-ghost use Rattle.contain_rules.specs.Rules.{IsLevel, IsUnit, UnitLeaves, AnchorLeaves, AmenityLeaves, OpeningLeaves};
+ghost use Rattle.sound_rows.specs.Named.{IsLevel, IsUnit};
+ghost use Rattle.contain_rules.specs.Rules.{UnitLeaves, AnchorLeaves, AmenityLeaves, OpeningLeaves};
 ghost use Rattle.contain_rules.specs.Frames.{IsFramed};
 ghost use Rattle.contain_rules.specs.Indexes.{AreHolders};
 ghost use Rattle.contain_rules.specs.Judging.{CanJudge, IsTheLevel, IsTheUnit, UnitHolds, OneHolds};

@@ -1,3 +1,4 @@
 pub mod Rows
+pub mod Named
 pub mod Figures
 pub mod Sound
