@@ -67,5 +67,5 @@ module _ (files : Files) (settings : Settings) (readings : (one other : Features
   one_venue one other first second =
       let rows = readings one.features other.features first.first first.rows second.rows in
       let notes = one_list note_cmp notes_total (IsVenueNoted files other.features settings) one.notes other.notes
-          (subst (λ (f : Features). IsNoteList (IsVenueNoted files f settings) one.notes) rows first.notes) second.notes in
+      (subst (λ (f : Features). IsNoteList (IsVenueNoted files f settings) one.notes) rows first.notes) second.notes in
       same_venue one other rows (first.settings_given ∙ sym second.settings_given) notes

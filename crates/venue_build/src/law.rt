@@ -17,8 +17,7 @@ use sound_reading::one_reading;
 pub fn every_venue(venue: &Venue)
     ensures sound { AreSound venue.now.features }
     ensures silent { (x : Finding) → ¬ IsLaterBroken venue.now.features venue.now.settings x }
-{
-}
+{}
 
 /// Under the same settings no folder is both rejected and a venue, it is rejected with one report, and it makes one venue.
 pub fn one_outcome()

@@ -74,7 +74,7 @@ pub struct Settings {
     pub extras: Extras,
     /// The greatest number of a version, at least 1.
     pub last_version: u32,
-    /// At most 64, each 8 to 128 bytes from 0x21 to 0x7E, as the reader of settings makes them, and no type keeps it.
+    /// At most 64. The reader of settings makes each of 8 to 128 bytes from 0x21 to 0x7E, which no type keeps.
     pub staff_keys: List<Text>,
     /// 1 to 16. That the two built-in ones come first is kept by the reader of settings.
     pub profiles: List<Profile>,
@@ -85,6 +85,7 @@ pub struct Settings {
     pub ghost border_range: { border_tol ≤ 100000 },
     pub ghost contain_range: { contain_tol ≤ 1000000 },
     pub ghost version_some: { 1 ≤ last_version },
+    pub ghost staff_range: { length staff_keys ≤ 64 },
     pub ghost profiles_some: { 1 ≤ length profiles },
     pub ghost profiles_range: { length profiles ≤ 16 },
 }
