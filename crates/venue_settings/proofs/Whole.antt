@@ -4,7 +4,7 @@ use Rattle.std.proofs.lemmas.Bool.Decides.{nat_tests}
 use Rattle.std.proofs.lemmas.List.{length-map}
 use Rattle.std.specs.List.{cons_option, filter_map}
 use Rattle.imdf_access.specs.Profiles.{built_in_profiles}
-use Rattle.toml.specs.Data.{Data, Items, Members, as_array, as_str, as_table, get_member, string, integer, float, boolean, datetime, array, table}
+use Rattle.toml.specs.Data.{Data, Items, Members, as_array, as_str, as_table, get_member}
 use Rattle.venue_types.specs.declared.settings.Settings.{Settings}
 use Rattle.venue_settings.specs.declared.fault.SettingsFault.{SettingsFault}
 use Rattle.venue_settings.specs.declared.fault.SettingsFault.TheVariants as fault
