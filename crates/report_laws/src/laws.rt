@@ -1,6 +1,6 @@
 //! What fixes a report, and what the report of one phase after another is.
 
-ghost use Rattle.std.specs.Prelude.{◌≡◌, ◌≢◌, List, []};
+ghost use Rattle.std.specs.Prelude.{◌≡◌, ◌≢◌, ◌↔◌, List, []};
 ghost use Rattle.venue_types.specs.declared.finding.Finding.{Finding};
 ghost use Rattle.venue_types.specs.declared.finding.Note.{Note};
 ghost use Rattle.venue_types.specs.declared.finding.Report.{Report};
@@ -35,4 +35,16 @@ pub fn phase_after_phase<P: Phase, Q: Phase>()
 /// What is worth a note makes one list at most.
 pub fn one_list_of_notes<N: Noting>()
     ensures { (xs ys : List Note) → IsNoteList N.notes xs → IsNoteList N.notes ys → xs ≡ ys }
+{}
+
+/// Phases in which the same is broken share their report, and its first findings.
+pub fn shared_report<P: Phase, Q: Phase>()
+    ensures report { ((x : Finding) → P.breaks x ↔ Q.breaks x) → (findings : List Finding) → IsReport P.breaks findings → IsReport Q.breaks findings }
+    ensures short { ((x : Finding) → P.breaks x ↔ Q.breaks x) → (short : Report) → IsShortReport P.breaks short → IsShortReport Q.breaks short }
+{}
+
+/// What is worth a note by two predicates that agree on every place is one list.
+pub fn shared_notes<N: Noting, M: Noting>()
+    ensures list { ((x : Note) → N.notes x ↔ M.notes x) → (notes : List Note) → IsNoteList N.notes notes → IsNoteList M.notes notes }
+    ensures one { ((x : Note) → N.notes x ↔ M.notes x) → (xs ys : List Note) → IsNoteList N.notes xs → IsNoteList M.notes ys → xs ≡ ys }
 {}

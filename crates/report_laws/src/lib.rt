@@ -13,5 +13,8 @@ mod ordering;
 mod tests;
 
 pub use gathering::add;
-pub use laws::{Noting, Phase, one_list_of_notes, one_report, one_short_report, phase_after_phase};
+pub use laws::{
+    Noting, Phase, one_list_of_notes, one_report, one_short_report, phase_after_phase,
+    shared_notes, shared_report,
+};
 pub use ordering::{in_order, notes_in_order, shortened};

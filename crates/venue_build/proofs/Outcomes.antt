@@ -1,21 +1,22 @@
 -- A folder has one outcome, where its files have one reading.
-use Rattle.std.proofs.Common.{◌≡◌, ◌<◌, List, [], ◌∷◌, subst, sym, arith, inl, inr}
+use Rattle.std.proofs.Common.{◌≡◌, ◌<◌, List, [], ◌∷◌, subst, sym, ◌∙◌, arith, inl, inr}
 use Rattle.venue_types.specs.declared.files.Files.{Files}
 use Rattle.venue_types.specs.declared.features.Features.{Features}
 use Rattle.venue_types.specs.declared.settings.Settings.{Settings}
 use Rattle.venue_types.specs.declared.finding.Finding.{Finding}
 use Rattle.venue_types.specs.declared.finding.Report.{Report}
-use Rattle.report_laws.specs.Order.{finding_cmp}
-use Rattle.report_laws.specs.Reports.{IsReport, Shortens, IsShortReport}
+use Rattle.report_laws.specs.Order.{finding_cmp, note_cmp}
+use Rattle.report_laws.specs.Reports.{IsReport, IsNoteList, Shortens, IsShortReport}
 use Rattle.report_laws.proofs.Members.{Contains-first}
 use Rattle.report_laws.proofs.Phases.{Lists-same, same_short}
-use Rattle.report_laws.proofs.Orders.{findings_total}
+use Rattle.report_laws.proofs.Orders.{findings_total, notes_total}
 use Rattle.report_laws.proofs.Unique.{one_list}
 use Rattle.imdf_rows.specs.Folder.{AreFeatures}
 use Rattle.imdf_read.specs.Broken.{IsBroken}
-use Rattle.venue_build.specs.Report.{IsWrong, IsLaterBroken}
+use Rattle.venue_build.specs.Report.{IsWrong, IsLaterBroken, IsVenueNoted}
 use Rattle.venue_build.specs.Built.{IsRejected, IsVenueOf}
 use Rattle.venue_build.specs.declared.venue.Venue.{Venue}
+use Rattle.venue_build.proofs.Venues.{same_venue}
 
 -- a report that isn't empty has a first finding
 first_of : (P : Finding → Type 0) (findings : List Finding) (report : Report) → IsReport P findings → Shortens findings report → 0 < report.total → (x : Finding) × P x
@@ -61,3 +62,10 @@ module _ (files : Files) (settings : Settings) (readings : (one other : Features
             (λ y w. subst (λ (h : Features). IsWrong files h settings y) same w)
             (λ y w. subst (λ (h : Features). IsWrong files h settings y) (sym same) w) first.short second.short
       ]
+
+  pub one_venue : (one other : Venue) → IsVenueOf files settings one → IsVenueOf files settings other → one ≡ other
+  one_venue one other first second =
+      let rows = readings one.features other.features first.first first.rows second.rows in
+      let notes = one_list note_cmp notes_total (IsVenueNoted files other.features settings) one.notes other.notes
+      (subst (λ (f : Features). IsNoteList (IsVenueNoted files f settings) one.notes) rows first.notes) second.notes in
+      same_venue one other rows (first.settings_given ∙ sym second.settings_given) notes

@@ -1,6 +1,6 @@
 -- What one phase after another makes of a folder.
 use Rattle.std.proofs.lemmas.Bool.{both_ways}
-use Rattle.std.proofs.Common.{◌≡◌, ◌≢◌, ℕ, ◌<◌, List, [], ◌∷◌, Bool, false, IsTrue, ◌↔◌, length, refl, sym, subst, arith}
+use Rattle.std.proofs.Common.{◌≡◌, ◌≢◌, ℕ, ◌<◌, List, [], ◌∷◌, Bool, false, IsTrue, ◌↔◌, length, refl, sym, subst, inl, inr, arith}
 use Rattle.std.specs.Prelude.{Contains}
 use Rattle.venue_types.specs.declared.files.Files.{Files}
 use Rattle.venue_types.specs.declared.features.Features.{Features}
@@ -8,7 +8,7 @@ use Rattle.venue_types.specs.declared.settings.Settings.{Settings}
 use Rattle.venue_types.specs.declared.finding.Finding.{Finding}
 use Rattle.venue_types.specs.declared.finding.Report.{Report}
 use Rattle.report_laws.specs.Order.{finding_cmp}
-use Rattle.report_laws.specs.Reports.{IsReport, Shortens}
+use Rattle.report_laws.specs.Reports.{IsReport, First, Shortens}
 use Rattle.report_laws.proofs.Members.{Contains-nil, Contains-first}
 use Rattle.report_laws.proofs.Phases.{First-stops, First-goes_on}
 use Rattle.imdf_rows.specs.Folder.{AreFeatures}
@@ -65,3 +65,10 @@ not_empty b xs same is e = both_ways b is (same.1 e)
 
 pub empty : {A : Type 0} (b : Bool) (xs : List A) → (IsTrue b ↔ (xs ≡ [])) → IsTrue b → xs ≡ []
 empty b xs same is = same.0 is
+
+-- where two phases find nothing, neither does
+pub first_silent : {A : Type 0} (P Q : A → Type 0) → ((x : A) → ¬ First P Q x) → (x : A) → ¬ P x
+first_silent P Q none x here = none x (inl here)
+
+pub second_silent : {A : Type 0} (P Q : A → Type 0) → ((x : A) → ¬ First P Q x) → (x : A) → ¬ Q x
+second_silent P Q none x later = none x (inr (first_silent P Q none, later))

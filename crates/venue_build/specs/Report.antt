@@ -3,9 +3,11 @@ use Rattle.venue_types.specs.declared.files.Files.{Files}
 use Rattle.venue_types.specs.declared.features.Features.{Features}
 use Rattle.venue_types.specs.declared.settings.Settings.{Settings}
 use Rattle.venue_types.specs.declared.finding.Finding.{Finding}
+use Rattle.venue_types.specs.declared.finding.Note.{Note}
 use Rattle.report_laws.specs.Reports.{First}
 use Rattle.sound_rows.specs.Sound.{AreSound}
 use Rattle.imdf_read.specs.Broken.{IsBroken}
+use Rattle.imdf_read.specs.Noted.{IsNoted}
 use Rattle.imdf_refs.specs.Rules.{IsMisnamed}
 use Rattle.contain_rules.specs.Phases.{IsPlaneBroken}
 
@@ -16,6 +18,10 @@ IsLaterBroken features settings = First (IsMisnamed features) (IsPlaneBroken fea
 -- all phases: one is judged only where those before it find nothing
 abbrev pub IsWrong : Files → Features → Settings → Finding → Type 0
 IsWrong files features settings = First (IsBroken files) (IsLaterBroken features settings)
+
+-- what is worth a note in a venue: today what is noted of its files
+abbrev pub IsVenueNoted : Files → Features → Settings → Note → Type 0
+IsVenueNoted files features settings = IsNoted files
 
 -- rows that every phase accepts
 pub record AreValid (features : Features) (settings : Settings) : Type 0 where

@@ -54,5 +54,6 @@ pub fn build(alloc: Global, files: &Files, settings: &Settings) -> Result<Built,
     if !later.is_empty() {
         return Ok(Built::Rejected(shortened(later)));
     }
-    Ok(Built::Venue(Venue::new(features, notes)))
+    let kept = settings.copy(alloc)?;
+    Ok(Built::Venue(Venue::new(features, kept, notes)))
 }

@@ -1,20 +1,39 @@
-//! A folder has one outcome.
+//! What holds of every venue, and that a folder has one outcome.
 
 ghost use Rattle.std.specs.Prelude.{◌≡◌, length};
 ghost use Rattle.venue_types.specs.declared.files.Files.{Files};
 ghost use Rattle.venue_types.specs.declared.settings.Settings.{Settings};
+ghost use Rattle.venue_types.specs.declared.finding.Finding.{Finding};
 ghost use Rattle.venue_types.specs.declared.finding.Report.{Report};
-ghost use Rattle.venue_build.specs.declared.venue.Venue.{Venue};
+ghost use Rattle.sound_rows.specs.Sound.{AreSound};
+ghost use Rattle.imdf_refs.specs.Rules.{IsMisnamed};
+ghost use Rattle.ring_rules.specs.Rules.{BreaksSpread};
+ghost use Rattle.contain_rules.specs.Phases.{IsMisplaced};
+ghost use Rattle.venue_build.specs.declared.venue.Venue.{Venue as TheVenue};
 ghost use Rattle.venue_build.specs.Built.{IsRejected, IsVenueOf};
+ghost use Rattle.venue_build.specs.Report.{IsLaterBroken};
 
+use crate::Venue;
 use sound_reading::one_reading;
 
-/// Under the same settings no folder is both rejected and a venue, and it is rejected with one report.
+/// The rows of a venue are sound, and under its settings no phase finds anything in them: each identifier stands for one
+/// feature and each reference names one of its type, all positions lie close, and each figure and place is where it has to be.
+pub fn every_venue(venue: &Venue)
+    ensures sound { AreSound venue.now.features }
+    ensures silent { (x : Finding) → ¬ IsLaterBroken venue.now.features venue.now.settings x }
+    ensures named { (x : Finding) → ¬ IsMisnamed venue.now.features x }
+    ensures close { (x : Finding) → ¬ BreaksSpread venue.now.features x }
+    ensures placed { (x : Finding) → ¬ IsMisplaced venue.now.features venue.now.settings.contain_tol x }
+{}
+
+/// Under the same settings no folder is both rejected and a venue, it is rejected with one report, and it makes one venue.
 pub fn one_outcome()
-    ensures not_both { (files : Files) (settings : Settings) (report : Report) (venue : Venue) → length files.slots ≡ 17
+    ensures not_both { (files : Files) (settings : Settings) (report : Report) (venue : TheVenue) → length files.slots ≡ 17
         → IsRejected files settings report → IsVenueOf files settings venue → ⊥ }
     ensures one_report { (files : Files) (settings : Settings) (one other : Report) → length files.slots ≡ 17
         → IsRejected files settings one → IsRejected files settings other → one ≡ other }
+    ensures one_venue { (files : Files) (settings : Settings) (one other : TheVenue) → length files.slots ≡ 17
+        → IsVenueOf files settings one → IsVenueOf files settings other → one ≡ other }
 {
     one_reading();
 }

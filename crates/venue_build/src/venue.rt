@@ -1,27 +1,33 @@
 //! A venue whose rows every phase of rules accepts.
 
 ghost use Rattle.std.specs.Prelude.{◌≡◌};
-ghost use Rattle.venue_types.specs.declared.settings.Settings.{Settings as TheSettings};
+ghost use Rattle.std.proofs.Props.{props};
 ghost use Rattle.venue_build.specs.Report.{AreValid};
 
-use venue_types::{Features, List, Note};
+use venue_types::{Features, List, Note, Settings};
 
-/// The rows of a folder that is published, and what is worth a note in it.
+/// The rows of a folder that is published, the settings under which it was judged, and what is worth a note in it.
 #[derive(Drop)]
 pub struct Venue {
     features: Features,
+    settings: Settings,
     notes: List<Note>,
-    // Under some settings every phase accepts the rows.
-    ghost valid: { ∥ ((settings : TheSettings) × AreValid features settings) ∥₁ },
+    // Every phase accepts the rows.
+    ghost valid: { AreValid features settings } by { Prim.hlevel props },
 }
 
 impl Venue {
-    pub(crate) fn new(features: Features, notes: List<Note>) -> Venue
-        requires { ∥ ((settings : TheSettings) × AreValid features settings) ∥₁ }
+    pub(crate) fn new(features: Features, settings: Settings, notes: List<Note>) -> Venue
+        requires { AreValid features settings }
         ensures features { result.features ≡ features }
+        ensures settings { result.settings ≡ settings }
         ensures notes { result.notes ≡ notes }
     {
-        Venue { features, notes }
+        Venue {
+            features,
+            settings,
+            notes,
+        }
     }
 
     /// The rows of its folder.
@@ -29,6 +35,13 @@ impl Venue {
         ensures { result.now ≡ self.now.features }
     {
         &self.features
+    }
+
+    /// The settings under which it was judged.
+    pub fn settings(&self) -> &Settings
+        ensures { result.now ≡ self.now.settings }
+    {
+        &self.settings
     }
 
     /// What is worth a note, in order.

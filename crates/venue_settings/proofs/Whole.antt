@@ -1,20 +1,20 @@
 -- From the parts that were judged to the whole document.
-use Rattle.std.proofs.Common.{◌≡◌, ◌≢◌, ℕ, Bool, true, false, ◌≤◌, List, [], ◌∷◌, ◌++◌, length, map, codes, Option, Some, None, Result, Ok, Err, OnOk, IfOk, option_and_then, refl, ◌∙◌, arith}
+use Rattle.std.proofs.Common.{◌≡◌, ◌≢◌, ℕ, suc, Bool, true, false, ◌&&◌, ◌≤◌, List, [], ◌∷◌, ◌++◌, length, map, codes, Option, Some, None, Result, Ok, Err, OnOk, IfOk, option_and_then, refl, ◌∙◌, arith}
 use Rattle.std.proofs.lemmas.Bool.Decides.{nat_tests}
 use Rattle.std.proofs.lemmas.List.{length-map}
-use Rattle.std.specs.List.{filter_map}
+use Rattle.std.specs.List.{cons_option, filter_map}
 use Rattle.imdf_access.specs.Profiles.{built_in_profiles}
-use Rattle.toml.specs.Data.{Data, Items, Members, as_array, as_table, get_member, string, integer, float, boolean, datetime, array, table}
+use Rattle.toml.specs.Data.{Data, Items, Members, as_array, as_str, as_table, get_member}
 use Rattle.venue_types.specs.declared.settings.Settings.{Settings}
 use Rattle.venue_settings.specs.declared.fault.SettingsFault.{SettingsFault}
 use Rattle.venue_settings.specs.declared.fault.SettingsFault.TheVariants as fault
 use Rattle.venue_settings.specs.Faults.{first_fault, first_of, found_fault, items_at, items_in, profile_faults, profile_tables, table_faults, twice_fault, value_fault}
 use Rattle.venue_settings.specs.Judged.{IsFault, IsJudged}
 use Rattle.venue_settings.specs.Keys.{optional, settings_rows}
-use Rattle.venue_settings.specs.declared.keys.Form.TheVariants.{Profiles}
+use Rattle.venue_settings.specs.declared.keys.Form.TheVariants.{Profiles, StaffKeys}
 use Rattle.venue_settings.specs.Settings.{HasSettings, IsDocument, IsSettingsOf, no_document, faulty, sound, no_memory, profile_of}
 use Rattle.venue_settings.specs.Sound.{IsSound}
-use Rattle.venue_settings.specs.Values.{is_between, judgement, judged_profile_list, on_list}
+use Rattle.venue_settings.specs.Values.{is_between, judgement, judged_profile_list, judged_staff_list, on_list}
 use Rattle.venue_settings.proofs.Phases.{first_of-found, first_of-none, none_each}
 
 -- without a fault each key is good
@@ -68,28 +68,31 @@ pub read_is : (bytes : List ℕ) (root : Members) (r : Result Settings SettingsF
 read_is bytes root (Ok settings) doc h has = sound root settings doc h has
 read_is bytes root (Err e) doc h has = faulty_or bytes root e doc h
 
--- there are no more tables than values
-length-filter_map : (ds : List Data) → length (filter_map as_table ds) ≤ length ds
-length-filter_map [] = omega arith
-length-filter_map (string s ∷ ds) = omega (arith, length-filter_map ds)
-length-filter_map (integer z ∷ ds) = omega (arith, length-filter_map ds)
-length-filter_map (float x ∷ ds) = omega (arith, length-filter_map ds)
-length-filter_map (boolean b ∷ ds) = omega (arith, length-filter_map ds)
-length-filter_map (datetime dt ∷ ds) = omega (arith, length-filter_map ds)
-length-filter_map (array items ∷ ds) = omega (arith, length-filter_map ds)
-length-filter_map (table inner ∷ ds) = omega (arith, length-filter_map ds)
+length-choice : {X : Type 0} (one : Option X) (more : List X) (ds : List Data) → length more ≤ length ds → length (cons_option one more) ≤ suc (length ds)
+length-choice None more ds h = omega arith
+length-choice (Some x) more ds h = omega arith
 
-within_range : (right_kind in_range : Bool) → value_fault (codes "profile") (judgement right_kind in_range) ≡ None → in_range ≡ true
-within_range true true h = refl
-within_range true false h = absurd (cc)
-within_range false in_range h = absurd (cc)
+-- both are true where their conjunction is
+both_hold : (a b : Bool) → (a && b) ≡ true → a ≡ true
+both_hold true b h = refl
+both_hold false b h = h
 
-at_most : (n : ℕ) → is_between 0 14 n ≡ true → n ≤ 14
-at_most n h = grind (arith, nat_tests)
+-- a choice of some values is no longer than they are
+length-filter_map : {X : Type 0} (choose : Data → Option X) (ds : List Data) → length (filter_map choose ds) ≤ length ds
+length-filter_map choose [] = omega arith
+length-filter_map choose (d ∷ ds) = length-choice (choose d) (filter_map choose ds) ds (length-filter_map choose ds)
+
+within_range : (key : List ℕ) (right_kind in_range : Bool) → value_fault key (judgement right_kind in_range) ≡ None → in_range ≡ true
+within_range key true true h = refl
+within_range key true false h = absurd (cc)
+within_range key false in_range h = absurd (cc)
+
+at_most : (greatest n : ℕ) → is_between 0 greatest n ≡ true → n ≤ greatest
+at_most greatest n h = grind (arith, nat_tests)
 
 few_in : (items : Option Items) → value_fault (codes "profile") (on_list (judged_profile_list 0 14) items) ≡ None → length (items_in items) ≤ 14
 few_in None h = omega arith
-few_in (Some items) h = at_most _ (within_range _ _ h)
+few_in (Some items) h = at_most 14 _ (within_range (codes "profile") _ _ h)
 
 few_items : (value : Option Data) → found_fault (optional (codes "profile") Profiles 0 14) value ≡ None → length (items_in (option_and_then as_array value)) ≤ 14
 few_items None h = omega arith
@@ -99,4 +102,18 @@ few_items (Some value) h = few_in (as_array value) h
 pub few_profiles : (root : Members) → IsSound root → length (built_in_profiles ++ map profile_of (profile_tables root)) ≤ 16
 few_profiles root h =
     let items : length (items_at (codes "profile") root) ≤ 14 = few_items (get_member (codes "profile") root) h.1.1.1.1.1.1.1.1.1.1.1.1.0 in
-    omega (arith, length-filter_map (items_at (codes "profile") root), length-map (profile_tables root) profile_of)
+    omega (arith, length-filter_map as_table (items_at (codes "profile") root), length-map (profile_tables root) profile_of)
+
+few_keys_in : (items : Option Items) → value_fault (codes "staff_keys") (on_list (judged_staff_list 0 64) items) ≡ None → length (items_in items) ≤ 64
+few_keys_in None h = omega arith
+few_keys_in (Some items) h = at_most 64 _ (both_hold _ _ (within_range (codes "staff_keys") _ _ h))
+
+few_keys : (value : Option Data) → found_fault (optional (codes "staff_keys") StaffKeys 0 64) value ≡ None → length (items_in (option_and_then as_array value)) ≤ 64
+few_keys None h = omega arith
+few_keys (Some value) h = few_keys_in (as_array value) h
+
+-- and few staff keys
+pub few_staff_keys : (root : Members) → IsSound root → length (filter_map as_str (items_at (codes "staff_keys") root)) ≤ 64
+few_staff_keys root h =
+    let items : length (items_at (codes "staff_keys") root) ≤ 64 = few_keys (get_member (codes "staff_keys") root) h.1.1.1.1.1.1.1.1.1.1.1.0 in
+    omega (arith, length-filter_map as_str (items_at (codes "staff_keys") root))

@@ -1,12 +1,26 @@
 //! The features of a folder, a row each, in file order.
 
-use crate::{FeatureId, Kind, Line, List, Point, Shape, Text};
+ghost use Rattle.std.specs.Prelude.{◌≡◌, IfOk};
+
+use crate::{FeatureId, Kind, Line, List, OutOfMemory, Point, Shape, Text};
+use std::alloc::Global;
 
 /// A name in one language.
 #[derive(Drop)]
 pub struct Label {
     pub tag: Text,
     pub text: Text,
+}
+
+impl Label {
+    /// An equal label of its own.
+    pub fn copy(&self, alloc: Global) -> Result<Label, OutOfMemory>
+        ensures { IfOk result (λ copy. copy ≡ self.now) }
+    {
+        let tag = self.tag.copy(alloc)?;
+        let text = self.text.copy(alloc)?;
+        Ok(Label { tag, text })
+    }
 }
 
 /// A reference to a feature of a type, which is the number of the type's file.
@@ -29,7 +43,7 @@ pub struct AmenityRow {
     pub units: List<FeatureId>,
     pub point: Point,
     pub category: Text,
-    /// In ascending order of the tags' bytes, each tag once; empty where the name is null.
+    /// The reader of rows keeps the tags in ascending order of their bytes, each once; empty where the name is null.
     pub name: List<Label>,
 }
 
@@ -88,7 +102,7 @@ pub struct LevelRow {
 pub struct OccupantRow {
     pub id: FeatureId,
     pub anchor: FeatureId,
-    /// In ascending order of the tags' bytes, each tag once; empty where the name is null.
+    /// The reader of rows keeps the tags in ascending order of their bytes, each once; empty where the name is null.
     pub name: List<Label>,
 }
 
@@ -127,7 +141,7 @@ pub struct UnitRow {
     pub category: Text,
     /// It has a restriction, whatever its text.
     pub restricted: bool,
-    /// In ascending order of the tags' bytes, each tag once; empty where the name is null.
+    /// The reader of rows keeps the tags in ascending order of their bytes, each once; empty where the name is null.
     pub name: List<Label>,
 }
 

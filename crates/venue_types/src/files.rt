@@ -11,7 +11,7 @@ pub enum Slot {
     Held(Bytes),
 }
 
-/// The seventeen files of a folder, in the order of their numbers.
+/// The files of a folder, in the order of their numbers. Who reads a folder asks that they be seventeen.
 #[derive(Drop)]
 pub struct Files {
     pub slots: List<Slot>,

@@ -11,13 +11,14 @@ mod link;
 mod list;
 mod memory;
 mod point;
+mod room;
 mod settings;
 #[cfg(test)]
 mod tests;
 mod text;
 
 pub use bytes::Bytes;
-pub use feature_id::FeatureId;
+pub use feature_id::{FeatureId, identifier_law, identifier_text_law};
 pub use features::{
     AmenityRow, AnchorRow, BuildingRow, DetailRow, Features, FixtureRow, FootprintRow, KioskRow,
     Label, LevelRow, OccupantRow, OpeningRow, PlainRow, Ref, RelationshipRow, UnitRow, VenueRow,
@@ -29,5 +30,6 @@ pub use link::{Link, LinkFacts, Node, Potential, Touches};
 pub use list::List;
 pub use memory::OutOfMemory;
 pub use point::{Line, Part, Point, Ring, Shape, Spot};
+pub use room::{push_reserved, reserve};
 pub use settings::{Extras, Profile, Settings};
 pub use text::Text;

@@ -16,7 +16,8 @@ pub struct Spot {
     pub y: i64,
 }
 
-/// A closed line, whose last point equals its first (RFC 7946, section 3.1.6).
+/// A border, which by RFC 7946, section 3.1.6, is a closed line. That its last point equals its first is kept by the
+/// reader of geometries, and `sound_rows` says it of the rows of a folder (`IsSoundRing`).
 #[derive(Drop)]
 pub struct Ring {
     pub points: List<Point>,

@@ -1,13 +1,14 @@
 //! What an operator sets.
 
-ghost use Rattle.std.specs.Prelude.{◌≤◌, length};
+ghost use Rattle.std.specs.Prelude.{◌≡◌, ◌≤◌, length, IfOk};
 
-use crate::{List, Text};
+use crate::{List, OutOfMemory, Text};
+use std::alloc::Global;
 
 /// Which links somebody may use.
 #[derive(Drop)]
 pub struct Profile {
-    /// 1 to 32 of `a-z 0-9 _ -`.
+    /// 1 to 32 of `a-z 0-9 _ -`, as `built_in` and the reader of settings make it, and no type keeps it.
     pub name: Text,
     pub elevator: bool,
     pub escalator: bool,
@@ -19,6 +20,27 @@ pub struct Profile {
     pub restricted: bool,
     /// Only openings that are marked for wheelchairs.
     pub marked: bool,
+}
+
+impl Profile {
+    /// An equal profile of its own.
+    pub fn copy(&self, alloc: Global) -> Result<Profile, OutOfMemory>
+        ensures { IfOk result (λ copy. copy ≡ self.now) }
+    {
+        let name = self.name.copy(alloc)?;
+        Ok(Profile {
+            name,
+            elevator: self.elevator,
+            escalator: self.escalator,
+            movingwalkway: self.movingwalkway,
+            ramp: self.ramp,
+            stairs: self.stairs,
+            revolving: self.revolving,
+            turnstile: self.turnstile,
+            restricted: self.restricted,
+            marked: self.marked,
+        })
+    }
 }
 
 /// What a passage of each kind costs beyond its length, in whole centimetres, at most 1,000,000.
@@ -52,9 +74,9 @@ pub struct Settings {
     pub extras: Extras,
     /// The greatest number of a version, at least 1.
     pub last_version: u32,
-    /// At most 64, each 8 to 128 bytes from 0x21 to 0x7E.
+    /// At most 64. The reader of settings makes each of 8 to 128 bytes from 0x21 to 0x7E, which no type keeps.
     pub staff_keys: List<Text>,
-    /// The two built-in profiles first, 1 to 16 in all.
+    /// 1 to 16. That the two built-in ones come first is kept by the reader of settings.
     pub profiles: List<Profile>,
     pub ghost kx_some: { 1 ≤ kx },
     pub ghost kx_range: { kx ≤ 20000000 },
@@ -63,6 +85,49 @@ pub struct Settings {
     pub ghost border_range: { border_tol ≤ 100000 },
     pub ghost contain_range: { contain_tol ≤ 1000000 },
     pub ghost version_some: { 1 ≤ last_version },
+    pub ghost staff_range: { length staff_keys ≤ 64 },
     pub ghost profiles_some: { 1 ≤ length profiles },
     pub ghost profiles_range: { length profiles ≤ 16 },
+}
+
+impl Settings {
+    /// Equal settings of their own.
+    pub fn copy(&self, alloc: Global) -> Result<Settings, OutOfMemory>
+        ensures { IfOk result (λ copy. copy ≡ self.now) }
+    {
+        let staff_keys = copied_texts(alloc, self.staff_keys.as_slice())?;
+        let profiles = copied_profiles(alloc, self.profiles.as_slice())?;
+        Ok(Settings {
+            kx: self.kx,
+            ky: self.ky,
+            border_tol: self.border_tol,
+            contain_tol: self.contain_tol,
+            extras: self.extras,
+            last_version: self.last_version,
+            staff_keys,
+            profiles,
+        })
+    }
+}
+
+fn copied_texts(alloc: Global, texts: &[Text]) -> Result<List<Text>, OutOfMemory>
+    ensures { IfOk result (λ copies. copies ≡ texts.now) }
+{
+    let mut copies = List::new(alloc);
+    for text in texts {
+        let copy = text.copy(alloc)?;
+        copies.push(copy)?;
+    }
+    Ok(copies)
+}
+
+fn copied_profiles(alloc: Global, profiles: &[Profile]) -> Result<List<Profile>, OutOfMemory>
+    ensures { IfOk result (λ copies. copies ≡ profiles.now) }
+{
+    let mut copies = List::new(alloc);
+    for profile in profiles {
+        let copy = profile.copy(alloc)?;
+        copies.push(copy)?;
+    }
+    Ok(copies)
 }

@@ -1,5 +1,6 @@
-use Rattle.std.proofs.Common.{List, subst, sym}
+use Rattle.std.proofs.Common.{◌≡◌, ◌∙◌, List, subst, sym}
 use Rattle.venue_types.specs.declared.features.Features.{Features}
+use Rattle.venue_types.specs.declared.settings.Settings.{Settings}
 use Rattle.venue_types.specs.declared.finding.Note.{Note}
 use Rattle.report_laws.specs.Reports.{IsNoteList}
 use Rattle.imdf_rows.specs.Folder.{AreFeatures}
@@ -37,13 +38,11 @@ new-requires c =
     let settings = c.args.settings.now in
     let first = empty c.is_empty.result out.findings c.is_empty.ensures c.if-not-is_empty.false in
     let none = empty c.is_empty-2.result c.in_ok-later.later c.is_empty-2.ensures c.if-not-is_empty-2.false in
-    ∣ (
-      settings,
-      record {
-        sound = c.sound_reading.ensures files out.features c.requires (nothing (IsBroken files) out.findings first c.in_ok-features.ensures.findings) (c.in_ok-features.ensures.rows first);
-        unbroken = nothing (IsLaterBroken out.features settings) c.in_ok-later.later none c.in_ok-later.ensures;
-      },
-    ) ∣₁
+    let valid : AreValid out.features settings = record {
+      sound = c.sound_reading.ensures files out.features c.requires (nothing (IsBroken files) out.findings first c.in_ok-features.ensures.findings) (c.in_ok-features.ensures.rows first);
+      unbroken = nothing (IsLaterBroken out.features settings) c.in_ok-later.later none c.in_ok-later.ensures;
+    } in
+    subst (λ (s : Settings). AreValid out.features s) (sym c.in_ok-kept.ensures) valid
 
 pub returns : goal.returns
 returns c =
@@ -51,14 +50,12 @@ returns c =
     let files = c.args.files.now in
     let settings = c.args.settings.now in
     let first = empty c.is_empty.result out.findings c.is_empty.ensures c.if-not-is_empty.false in
-    let none = empty c.is_empty-2.result c.in_ok-later.later c.is_empty-2.ensures c.if-not-is_empty-2.false in
-    let valid : AreValid out.features settings = record {
-      sound = c.sound_reading.ensures files out.features c.requires (nothing (IsBroken files) out.findings first c.in_ok-features.ensures.findings) (c.in_ok-features.ensures.rows first);
-      unbroken = nothing (IsLaterBroken out.features settings) c.in_ok-later.later none c.in_ok-later.ensures;
-    } in
+    let venue = c.new.result in
+    let given : venue.settings ≡ settings = c.new.ensures.settings ∙ c.in_ok-kept.ensures in
     record {
       first = nothing (IsBroken files) out.findings first c.in_ok-features.ensures.findings;
       rows = subst (λ (f : Features). AreFeatures files f) (sym c.new.ensures.features) (c.in_ok-features.ensures.rows first);
-      valid = subst (λ (f : Features). AreValid f settings) (sym c.new.ensures.features) valid;
+      settings_given = given;
+      valid = subst (λ (s : Settings). AreValid venue.features s) given venue.valid;
       notes = subst (λ (ns : List Note). IsNoteList (IsNoted files) ns) (sym c.new.ensures.notes) c.in_ok-features.ensures.notes;
     }
