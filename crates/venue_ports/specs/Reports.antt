@@ -3,4 +3,4 @@ use Rattle.std.specs.Prelude.{◌≡◌, ℕ, List, ◌∷◌, ◌++◌, codes}
 
 -- the path of a file: its folder, a slash, its name
 abbrev pub file_path : List ℕ → List ℕ → List ℕ
-file_path folder file = folder ++ codes "/" ++ file
+file_path folder file = folder ++ (codes "/" ++ file)
