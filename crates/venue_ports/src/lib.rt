@@ -4,17 +4,22 @@
 
 mod doors;
 mod folders;
+mod laws;
 mod memory;
 mod memory_folders;
 mod memory_stream;
 mod outside;
+mod plan;
 mod quiet;
+mod reports;
+mod room;
 mod stream;
 #[cfg(test)]
 mod tests;
 
 pub use doors::Doors;
 pub use folders::{Folders, ReadFault};
+pub use laws::same_files_law;
 pub use memory::OutOfMemory;
 pub use memory_folders::{MemoryFile, MemoryFolders};
 pub use memory_stream::MemoryStream;

@@ -1,12 +1,15 @@
 //! Folders in memory.
 
-ghost use Rattle.std.specs.Prelude.{◌≡◌, ℕ, ◌+◌, ◌^◌, ◌<◌, List, Some, IfOk, IsOk, IsErrOf};
+ghost use Rattle.std.specs.Prelude.{◌≡◌, ℕ, ◌+◌, ◌^◌, ◌<◌, ◌↔◌, List, Some, IfOk, IsOk, IsErrOf};
 ghost use Rattle.std.specs.Option.{option_map};
-ghost use Rattle.venue_ports.specs.Files.{file_at, has_names, ReadsFile};
+ghost use Rattle.venue_ports.specs.Causes.{one_more};
+ghost use Rattle.venue_ports.specs.Files.{file_at, has_names, ReadsFile, HasReadCause};
+ghost use Rattle.venue_ports.specs.Plans.{FailsNext, called, fresh};
 ghost use Rattle.venue_ports.specs.Stored.{stored_file, stored_files};
 
 use crate::folders::{Folders, ReadFault};
 use crate::memory::OutOfMemory;
+use crate::plan::CallPlan;
 use std::alloc::Global;
 
 /// A file with its names.
@@ -21,23 +24,23 @@ pub struct MemoryFile {
 #[derive(Drop)]
 pub struct MemoryFolders {
     files: Vec<MemoryFile>,
-    failing: Vec<u64>,
-    reads: u64,
+    reads: CallPlan,
     faults: u64,
 }
 
 impl MemoryFolders {
-    ghost use Rattle.venue_ports.specs.InMemory.{memory_files};
+    ghost use Rattle.venue_ports.specs.InMemory.{memory_files, memory_reads, memory_faults};
 
     /// The last of two files with equal names counts. The reads with these numbers, from 1, fail. Takes no memory.
     pub fn new(files: Vec<MemoryFile>, failing: Vec<u64>) -> Result<MemoryFolders, OutOfMemory>
         ensures succeeds { IsOk result }
         ensures files { IfOk result (λ f. memory_files f ≡ Some (stored_files files.items)) }
+        ensures reads { IfOk result (λ f. memory_reads f ≡ fresh failing.items) }
+        ensures faults { IfOk result (λ f. memory_faults f ≡ 0) }
     {
         Ok(MemoryFolders {
             files,
-            failing,
-            reads: 0,
+            reads: CallPlan::new(failing),
             faults: 0,
         })
     }
@@ -73,7 +76,7 @@ pub(crate) fn read_memory(
 ) -> Result<Option<Vec<u8>>, ReadFault>
     requires { most < 2 ^ 32 }
     ensures bytes { ReadsFile (Some (stored_files files.now)) folder.now file.now most result }
-    ensures cause { IsErrOf result ReadFault.Failed → ⊥ }
+    ensures never_failed { IsErrOf result ReadFault.Failed → ⊥ }
 {
     match last_bytes(files, folder, file) {
         None => Ok(None),
@@ -85,11 +88,11 @@ pub(crate) fn read_memory(
 }
 
 impl Folders for MemoryFolders {
-    ghost use Rattle.venue_ports.specs.InMemory.{memory_files};
+    ghost use Rattle.venue_ports.specs.InMemory.{memory_files, memory_reads, memory_faults};
 
     ghost files = { memory_files };
 
-    ghost faults = { λ f. f.faults };
+    ghost faults = { memory_faults };
 
     fn fault_count(&self) -> u64 {
         self.faults
@@ -101,9 +104,17 @@ impl Folders for MemoryFolders {
         folder: &str,
         file: &str,
         most: u64,
-    ) -> Result<Option<Vec<u8>>, ReadFault> {
-        self.reads = self.reads.saturating_add(1);
-        if self.failing.contains(&self.reads) {
+    ) -> Result<Option<Vec<u8>>, ReadFault>
+        requires { most < 2 ^ 32 }
+        ensures bytes { ReadsFile (memory_files self.old) folder.now file.now most result }
+        ensures same { memory_files self.new ≡ memory_files self.old }
+        ensures cause { HasReadCause (memory_faults self.old) (memory_faults self.new) result }
+
+        ensures fails { IsErrOf result ReadFault.Failed ↔ FailsNext (memory_reads self.old) }
+        ensures counted { IsErrOf result ReadFault.Failed → memory_faults self.new ≡ one_more (memory_faults self.old) }
+        ensures called { memory_reads self.new ≡ called (memory_reads self.old) }
+    {
+        if self.reads.fails() {
             self.faults = self.faults.saturating_add(1);
             return Err(ReadFault::Failed);
         }

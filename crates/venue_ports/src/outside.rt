@@ -3,10 +3,11 @@
 ghost use Rattle.std.specs.Prelude.{◌≡◌, ◌+◌, ◌^◌, ◌<◌, ◌≤◌, None};
 
 use crate::folders::{Folders, ReadFault};
+use crate::reports::{file_path, read_count, read_fault, write_count};
 use crate::stream::{Failed, Stream};
 use std::alloc::Global;
 use std::fs::OpenFile;
-use std::io::{ErrorKind, Read, Write};
+use std::io::{Read, Write};
 use std::rt::Files;
 use std::{fs, io};
 
@@ -60,13 +61,13 @@ impl<R: Files> Folders for DirFolders<R> {
         file: &str,
         most: u64,
     ) -> Result<Option<Vec<u8>>, ReadFault> {
-        let path = format!(in alloc; "{folder}/{file}")?;
+        let path = file_path(alloc, folder, file)?;
         match read_cut(&self.rt, alloc, path.as_str(), most) {
             Ok(bytes) => Ok(Some(bytes)),
-            Err(error) => match error.kind() {
-                ErrorKind::NotFound => Ok(None),
-                ErrorKind::OutOfMemory => Err(ReadFault::OutOfMemory),
-                _ => {
+            Err(error) => match read_fault(error.kind()) {
+                None => Ok(None),
+                Some(ReadFault::OutOfMemory) => Err(ReadFault::OutOfMemory),
+                Some(ReadFault::Failed) => {
                     self.faults = self.faults.saturating_add(1);
                     Err(ReadFault::Failed)
                 }
@@ -100,7 +101,7 @@ impl<R: Input + Print> Stream for Console<R> {
     }
 
     fn read(&mut self, buf: &mut [u8]) -> Result<usize, Failed> {
-        match self.rt.reader().read(buf) {
+        match read_count(self.rt.reader().read(buf)) {
             Ok(count) => Ok(count),
             Err(_) => {
                 self.faults = self.faults.saturating_add(1);
@@ -110,9 +111,9 @@ impl<R: Input + Print> Stream for Console<R> {
     }
 
     fn write(&mut self, piece: &[u8]) -> Result<usize, Failed> {
-        match io::writer(&self.rt).write(piece) {
-            Ok(count) if count > 0 => Ok(count),
-            _ => {
+        match write_count(io::writer(&self.rt).write(piece)) {
+            Ok(count) => Ok(count),
+            Err(_) => {
                 self.faults = self.faults.saturating_add(1);
                 Err(Failed)
             }

@@ -1,6 +1,9 @@
 //! Folders and doors in memory that never fail.
 
-ghost use Rattle.std.specs.Prelude.{◌≡◌, ℕ, ◌+◌, ◌^◌, ◌-◌, ◌≤◌, List, Some, IfOk, IsOk, Bool, min, length, false, IsTrue};
+ghost use Rattle.std.specs.Prelude.{◌≡◌, ℕ, ◌^◌, ◌<◌, ◌≤◌, List, [], Some, IfOk, IsOk, IsOkAnd, IsErrOf, OnOk, OnErr, Bool, length, true, false};
+ghost use Rattle.std.specs.Option.{option_map};
+ghost use Rattle.venue_ports.specs.Causes.{one_more, HasExactCause};
+ghost use Rattle.venue_ports.specs.Files.{ReadsFile, HasReadCause};
 ghost use Rattle.venue_ports.specs.Stored.{stored_files};
 
 use crate::doors::Doors;
@@ -10,6 +13,7 @@ use crate::memory_folders::{MemoryFile, read_memory};
 use crate::memory_stream::MemoryStream;
 use crate::stream::Failed;
 use std::alloc::Global;
+use std::collections::VecDeque;
 
 /// Folders over a list.
 #[derive(Drop)]
@@ -46,7 +50,14 @@ impl Folders for QuietFolders {
         folder: &str,
         file: &str,
         most: u64,
-    ) -> Result<Option<Vec<u8>>, ReadFault> {
+    ) -> Result<Option<Vec<u8>>, ReadFault>
+        requires { most < 2 ^ 32 }
+        ensures bytes { ReadsFile (quiet_files self.old) folder.now file.now most result }
+        ensures same { quiet_files self.new ≡ quiet_files self.old }
+        ensures cause { HasReadCause 0 0 result }
+
+        ensures never_failed { IsErrOf result ReadFault.Failed → ⊥ }
+    {
         read_memory(alloc, &self.files, folder, file, most)
     }
 }
@@ -55,7 +66,7 @@ impl Folders for QuietFolders {
 #[derive(Drop)]
 pub struct QuietDoors {
     alloc: Global,
-    streams: Vec<MemoryStream>,
+    streams: VecDeque<MemoryStream>,
     ready: bool,
     accepted: u64,
     binds: u64,
@@ -64,18 +75,20 @@ pub struct QuietDoors {
 }
 
 impl QuietDoors {
-    ghost use Rattle.venue_ports.specs.Quiet.{quiet_ready, quiet_accepted, quiet_binds};
+    ghost use Rattle.venue_ports.specs.Quiet.{quiet_ready, quiet_accepted, quiet_binds, quiet_bound, quiet_streams};
 
-    /// Doors that are not ready, with the connections that are to come, the last first.
+    /// Doors that are not ready, with the connections that are to come, the next one first.
     pub fn new(alloc: Global, streams: Vec<MemoryStream>) -> Result<QuietDoors, OutOfMemory>
         ensures succeeds { IsOk result }
         ensures ready { IfOk result (λ d. quiet_ready d ≡ false) }
         ensures accepted { IfOk result (λ d. quiet_accepted d ≡ 0) }
         ensures binds { IfOk result (λ d. quiet_binds d ≡ Some 0) }
+        ensures bound { IfOk result (λ d. quiet_bound d ≡ Some []) }
+        ensures streams { IfOk result (λ d. quiet_streams d ≡ streams.items) }
     {
         Ok(QuietDoors {
             alloc,
-            streams,
+            streams: VecDeque::from(streams),
             ready: false,
             accepted: 0,
             binds: 0,
@@ -88,7 +101,7 @@ impl QuietDoors {
 impl Doors for QuietDoors {
     type Conn = MemoryStream;
 
-    ghost use Rattle.venue_ports.specs.Quiet.{quiet_ready, quiet_accepted, quiet_binds, quiet_bound};
+    ghost use Rattle.venue_ports.specs.Quiet.{quiet_ready, quiet_accepted, quiet_binds, quiet_bound, quiet_streams, HandsOut};
 
     ghost ready = { quiet_ready };
 
@@ -104,7 +117,19 @@ impl Doors for QuietDoors {
         0
     }
 
-    fn bind(&mut self, address: &str) -> Result<(), Failed> {
+    fn bind(&mut self, address: &str) -> Result<(), Failed>
+        requires not_ready { quiet_ready self.old ≡ false }
+        requires short { length address.now ≤ 256 }
+        ensures ok { OnOk result (quiet_ready self.new ≡ true) }
+        ensures err { OnErr result (quiet_ready self.new ≡ false) }
+        ensures accepted { quiet_accepted self.new ≡ quiet_accepted self.old }
+        ensures binds { quiet_binds self.new ≡ option_map one_more (quiet_binds self.old) }
+        ensures bound { quiet_bound self.new ≡ option_map (λ _. address.now) (quiet_bound self.old) }
+        ensures cause { HasExactCause 0 0 result }
+
+        ensures succeeds { IsOk result }
+        ensures streams { quiet_streams self.new ≡ quiet_streams self.old }
+    {
         let bytes = address.as_bytes();
         self.bound[..bytes.len()].copy_from_slice(bytes);
         self.bound_len = bytes.len();
@@ -113,9 +138,19 @@ impl Doors for QuietDoors {
         Ok(())
     }
 
-    fn accept(&mut self) -> Result<MemoryStream, Failed> {
+    fn accept(&mut self) -> Result<MemoryStream, Failed>
+        requires { quiet_ready self.old ≡ true }
+        ensures ok { OnOk result (quiet_accepted self.new ≡ one_more (quiet_accepted self.old)) }
+        ensures err { OnErr result (quiet_accepted self.new ≡ quiet_accepted self.old) }
+        ensures ready { quiet_ready self.new ≡ true }
+        ensures binds { quiet_binds self.new ≡ quiet_binds self.old }
+        ensures bound { quiet_bound self.new ≡ quiet_bound self.old }
+        ensures cause { HasExactCause 0 0 result }
+
+        ensures gives { IsOkAnd result (λ s. HandsOut (quiet_streams self.old) (quiet_streams self.new) s) }
+    {
         self.accepted = self.accepted.saturating_add(1);
-        match self.streams.pop() {
+        match self.streams.pop_front() {
             Some(stream) => Ok(stream),
             None => Ok(MemoryStream::empty(self.alloc)),
         }

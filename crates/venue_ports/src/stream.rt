@@ -1,7 +1,7 @@
 //! Streams of bytes in both directions.
 
 ghost use Rattle.std.specs.Prelude.{◌≡◌, ℕ, ◌<◌, ◌≤◌, List, Option, IfOk, length};
-ghost use Rattle.venue_ports.specs.Causes.{HasCause};
+ghost use Rattle.venue_ports.specs.Causes.{HasExactCause};
 ghost use Rattle.venue_ports.specs.Moves.{MovesIn, MovesOut};
 
 /// The outside failed, and counted it.
@@ -29,7 +29,7 @@ pub trait Stream {
         ensures bound { IfOk result (λ n. n ≤ length buf.old) }
         ensures bytes { MovesIn (left self.old) (left self.new) result buf.new }
         ensures written { written self.new ≡ written self.old }
-        ensures cause { HasCause (faults self.old) (faults self.new) result };
+        ensures cause { HasExactCause (faults self.old) (faults self.new) result };
 
     /// Writes some bytes from the front of the piece, at least one. Takes no memory.
     fn write(&mut self, piece: &[u8]) -> Result<usize, Failed>
@@ -37,5 +37,5 @@ pub trait Stream {
         ensures bound { IfOk result (λ n. (0 < n) × (n ≤ length piece.now)) }
         ensures bytes { MovesOut (written self.old) (written self.new) result piece.now }
         ensures left { left self.new ≡ left self.old }
-        ensures cause { HasCause (faults self.old) (faults self.new) result };
+        ensures cause { HasExactCause (faults self.old) (faults self.new) result };
 }

@@ -1,0 +1,52 @@
+//! What is made of what the system reports.
+
+ghost use Rattle.std.specs.Prelude.{◌≡◌, ◌<◌, ◌↔◌, IfOk, IsErr, IsNone, OnErr, Ok, Some, string_bytes};
+ghost use Rattle.venue_ports.specs.Reports.{file_path};
+
+use crate::folders::ReadFault;
+use crate::stream::Failed;
+use std::alloc::{AllocError, Global};
+use std::io;
+use std::io::ErrorKind;
+
+/// The path of a file: its folder, `/` and its name.
+pub(crate) fn file_path(alloc: Global, folder: &str, file: &str) -> Result<String, AllocError>
+    ensures { IfOk result (λ path. string_bytes path ≡ file_path folder.now file.now) }
+{
+    format!(in alloc; "{folder}/{file}")
+}
+
+/// What an error of this kind at a file means: `None` that there is no such file.
+pub(crate) fn read_fault(kind: ErrorKind) -> Option<ReadFault>
+    ensures missing { IsNone result ↔ (kind ≡ ErrorKind.NotFound) }
+    ensures memory { (result ≡ Some ReadFault.OutOfMemory) ↔ (kind ≡ ErrorKind.OutOfMemory) }
+{
+    match kind {
+        ErrorKind::NotFound => None,
+        ErrorKind::OutOfMemory => Some(ReadFault::OutOfMemory),
+        _ => Some(ReadFault::Failed),
+    }
+}
+
+/// How many bytes a read moved, of which 0 is the end.
+pub(crate) fn read_count(reported: io::Result<usize>) -> Result<usize, Failed>
+    ensures moved { IfOk reported (λ count. result ≡ Ok count) }
+    ensures err { OnErr reported (IsErr result) }
+{
+    match reported {
+        Ok(count) => Ok(count),
+        Err(_) => Err(Failed),
+    }
+}
+
+/// How many bytes a write took, where taking none is a failure.
+pub(crate) fn write_count(reported: io::Result<usize>) -> Result<usize, Failed>
+    ensures moved { IfOk reported (λ count. 0 < count → result ≡ Ok count) }
+    ensures nothing { IfOk reported (λ count. count ≡ 0 → IsErr result) }
+    ensures err { OnErr reported (IsErr result) }
+{
+    match reported {
+        Ok(count) if count > 0 => Ok(count),
+        _ => Err(Failed),
+    }
+}
