@@ -12,5 +12,7 @@ mod Document
 mod Slices
 mod Sizes
 mod Escapes
+mod Chars
+mod Tokens
 mod Utf8
 mod Walks

@@ -4,7 +4,7 @@ use Rattle.std.specs.List.{prefix_len, starts_with}
 use Rattle.exact_json.specs.Json.{Json, null, boolean, number, text, items, object}
 use Rattle.exact_json.specs.View.{items_of, members_of}
 use Rattle.exact_json.specs.Number.{head, after_number, is_space, ends_value}
-use Rattle.exact_json.specs.Strings.{text_at}
+use Rattle.exact_json.specs.StringReading.{text_at}
 use Rattle.exact_json.specs.declared.fault.JsonFault.{JsonFault}
 use Rattle.exact_json.specs.declared.fault.JsonFault.TheVariants.{Text, Deep, OutOfMemory}
 
