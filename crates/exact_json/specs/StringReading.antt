@@ -1,4 +1,4 @@
--- The code's own way through a string, byte by byte: no promise, and not to be read aloud. `Strings` says what a string is.
+-- The code's own way, and no promise: through a string byte by byte. What a string is says `Strings`.
 use Rattle.std.specs.Prelude.{◌≡◌, ℕ, zero, suc, ◌+◌, ◌*◌, List, [], ◌∷◌, ◌++◌, drop, Bool, not, cond, ◌&&◌, ◌||◌, ◌==◌, nat_lt, Option, Some, None, option_map, option_and_then}
 use Rattle.std.specs.Char.{digit_value, is_digit, encode_utf8}
 use Rattle.exact_json.specs.Number.{head}

@@ -1,6 +1,6 @@
 //! Strings (RFC 8259, section 7), from behind the opening quote on.
 
-ghost use Rattle.std.specs.Prelude.{◌≡◌, ◌≢◌, ◌+◌, ◌≤◌, ◌<◌, ◌++◌, [], ◌∷◌, length, option_map, IfOk, IfSome, OnOk, encode_utf8};
+ghost use Rattle.std.specs.Prelude.{◌≡◌, ◌≢◌, ◌+◌, ◌≤◌, ◌<◌, ◌++◌, [], ◌∷◌, length, option_map, IfOk, IfSome, OnOk, SomeIff, encode_utf8};
 ghost use Rattle.std.specs.List.{prefix_len};
 ghost use Rattle.std.specs.Char.{digit_value};
 ghost use Rattle.exact_json.specs.Strings.{short_escape, is_low};
@@ -38,7 +38,7 @@ fn hex_value(byte: u8) -> Option<u32>
 }
 
 // The code unit of four hexadecimal digits in front.
-#[tactic(auto, unfolding(crate::specs::Strings::code_unit))]
+#[tactic(auto, unfolding(crate::specs::StringReading::code_unit))]
 fn code_unit(text: &[u8]) -> Option<u32>
     ensures value { result ≡ code_unit text.now }
     ensures bounds { IfSome result (λ u. (u < 65536) × (4 ≤ length text.now)) }
@@ -108,7 +108,7 @@ fn unit_escape(text: &[u8], unit: u32) -> (char, usize)
 }
 
 // The character that the text behind a backslash stands for, and in how many bytes.
-#[tactic(auto, unfolding(crate::specs::Strings::escape))]
+#[tactic(auto, unfolding(crate::specs::StringReading::escape))]
 fn escape(text: &[u8]) -> Option<(char, usize)>
     ensures value { result ≡ escape text.now }
     ensures within { IfSome result (λ e. (1 ≤ e.1) × (e.1 ≤ length text.now)) }
