@@ -1,11 +1,11 @@
 -- A string by its chars, and the code's own way through it, are one.
-use Rattle.std.proofs.Common.{◌≡◌, ◌≢◌, ℕ, zero, suc, ◌+◌, ◌<◌, ◌≤◌, Bool, true, false, not, cond, ◌&&◌, ◌||◌, ◌==◌, ◌∙◌, List, [], ◌∷◌, ◌++◌, drop, length, nat_lt, Option, Some, None, IsSome, is_some, unwrap_or, option_map, option_and_then, refl, sym, ap, ap₂, subst, arith, append_assoc, length-append, length-drop}
+use Rattle.std.proofs.Common.{◌≡◌, ◌≢◌, ℕ, zero, suc, ◌<◌, ◌≤◌, Bool, true, false, cond, ◌&&◌, ◌||◌, ◌==◌, ◌∙◌, List, [], ◌∷◌, ◌++◌, drop, length, nat_lt, Option, Some, None, IsSome, is_some, unwrap_or, option_map, option_and_then, refl, sym, ap, ap₂, subst, arith, length-drop}
 use Rattle.std.proofs.lemmas.Bool.{false≢true, eq-eqb, eqb-true, ne_eqb, and_parts}
 use Rattle.std.proofs.lemmas.List.{append-nil}
 use Rattle.std.specs.List.{AllByRecursion, flat_map}
 use Rattle.std.specs.Char.{encode_utf8, is_digit}
 use Rattle.exact_json.specs.Number.{head}
-use Rattle.exact_json.specs.Strings.{Char, unescaped, short, unit, char_bytes, IsUnescaped, short_escape, AreHex, IsChar, unit_of, is_high, is_low, is_pair, character_of, alone, chars_text, IsText}
+use Rattle.exact_json.specs.Strings.{Char, unescaped, short, unit, char_bytes, short_escape, AreHex, IsChar, unit_of, is_high, is_low, is_pair, character_of, alone, chars_text, IsText}
 use Rattle.exact_json.specs.StringReading.{text_at, prepend, escape, code_unit, low_next, unit_escape, after_high, IsTextAt}
 use Rattle.exact_json.proofs.Texts.{by_bool, none_some, then_some, taken_off, parts, by_first, first, escaped, pick_third, pick_last, text_at-drop, text_at-quote, text_at-escape, escape_u, escape_short, low_is, low_of}
 use Rattle.exact_json.proofs.Escapes.{escape_forms}

@@ -2,7 +2,7 @@
 use Rattle.std.proofs.Common.{◌≡◌, ℕ, ◌+◌, ◌-◌, ◌*◌, ◌<◌, ◌≤◌, Bool, true, false, cond, ◌&&◌, ◌||◌, ◌==◌, ◌∙◌, List, [], ◌∷◌, Option, Some, None, option_and_then, nat_lt, nat_le, refl, sym, ap, ap₂, subst, arith}
 use Rattle.std.proofs.lemmas.Bool.{eqb-true, leb-true, ltb-true, and_parts}
 use Rattle.std.specs.Char.{IsScalar, digit_value, is_digit}
-use Rattle.exact_json.specs.Strings.{short_escape, is_high, is_low, IsHex, AreHex}
+use Rattle.exact_json.specs.Strings.{short_escape, is_high, is_low, AreHex}
 use Rattle.exact_json.specs.StringReading.{code_unit, low_next, after_high, unit_escape, escape}
 use Rattle.exact_json.proofs.Texts.{by_bool, then_some, tested, some_of, none_some, low_alone, escape_nothing, escape_u, escape_short}
 

@@ -14,5 +14,6 @@ mod Sizes
 mod Escapes
 mod Chars
 mod Tokens
+mod Turns
 mod Utf8
 mod Walks

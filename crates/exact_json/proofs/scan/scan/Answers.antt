@@ -1,4 +1,4 @@
-use Rattle.std.proofs.Common.{◌≡◌, Ok, sym, subst, rules, arith}
+use Rattle.std.proofs.Common.{◌≡◌, Ok, subst, rules, arith}
 use Rattle.std.proofs.lemmas.Result.{err_from_is_err_and}
 use Rattle.exact_json.specs.Scanning.{Stops, Leaves}
 use Rattle.exact_json.proofs.scan.scan.Goals as goal
