@@ -1,16 +1,16 @@
 -- A number of nanodegrees, written with nine digits behind the point, is read back.
-use Rattle.std.proofs.Common.{◌≡◌, ℕ, zero, suc, ◌+◌, ◌-◌, ◌*◌, ◌/◌, ◌%◌, ◌^◌, ◌<◌, ◌≤◌, Bool, true, false, List, [], ◌∷◌, ◌++◌, length, get_or, replicate, Some, None, inl, inr, refl, sym, ap, ◌∙◌, subst, arith, length-append, ℤ, pos, negsuc, neg_ℤ}
+use Rattle.std.proofs.Common.{◌≡◌, ℕ, zero, suc, ◌+◌, ◌-◌, ◌*◌, ◌/◌, ◌%◌, ◌^◌, ◌<◌, ◌≤◌, Bool, true, false, List, [], ◌∷◌, ◌++◌, length, get_or, replicate, Some, None, inl, inr, refl, sym, ap, ◌∙◌, subst, arith, length-append, ℤ, pos, negsuc}
 use Rattle.std.specs.Fmt.{decimal}
-use Rattle.std.specs.Str.Parse.{AllDigits, IsNumeral, digits_value, digits_value_after}
+use Rattle.std.specs.Str.Parse.{AllDigits, IsNumeral, digits_value}
 use Rattle.std.proofs.lemmas.Fmt.{decimal_is_IsNumeral, decimal_digit, first_decimal, length-decimal-le}
 use Rattle.std.proofs.lemmas.Str.Parse.{digit_from_value}
 use Rattle.std.proofs.lemmas.List.{length-replicate, append-nil}
 use Rattle.std.proofs.Math.Nat.{mod-lt}
 use Rattle.std.proofs.lemmas.Nat.{div-add-mod'}
 use Rattle.std.proofs.lemmas.Int.{ints}
-use Rattle.geo_decimal.specs.Number.{Number, Spells, IsWhole, IsWellFormed}
-use Rattle.geo_decimal.specs.Value.{IsSize, IsNano, IsWithin, signed}
-use Rattle.geo_decimal.specs.Text.{nine_digits, size_text, degrees_text}
+use Rattle.geo_decimal.specs.Number.{Number, IsWhole, IsWellFormed}
+use Rattle.geo_decimal.specs.Value.{IsSize, IsNano, IsWithin}
+use Rattle.geo_decimal.specs.Text.{nine_digits, degrees_text}
 use Rattle.geo_decimal.proofs.DigitValues.{after_append, after_weight}
 
 -- ---- nine digits

@@ -13,5 +13,5 @@ mod tests;
 mod values;
 
 pub use geometry::{line, point, shape};
-pub use laws::{has_one_line, has_one_point, has_one_shape};
+pub use laws::{decimals_law, has_one_line, has_one_point, has_one_shape, same_numbers_law};
 pub use shaped::Shaped;
