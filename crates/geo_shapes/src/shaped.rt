@@ -19,7 +19,7 @@ pub struct Shaped<T> {
 }
 
 impl<T> Shaped<T> {
-    // What is read where a list was to stand and none does.
+    /// What is read where a list was to stand and none does.
     pub(crate) fn no_list() -> Shaped<T>
         ensures { result ≡ record { value = None; bad_position = false; bad_form = true; positions = 0; longest = 0 } }
     {
