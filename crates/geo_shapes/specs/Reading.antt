@@ -1,4 +1,4 @@
--- What is read of a value, and of several in turn.
+-- The code's own way, and no promise, but for `Reads`: what is read of a value, and of several in turn.
 use Rattle.std.specs.Prelude.{◌≡◌, ◌≢◌, ◌↔◌, ℕ, ℤ, ◌+◌, ◌-◌, ◌^◌, ◌<◌, ◌≤◌, min, max, List, [], ◌∷◌, ◌++◌, length, Any, Bool, true, false, ◌||◌, IsTrue, IsSome, IfSome, IsSomeAnd, MatchOption, Option, Some, None, Vec, ◌⊎◌}
 use Rattle.std.specs.Option.{option_to_list}
 use Rattle.std.specs.List.{flat_map, AllZip}
