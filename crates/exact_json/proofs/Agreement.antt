@@ -6,7 +6,9 @@ use Rattle.std.specs.Char.{is_ascii_digit}
 use Rattle.exact_json.specs.Json.{Json, null, boolean, number, text, items, object, Items, no_items, item, Members, no_pairs, pair, items_list, members_list, depth, items_depth, members_depth}
 use Rattle.exact_json.specs.View.{items_of, members_of}
 use Rattle.exact_json.specs.Number.{head, after_digits, after_whole, after_fraction, after_exponent, after_number, IsNumber, is_space, ends_value}
-use Rattle.exact_json.specs.Grammar.{IsSpace, MoreElements, Elements, IsText, IsPair, Spells, spellings, pair_spellings}
+use Rattle.exact_json.specs.Strings.{IsText}
+use Rattle.exact_json.proofs.Chars.{to_reading}
+use Rattle.exact_json.specs.Grammar.{IsSpace, MoreElements, Elements, IsPair, Spells, spellings, pair_spellings}
 use Rattle.exact_json.specs.Reading.{Parse, parse_map, skip, more_step, more_elements, elements_at, number_at, name_at, pair_at, scalar_at, list_of, object_of, value}
 use Rattle.exact_json.proofs.Numbers.{number_again}
 use Rattle.exact_json.proofs.Texts.{string_again, by_bool}
@@ -89,14 +91,14 @@ begins null s h = record { byte = 110; more = 117 ∷ 108 ∷ 108 ∷ []; is = h
 begins (boolean true) s h = record { byte = 116; more = 114 ∷ 117 ∷ 101 ∷ []; is = h; no_end = refl }
 begins (boolean false) s h = record { byte = 102; more = 97 ∷ 108 ∷ 115 ∷ 101 ∷ []; is = h; no_end = refl }
 begins (number t) s h = let n = numeric t h.1 in record { byte = n.byte; more = n.more; is = h.0 ∙ n.is; no_end = no_end_number n.byte n.kind }
-begins (text t) s h = record { byte = 34; more = h.0; is = h.1; no_end = refl }
+begins (text t) s h = let r = to_reading t s h in record { byte = 34; more = r.0; is = r.1; no_end = refl }
 begins (items js) s h = record { byte = 91; more = h.0 ++ 93 ∷ []; is = h.1; no_end = refl }
 begins (object ms) s h = record { byte = 123; more = h.0 ++ 125 ∷ []; is = h.1; no_end = refl }
 
 pair_begins : (p : List ℕ × Json) (s : List ℕ) → SpellsPair p s → Begins s
 unfolding SpellsPair
 pair_begins p s h =
-    let name = h.5 in
+    let name = to_reading p.0 h.0 h.5 in
     record { byte = 34; more = name.0 ++ h.1 ++ 58 ∷ h.2 ++ h.3; is = h.4 ∙ ap (λ l. l ++ h.1 ++ 58 ∷ h.2 ++ h.3) name.1; no_end = refl }
 
 pub skip_value : (s t : List ℕ) → Begins s → skip (s ++ t) ≡ s ++ t
@@ -234,8 +236,9 @@ name_again : (k name left rest : List ℕ) → IsText k name → IsSpace left �
 unfolding name_at
 name_again k name left rest h blank =
     let behind = left ++ 58 ∷ rest in
+    let t = to_reading k name h in
     let colon : skip behind ≡ 58 ∷ rest = skip_over left (58 ∷ rest) blank in
-    ap (λ l. name_at (l ++ behind)) h.1 ∙ ap (option_and_then (λ p. cond (head (skip p.1) == 58) (Some (p.0, drop 1 (skip p.1))) None)) (string_again h.0 k behind h.2) ∙ ap (λ l. cond (head l == 58) (Some (k, drop 1 l)) None) colon
+    ap (λ l. name_at (l ++ behind)) t.1 ∙ ap (option_and_then (λ p. cond (head (skip p.1) == 58) (Some (p.0, drop 1 (skip p.1))) None)) (string_again t.0 k behind t.2) ∙ ap (λ l. cond (head l == 58) (Some (k, drop 1 l)) None) colon
 
 pub Again : Json → Type 0
 Again j = (s : List ℕ) → Spells j s → (d : ℕ) → depth j ≤ d → (r : List ℕ) → ends_value (head r) ≡ true → value d (s ++ r) ≡ Some (j, r)
@@ -278,7 +281,9 @@ mutual
       let list_byte : head (t ++ r) ≢ 91 = λ z. other_byte n.byte 91 n.kind (outside 91 (λ x. omega (arith, x)) (λ a b. omega (arith, a, b))) (ap (λ l. head (l ++ r)) (sym n.is) ∙ z) in
       let object_byte : head (t ++ r) ≢ 123 = λ z. other_byte n.byte 123 n.kind (outside 123 (λ x. omega (arith, x)) (λ a b. omega (arith, a, b))) (ap (λ l. head (l ++ r)) (sym n.is) ∙ z) in
       ap (λ l. value d (l ++ r)) h.0 ∙ value_scalar d (t ++ r) list_byte object_byte ∙ number_value t r h.1 e
-  value_again (text t) s h d le r e = ap (λ l. value d (l ++ r)) h.1 ∙ value_scalar d (34 ∷ (h.0 ++ r)) (λ z. omega (arith, z)) (λ z. omega (arith, z)) ∙ ap (parse_map text) (string_again h.0 t r h.2)
+  value_again (text t) s h d le r e =
+      let b = to_reading t s h in
+      ap (λ l. value d (l ++ r)) b.1 ∙ value_scalar d (34 ∷ (b.0 ++ r)) (λ z. omega (arith, z)) (λ z. omega (arith, z)) ∙ ap (parse_map text) (string_again b.0 t r b.2)
   value_again (items js) s h zero le r e = absurd (omega (arith, le))
   value_again (items js) s h (suc d) le r e = list_again js s h d (items_again js d (omega (arith, le))) r
   value_again (object ms) s h zero le r e = absurd (omega (arith, le))

@@ -2,15 +2,9 @@
 use Rattle.std.proofs.Common.{◌≡◌, ℕ, ◌+◌, ◌-◌, ◌*◌, ◌<◌, ◌≤◌, Bool, true, false, cond, ◌&&◌, ◌||◌, ◌==◌, ◌∙◌, List, [], ◌∷◌, Option, Some, None, option_and_then, nat_lt, nat_le, refl, sym, ap, ap₂, subst, arith}
 use Rattle.std.proofs.lemmas.Bool.{eqb-true, leb-true, ltb-true, and_parts}
 use Rattle.std.specs.Char.{IsScalar, digit_value, is_digit}
-use Rattle.exact_json.specs.Strings.{code_unit, short_escape, low_next, is_high, is_low, after_high, unit_escape, escape}
-use Rattle.exact_json.proofs.Texts.{by_bool, then_some, some_of, none_some, low_alone, escape_nothing, escape_u, escape_short}
-use Rattle.exact_json.proofs.Fronts.{tested}
-
-abbrev pub IsHex : ℕ → Type 0
-IsHex a = is_digit a 16 ≡ true
-
-abbrev pub AreHex : ℕ → ℕ → ℕ → ℕ → Type 0
-AreHex a b c d = IsHex a × IsHex b × IsHex c × IsHex d
+use Rattle.exact_json.specs.Strings.{short_escape, is_high, is_low, AreHex}
+use Rattle.exact_json.specs.StringReading.{code_unit, low_next, after_high, unit_escape, escape}
+use Rattle.exact_json.proofs.Texts.{by_bool, then_some, tested, some_of, none_some, low_alone, escape_nothing, escape_u, escape_short}
 
 -- the digits in front
 Unit4 : List ℕ → ℕ → Type 0
@@ -97,7 +91,7 @@ ascii_scalar c h = grind (arith, h)
 
 -- a claim on the text behind a backslash, and on its character and how many bytes spell that, holds if it holds of each form
 module _ (C : List ℕ → ℕ × ℕ → Type 0)
-    (one : (x : ℕ) (w : List ℕ) (c : ℕ) → x < 128 → IsScalar c → C (x ∷ w) (c, 1))
+    (one : (x : ℕ) (w : List ℕ) (c : ℕ) → short_escape x ≡ Some c → x < 128 → IsScalar c → C (x ∷ w) (c, 1))
     (unit : (a b c d : ℕ) (w : List ℕ) (u : ℕ) → AreHex a b c d → IsScalar u → C (117 ∷ a ∷ b ∷ c ∷ d ∷ w) (u, 5))
     (two : (a b c d e f g h : ℕ) (w : List ℕ) (u : ℕ) → AreHex a b c d → AreHex e f g h → IsScalar u → C (117 ∷ a ∷ b ∷ c ∷ d ∷ 92 ∷ 117 ∷ e ∷ f ∷ g ∷ h ∷ w) (u, 11)) where
   high_form : (a b c d : ℕ) (w : List ℕ) (u : ℕ) (o : Option ℕ) (e : ℕ × ℕ) → AreHex a b c d → is_high u ≡ true → low_next w ≡ o → after_high u o ≡ e → C (117 ∷ a ∷ b ∷ c ∷ d ∷ w) e
@@ -130,4 +124,4 @@ module _ (C : List ℕ → ℕ × ℕ → Type 0)
       (λ q.
       let m = some_of (λ c. (c, 1)) (short_escape y) e (sym (escape_short y v q) ∙ h) in
       let s = short_value y m.0 m.1 in
-      subst (C (y ∷ v)) m.2 (one y v m.0 s.0 (ascii_scalar m.0 s.1)))
+      subst (C (y ∷ v)) m.2 (one y v m.0 m.1 s.0 (ascii_scalar m.0 s.1)))

@@ -8,11 +8,13 @@ use Rattle.std.specs.Char.{is_ascii_digit}
 use Rattle.exact_json.specs.Json.{Json, null, boolean, number, text, depth, items_depth, members_depth}
 use Rattle.exact_json.specs.View.{items_of, members_of}
 use Rattle.exact_json.specs.Number.{head, after_digits, after_minus, after_sign, after_whole, after_fraction, after_exponent, after_number, IsNumber, is_space, ends_value}
-use Rattle.exact_json.specs.Strings.{text_at}
-use Rattle.exact_json.specs.Grammar.{IsSpace, Padded, MoreElements, Elements, IsText, IsPair, Spells, spellings, pair_spellings}
+use Rattle.exact_json.specs.StringReading.{text_at}
+use Rattle.exact_json.specs.Strings.{IsText}
+use Rattle.exact_json.specs.Grammar.{IsSpace, Padded, MoreElements, Elements, IsPair, Spells, spellings, pair_spellings}
 use Rattle.exact_json.specs.Reading.{Parse, parse_map, skip, literal, more_step, more_elements, elements_at, number_at, name_at, pair_at, token_at, scalar_at, list_of, object_of, value}
 use Rattle.exact_json.proofs.Numbers.{number_alone}
-use Rattle.exact_json.proofs.Texts.{by_bool, then_some, string_front, head_cons, none_some}
+use Rattle.exact_json.proofs.Texts.{by_bool, then_some, tested, string_front, head_cons, none_some}
+use Rattle.exact_json.proofs.Chars.{from_reading}
 use Rattle.exact_json.proofs.Quiet.{IsQuiet, AllQuiet, quiet_below, quiet_letter, quiet_append, quiet_digits}
 use Rattle.exact_json.proofs.Lists.{value_list, value_object, value_scalar, list_too_deep, object_too_deep}
 
@@ -42,11 +44,6 @@ mapped {A} {B} f (Some p) y z h = (p.0, ap (λ w. Some (p.0, w)) (ap second h), 
     second : Option (B × List ℕ) → List ℕ
     second None = []
     second (Some q) = q.1
-
--- a test that has to have passed
-pub tested : {A : Type 0} (c : Bool) (o : Option A) (y : A) → cond c o None ≡ Some y → (c ≡ true) × (o ≡ Some y)
-tested true o y h = (refl, h)
-tested false o y h = absurd (none_some h)
 
 pub pair_parts : {A : Type 0} (a c : A) (b d : List ℕ) → ◌≡◌ {A = Option (A × List ℕ)} (Some (a, b)) (Some (c, d)) → (a ≡ c) × (b ≡ d)
 pair_parts {A} a c b d h = (ap first h, ap second h)
@@ -194,7 +191,7 @@ number_value d b j z h =
 text_front : (b s z : List ℕ) → (head b == 34) ≡ true → text_at 0 (drop 1 b) ≡ Some (s, z) → (t : List ℕ) × (b ≡ t ++ z) × IsText s t
 text_front b s z q h =
     let f = string_front (drop 1 b) s z h in
-    (34 ∷ f.0, head_cons b 34 (eqb-true (head b) 34 q) (λ e. omega (arith, e)) ∙ ap (λ l. 34 ∷ l) f.1, (f.0, refl, f.2))
+    (34 ∷ f.0, head_cons b 34 (eqb-true (head b) 34 q) (λ e. omega (arith, e)) ∙ ap (λ l. 34 ∷ l) f.1, from_reading s (34 ∷ f.0) (f.0, refl, f.2))
 
 text_value : (d : ℕ) (b : List ℕ) (j : Json) (z : List ℕ) → (head b == 34) ≡ true → parse_map text (text_at 0 (drop 1 b)) ≡ Some (j, z) → ValueFront d b j z
 unfolding ValueFront

@@ -12,5 +12,8 @@ mod Document
 mod Slices
 mod Sizes
 mod Escapes
+mod Chars
+mod Tokens
+mod Turns
 mod Utf8
 mod Walks

@@ -2,7 +2,7 @@
 use Rattle.std.proofs.Common.{◌≡◌, ◌≢◌, ℕ, ◌∙◌, List, [], drop, Option, Some, None, refl, sym, ap}
 use Rattle.std.specs.List.{prefix_len}
 use Rattle.exact_json.specs.Number.{head}
-use Rattle.exact_json.specs.Strings.{text_at, is_plain, prepend, escape}
+use Rattle.exact_json.specs.StringReading.{text_at, is_plain, prepend, escape}
 use Rattle.exact_json.specs.Scanning.{rest_of}
 use Rattle.exact_json.proofs.Texts.{whole_run, quoted, stopped, text_at-escape, text_at-no_escape}
 

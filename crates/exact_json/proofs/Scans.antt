@@ -1,5 +1,5 @@
 -- The steps of the scan without recursion.
-use Rattle.std.proofs.Common.{◌≡◌, ◌≢◌, ℕ, zero, suc, ◌+◌, ◌-◌, ◌<◌, ◌≤◌, Bool, true, false, cond, ◌==◌, ◌∙◌, List, [], ◌∷◌, drop, length, Option, Some, None, is_some, option_and_then, option_map, slice_get, refl, sym, ap, ap₂, subst, arith}
+use Rattle.std.proofs.Common.{◌≡◌, ◌≢◌, ℕ, zero, suc, ◌+◌, ◌-◌, ◌<◌, ◌≤◌, Bool, true, false, cond, ◌==◌, ◌∙◌, List, [], ◌∷◌, drop, length, Option, Some, None, is_some, option_and_then, option_map, IfSome, slice_get, refl, sym, ap, ap₂, subst, arith}
 use Rattle.std.proofs.lemmas.Bool.{false≢true}
 use Rattle.exact_json.specs.Json.{Json, null}
 use Rattle.exact_json.specs.Number.{head}
@@ -7,7 +7,10 @@ use Rattle.exact_json.specs.Kinds.{opening, closing, KindAt}
 use Rattle.exact_json.specs.declared.kinds.Kind.{Kind}
 use Rattle.exact_json.specs.declared.kinds.Kind.TheVariants.{List as of_list, Object as of_object}
 use Rattle.exact_json.specs.Reading.{Parse, parse_map, skip, more_step, more_elements, name_at, pair_at, scalar_at, list_of, object_of, value}
-use Rattle.exact_json.specs.Scanning.{rest_of, past, element_value, past_open, past_all, AllAbove, Ends, Scanning}
+use Rattle.exact_json.specs.Scanning.{rest_of, past, element_value, past_open, past_all, AllAbove, Ends, Scanning, Enters}
+use Rattle.exact_json.specs.declared.fault.JsonFault.TheVariants.{Text}
+use Rattle.std.specs.Borrow.{Bor}
+use Rattle.std.specs.Option.{ok_or}
 use Rattle.exact_json.proofs.Lists.{step, at_comma, at_close, at_neither, no_elements, some_elements, value_list, value_object, value_scalar}
 
 none_some : {A : Type 0} {x : A} → None ≡ Some x → ⊥
@@ -228,3 +231,8 @@ passed_close text b mark rest k ks e i from w1 closed left w2 =
 pub passed_neither : (text b mark : List ℕ) (k : Kind) (ks : List Kind) → Some k ≡ slice_get ks 0 → Scanning text ks false b → mark ≡ skip b → head mark ≢ 44 → head mark ≢ closing k → Ends text None
 passed_neither text b mark k ks e i from nc nb =
     with_kind (λ l. Scanning text l false b → Ends text None) k (λ l s. neither_by text b k l s.least s.turns s.count s.same mark from nc nb) ks e i
+
+-- a scalar, or none
+pub scalar_entered : (text b : List ℕ) (ks : List Kind) (o : Option (Bor (List ℕ))) → Scanning text ks true b → KindAt (head b) None → option_map (λ r. r.now) o ≡ rest_of (scalar_at b) → IfSome o (λ r. length r.now ≤ length b) → Enters text ks (ok_or o Text)
+scalar_entered text b ks None i h is within = no_scalar text b ks i h is
+scalar_entered text b ks (Some r) i h is within = passed_scalar text b r.now ks i h is within

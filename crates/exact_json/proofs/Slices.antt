@@ -6,7 +6,7 @@ use Rattle.std.specs.List.{Contains, starts_with}
 use Rattle.std.specs.Global.{Vec}
 use Rattle.exact_json.specs.Json.{Json, null, boolean, number}
 use Rattle.exact_json.specs.Number.{head}
-use Rattle.exact_json.specs.Strings.{text_at}
+use Rattle.exact_json.specs.StringReading.{text_at}
 use Rattle.exact_json.specs.Grammar.{bare}
 use Rattle.exact_json.specs.Reading.{parse_map, skip, literal, number_at, token_at}
 use Rattle.exact_json.specs.Slices.{in_turn, IsTextOf, HasNoQuote, AreTextsOf, AreTextsBefore}
@@ -15,6 +15,7 @@ use Rattle.exact_json.specs.declared.tree.JsonText.TheVariants.{Plain, Made}
 use Rattle.exact_json.proofs.Texts.{by_bool, head_cons, string_front}
 use Rattle.exact_json.proofs.Fronts.{branch, literal_front, same_bytes, mapped, number_front, quiet_number, skipped}
 use Rattle.exact_json.proofs.Quiet.{AllQuiet, quiet_space}
+use Rattle.exact_json.proofs.Chars.{from_reading}
 
 -- ---- bytes without a quotation mark
 
@@ -101,7 +102,7 @@ pub plain_text : (b rest : List ℕ) (s : Bor (List ℕ)) → text_at 0 b ≡ So
 plain_text b rest s h at =
     let f = string_front b s.now rest h in
     let same : f.0 ≡ s.now ++ 34 ∷ [] = append_cancel_right f.0 (s.now ++ 34 ∷ []) rest (sym f.1 ∙ at ∙ sym (append_assoc s.now (34 ∷ []) rest)) in
-    one_text (Plain s) b f.0 rest f.1 (record { spelled = (f.0, refl, f.2); slice = ap (λ l. 34 ∷ l) same })
+    one_text (Plain s) b f.0 rest f.1 (record { spelled = from_reading _ (34 ∷ f.0) (f.0, refl, f.2); slice = ap (λ l. 34 ∷ l) same })
 
 -- a byte that stands before the rest of the bytes
 inside : (c : ℕ) (f rest front back : List ℕ) → f ++ rest ≡ front ++ c ∷ back → length rest ≤ length back → Contains f c
@@ -113,7 +114,7 @@ pub made_text : (b rest : List ℕ) (v : Vec ℕ) → text_at 0 b ≡ Some (v.it
 made_text b rest v h escaped =
     let f = string_front b v.items rest h in
     let c = inside 92 f.0 rest escaped.0 escaped.1 (sym f.1 ∙ escaped.2) escaped.3 in
-    one_text (Made v) b f.0 rest f.1 (record { spelled = (f.0, refl, f.2); slice = (suc c.0, omega (arith, c.1), c.2) })
+    one_text (Made v) b f.0 rest f.1 (record { spelled = from_reading _ (34 ∷ f.0) (f.0, refl, f.2); slice = (suc c.0, omega (arith, c.1), c.2) })
 
 -- ---- a whole text
 

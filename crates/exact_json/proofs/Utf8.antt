@@ -9,10 +9,12 @@ use Rattle.std.specs.Str.{IsUtf8}
 use Rattle.std.specs.Char.{IsScalar, encode_utf8}
 use Rattle.exact_json.specs.Json.{Json, null, boolean, number, text, items, object, Items, no_items, item, Members, no_pairs, pair, HasTexts, ItemsHaveTexts, MembersHaveTexts}
 use Rattle.exact_json.specs.Number.{head, is_space}
-use Rattle.exact_json.specs.Strings.{text_at, is_plain, escape}
-use Rattle.exact_json.specs.Grammar.{IsSpace, Padded, MoreElements, Elements, IsText, IsPair, Spells, spellings, pair_spellings, IsJson, bare}
+use Rattle.exact_json.specs.StringReading.{text_at, is_plain, escape}
+use Rattle.exact_json.specs.Strings.{IsText, IsHex, AreHex}
+use Rattle.exact_json.specs.Grammar.{IsSpace, Padded, MoreElements, Elements, IsPair, Spells, spellings, pair_spellings, IsJson, bare}
 use Rattle.exact_json.proofs.Texts.{by_bool, head_cons, none_some, taken_off, text_at-run, text_at-quote, text_at-escape, text_at-no_escape, stopped}
-use Rattle.exact_json.proofs.Escapes.{IsHex, AreHex, escape_forms}
+use Rattle.exact_json.proofs.Escapes.{escape_forms}
+use Rattle.exact_json.proofs.Chars.{to_reading}
 use Rattle.exact_json.proofs.Fronts.{pair_parts, not_same}
 
 at_seam : (a : List ℕ) (x : ℕ) (b : List ℕ) → get_or (a ++ x ∷ b) (length a) 0 ≡ x
@@ -69,7 +71,7 @@ hex_cut a b c d w h u =
 
 escape_cut : (xs : List ℕ) (e : ℕ × ℕ) → escape xs ≡ Some e → Cut xs e
 escape_cut = escape_forms Cut
-    (λ x w c low s. ((λ u. tail_utf8 x w low u), s))
+    (λ x w c is low s. ((λ u. tail_utf8 x w low u), s))
     (λ a b c d w n hex s. ((λ u. hex_cut a b c d w hex u), s))
     (λ a b c d e f g h w n hex more s. ((λ u. hex_cut e f g h w more (tail_utf8 92 (117 ∷ e ∷ f ∷ g ∷ h ∷ w) (omega arith) (hex_cut a b c d (92 ∷ 117 ∷ e ∷ f ∷ g ∷ h ∷ w) hex u))), s))
 
@@ -118,7 +120,9 @@ utf8_below (suc n) b s r less h u = run_utf8 n (utf8_below n) b s r less h u
 
 text_utf8 : (s b : List ℕ) → IsText s b → IsUtf8 b → IsUtf8 s
 unfolding Utf8Below
-text_utf8 s b h u = utf8_below (suc (length h.0)) h.0 s [] (omega arith) h.2 (tail_utf8 34 h.0 (omega arith) (subst IsUtf8 h.1 u))
+text_utf8 s b h u =
+    let t = to_reading s b h in
+    utf8_below (suc (length t.0)) t.0 s [] (omega arith) t.2 (tail_utf8 34 t.0 (omega arith) (subst IsUtf8 t.1 u))
 
 -- ---- lists and objects
 

@@ -6,11 +6,13 @@ use Rattle.std.specs.List.{prefix_len}
 use Rattle.std.specs.Char.{encode_utf8, is_digit}
 use Rattle.exact_json.specs.Json.{Json, null, boolean, number, text, items, object, Items, no_items, item, Members, no_pairs, pair, depth, items_depth, members_depth}
 use Rattle.exact_json.specs.Number.{head}
-use Rattle.exact_json.specs.Strings.{text_at, is_plain, escape}
-use Rattle.exact_json.specs.Grammar.{Padded, MoreElements, Elements, IsText, IsPair, Spells, spellings, pair_spellings, IsJson, bare}
+use Rattle.exact_json.specs.StringReading.{text_at, is_plain, escape}
+use Rattle.exact_json.specs.Strings.{IsText, IsHex, AreHex}
+use Rattle.exact_json.specs.Grammar.{Padded, MoreElements, Elements, IsPair, Spells, spellings, pair_spellings, IsJson, bare}
 use Rattle.exact_json.specs.Nesting.{Place, outside, in_string, behind_backslash, next_place, open_behind, most_open, nesting}
 use Rattle.exact_json.proofs.Texts.{by_bool, head_cons, none_some, taken_off, text_at-run, text_at-quote, text_at-escape, text_at-no_escape, stopped, string_again}
-use Rattle.exact_json.proofs.Escapes.{IsHex, AreHex, escape_forms}
+use Rattle.exact_json.proofs.Escapes.{escape_forms}
+use Rattle.exact_json.proofs.Chars.{to_reading}
 use Rattle.exact_json.proofs.Fronts.{pair_parts, not_same, quiet_number}
 use Rattle.exact_json.proofs.Quiet.{IsQuiet, AllQuiet, quiet_below, quiet_letter, quiet_space}
 use Rattle.exact_json.proofs.Utf8.{by_option}
@@ -83,7 +85,7 @@ backslash n b = same_count in_string behind_backslash n 92 b refl refl
 
 escape_walk : (xs : List ℕ) (e : ℕ × ℕ) → escape xs ≡ Some e → Passes xs e
 escape_walk = escape_forms Passes
-    (λ x w c low s n. any_byte n x w)
+    (λ x w c is low s n. any_byte n x w)
     (λ a b c d w u hex s n. any_byte n 117 (a ∷ b ∷ c ∷ d ∷ w) ∙ hex_bytes n a b c d w hex)
     (λ a b c d e f g h w u hex more s n.
     any_byte n 117 (a ∷ b ∷ c ∷ d ∷ 92 ∷ 117 ∷ e ∷ f ∷ g ∷ h ∷ w) ∙ hex_bytes n a b c d (92 ∷ 117 ∷ e ∷ f ∷ g ∷ h ∷ w) hex
@@ -130,8 +132,9 @@ walks_below (suc m) b s r n less h = run_walks m (walks_below m) b s r n less h
 text_walk : (s t r : List ℕ) (n : ℕ) → IsText s t → most_open outside n (t ++ r) ≡ most_open outside n r
 unfolding WalksBelow
 text_walk s t r n h =
-    ap (λ l. most_open outside n (l ++ r)) h.1 ∙ same_count outside in_string n 34 (h.0 ++ r) refl refl
-    ∙ walks_below (suc (length (h.0 ++ r))) (h.0 ++ r) s r n (omega arith) (string_again h.0 s r h.2)
+    let b = to_reading s t h in
+    ap (λ l. most_open outside n (l ++ r)) b.1 ∙ same_count outside in_string n 34 (b.0 ++ r) refl refl
+    ∙ walks_below (suc (length (b.0 ++ r))) (b.0 ++ r) s r n (omega arith) (string_again b.0 s r b.2)
 
 -- ---- values
 

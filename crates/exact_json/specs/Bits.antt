@@ -1,4 +1,4 @@
--- Kinds as the bits of numbers.
+-- The code's own way, and no promise: kinds as the bits of numbers.
 use Rattle.std.specs.Prelude.{◌≡◌, ◌<◌, ◌≤◌, ℕ, zero, suc, ◌/◌, ◌%◌, List, [], ◌∷◌, ◌++◌, cond, nat_lt, ◌==◌}
 use Rattle.exact_json.specs.declared.kinds.Kind.{Kind}
 use Rattle.exact_json.specs.declared.kinds.Kind.TheVariants.{List as of_list, Object as of_object}

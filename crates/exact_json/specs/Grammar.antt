@@ -1,10 +1,10 @@
 -- The grammar of RFC 8259: which bytes spell which value.
-use Rattle.std.specs.Prelude.{◌≡◌, ◌<◌, Result, Ok, Err, ℕ, List, [], ◌∷◌, ◌++◌, true, false, Some, cond, drop, nat_eq}
+use Rattle.std.specs.Prelude.{◌≡◌, ◌<◌, Result, Ok, Err, ℕ, List, [], ◌∷◌, ◌++◌, true, false, cond, drop, nat_eq}
 use Rattle.std.specs.List.{list_all, starts_with}
 use Rattle.std.specs.Str.{IsUtf8}
 use Rattle.exact_json.specs.Json.{Json, null, boolean, number, text, items, object, Items, no_items, item, Members, no_pairs, pair, depth}
 use Rattle.exact_json.specs.Number.{IsNumber, is_space}
-use Rattle.exact_json.specs.Strings.{text_at}
+use Rattle.exact_json.specs.Strings.{IsText}
 use Rattle.exact_json.specs.View.{tree_view}
 use Rattle.exact_json.specs.declared.tree.Tree.{Tree}
 use Rattle.exact_json.specs.declared.fault.JsonFault.{JsonFault}
@@ -26,10 +26,6 @@ MoreElements (P ∷ Ps) b = (first rest : List ℕ) × (b ≡ 44 ∷ first ++ re
 abbrev pub Elements : List (List ℕ → Type 0) → List ℕ → Type 0
 Elements [] b = IsSpace b
 Elements (P ∷ Ps) b = (first rest : List ℕ) × (b ≡ first ++ rest) × Padded P first × MoreElements Ps rest
-
--- string = quotation-mark *char quotation-mark (section 7)
-abbrev pub IsText : List ℕ → List ℕ → Type 0
-IsText s b = (body : List ℕ) × (b ≡ 34 ∷ body) × (text_at 0 body ≡ Some (s, []))
 
 -- member = string name-separator value (section 4)
 abbrev pub IsPair : List ℕ → (List ℕ → Type 0) → List ℕ → Type 0

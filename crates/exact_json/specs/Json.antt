@@ -130,3 +130,21 @@ abbrev mutual
   pub MembersHaveTexts : Members → Type 0
   MembersHaveTexts no_pairs = Unit {0}
   MembersHaveTexts (pair k j ms) = IsUtf8 k × HasTexts j × MembersHaveTexts ms
+
+-- the token of each number in it is so
+abbrev mutual
+  pub AllNumbers : (List ℕ → Type 0) → Json → Type 0
+  AllNumbers P null = Unit {0}
+  AllNumbers P (boolean b) = Unit {0}
+  AllNumbers P (number t) = P t
+  AllNumbers P (text s) = Unit {0}
+  AllNumbers P (items js) = AllItemNumbers P js
+  AllNumbers P (object ms) = AllMemberNumbers P ms
+
+  pub AllItemNumbers : (List ℕ → Type 0) → Items → Type 0
+  AllItemNumbers P no_items = Unit {0}
+  AllItemNumbers P (item j js) = AllNumbers P j × AllItemNumbers P js
+
+  pub AllMemberNumbers : (List ℕ → Type 0) → Members → Type 0
+  AllMemberNumbers P no_pairs = Unit {0}
+  AllMemberNumbers P (pair k j ms) = AllNumbers P j × AllMemberNumbers P ms

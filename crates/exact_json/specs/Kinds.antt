@@ -1,4 +1,4 @@
--- Brackets.
+-- The code's own way, and no promise: brackets.
 use Rattle.std.specs.Prelude.{◌≡◌, ◌≢◌, ℕ, Option, Some, None}
 use Rattle.exact_json.specs.declared.kinds.Kind.{Kind}
 use Rattle.exact_json.specs.declared.kinds.Kind.TheVariants.{List as of_list, Object as of_object}

@@ -4,6 +4,7 @@ pub mod Bits
 pub mod View
 pub mod Number
 pub mod Strings
+pub mod StringReading
 pub mod Grammar
 pub mod Slices
 pub mod Unclosed

@@ -1,10 +1,10 @@
--- Reading from the front: a value, and the bytes behind it.
+-- The code's own way, and no promise: reading from the front, a value and the bytes behind it.
 use Rattle.std.specs.Prelude.{◌≡◌, ℕ, zero, suc, ◌-◌, ◌≤◌, List, [], ◌∷◌, length, take, drop, nat_eq, true, false, cond, ◌==◌, Option, Some, None, option_map, option_and_then, Result, Ok, Err}
 use Rattle.std.specs.List.{prefix_len, starts_with}
 use Rattle.exact_json.specs.Json.{Json, null, boolean, number, text, items, object}
 use Rattle.exact_json.specs.View.{items_of, members_of}
 use Rattle.exact_json.specs.Number.{head, after_number, is_space, ends_value}
-use Rattle.exact_json.specs.Strings.{text_at}
+use Rattle.exact_json.specs.StringReading.{text_at}
 use Rattle.exact_json.specs.declared.fault.JsonFault.{JsonFault}
 use Rattle.exact_json.specs.declared.fault.JsonFault.TheVariants.{Text, Deep, OutOfMemory}
 

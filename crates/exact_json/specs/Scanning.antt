@@ -1,10 +1,12 @@
--- What the scan without recursion keeps: the brackets that are open, and what stands for the rest of them.
-use Rattle.std.specs.Prelude.{◌≡◌, ℕ, suc, ◌+◌, ◌≤◌, List, [], ◌∷◌, length, true, false, Bool, Option, Some, None, option_map, option_and_then, Result, Ok, Err}
+-- The code's own way, and no promise: what the scan without recursion keeps, the brackets that are open and what stands for the rest of them.
+use Rattle.std.specs.Prelude.{◌≡◌, ℕ, suc, ◌+◌, ◌<◌, ◌≤◌, List, [], ◌∷◌, length, true, false, Bool, Option, Some, None, option_map, option_and_then, Result, Ok, Err}
 use Rattle.std.specs.Borrow.{Bor}
 use Rattle.exact_json.specs.Json.{Json, null, depth}
 use Rattle.exact_json.specs.Reading.{skip, more_step, more_elements, name_at, pair_at, value}
 use Rattle.exact_json.specs.declared.kinds.Kind.{Kind}
 use Rattle.exact_json.specs.declared.kinds.Kind.TheVariants.{List as of_list, Object as of_object}
+use Rattle.exact_json.specs.declared.scan.Behind.{Behind}
+use Rattle.exact_json.specs.declared.scan.Behind.TheVariants.{Element, End}
 use Rattle.exact_json.specs.declared.fault.JsonFault.{JsonFault}
 use Rattle.exact_json.specs.declared.fault.JsonFault.TheVariants.{Text, Deep, OutOfMemory}
 
@@ -53,11 +55,30 @@ pub record Scanning (text : List ℕ) (kinds : List Kind) (expects : Bool) (rest
   pub least : ℕ
   pub same : (d : ℕ) → least ≤ d → past (d + length kinds) text ≡ option_and_then (past_all d kinds turns) (now expects d rest)
 
+-- why the scan of a text stops
+abbrev pub Stops : List ℕ → JsonFault → Type 0
+Stops text Text = Ends text None
+Stops text Deep = ⊥
+Stops text OutOfMemory = Unit {0}
+
+-- a value has ended where one was to come
+abbrev pub Enters : List ℕ → List Kind → Result (Bor (List ℕ)) JsonFault → Type 0
+Enters text kinds (Ok r) = Scanning text kinds false r.now
+Enters text kinds (Err e) = Stops text e
+
+-- a value is to come where one had ended, or nothing is
+abbrev pub Leaves : List ℕ → List Kind → Result Behind JsonFault → Type 0
+Leaves text kinds (Ok (Element r)) = Scanning text kinds true r.now
+Leaves text kinds (Ok (End r)) = Ends text (Some r.now)
+Leaves text kinds (Err e) = Stops text e
+
+abbrev pub IsShorter : List ℕ → Behind → Type 0
+IsShorter text (Element r) = length r.now < length text
+IsShorter text (End r) = Unit {0}
+
 abbrev pub Scans : List ℕ → Result (Bor (List ℕ)) JsonFault → Type 0
 Scans text (Ok r) = Ends text (Some r.now)
-Scans text (Err Text) = Ends text None
-Scans text (Err Deep) = ⊥
-Scans text (Err OutOfMemory) = Unit {0}
+Scans text (Err e) = Stops text e
 
 -- the value in front is j, at each depth that is enough, and z follows it
 abbrev pub Reads : List ℕ → Json → List ℕ → Type 0

@@ -1,7 +1,7 @@
 -- The texts of a tree beside the strings of the bytes that it was read from.
 use Rattle.std.specs.Prelude.{◌≡◌, ◌≢◌, ℕ, List, [], ◌∷◌, ◌++◌, map}
 use Rattle.std.specs.List.{AllByRecursion, Contains}
-use Rattle.exact_json.specs.Grammar.{IsText}
+use Rattle.exact_json.specs.Strings.{IsText}
 use Rattle.exact_json.specs.View.{text_view}
 use Rattle.exact_json.specs.declared.tree.JsonText.{JsonText}
 use Rattle.exact_json.specs.declared.tree.JsonText.TheVariants.{Plain, Made}

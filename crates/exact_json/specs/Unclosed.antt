@@ -1,4 +1,4 @@
--- What is read of lists and objects whose closing brackets are still to come.
+-- The code's own way, and no promise: what is read of lists and objects whose closing brackets are still to come.
 use Rattle.std.specs.Prelude.{◌≡◌}
 use Rattle.exact_json.specs.declared.unclosed.Unclosed.{Unclosed}
 

@@ -1,7 +1,8 @@
 //! Laws of JSON texts, as functions that do nothing: what they ensure holds of all texts.
 
 ghost use Rattle.std.specs.Prelude.{◌≡◌, ℕ, List};
-ghost use Rattle.exact_json.specs.Json.{Json, depth};
+ghost use Rattle.exact_json.specs.Json.{Json, depth, AllNumbers};
+ghost use Rattle.exact_json.specs.Number.{IsNumber};
 ghost use Rattle.exact_json.specs.Grammar.{IsJson, bare};
 ghost use Rattle.exact_json.specs.Nesting.{nesting};
 
@@ -13,4 +14,9 @@ pub fn one_value()
 /// A value is as deep as its text nests.
 pub fn depth_is_nesting()
     ensures { (b : List ℕ) → (j : Json) → IsJson b j → depth j ≡ nesting (bare b) }
+{}
+
+/// The token of each number in the value of a text is a number (RFC 8259, section 6).
+pub fn numbers_law()
+    ensures { (b : List ℕ) → (j : Json) → IsJson b j → AllNumbers IsNumber j }
 {}

@@ -5,7 +5,7 @@ ghost use Rattle.std.specs.List.{prefix_len};
 ghost use Rattle.std.specs.Char.{is_ascii_digit};
 ghost use Rattle.exact_json.specs.Number.{after_digits, after_minus, after_sign, after_whole, after_fraction, after_exponent, after_number};
 
-// What follows the first `count` bytes.
+/// What follows the first `count` bytes.
 pub(crate) fn after(text: &[u8], count: usize) -> &[u8]
     requires { count ≤ length text.now }
     ensures value { result.now ≡ drop count text.now }
@@ -14,7 +14,7 @@ pub(crate) fn after(text: &[u8], count: usize) -> &[u8]
     text.split_at(count).1
 }
 
-// The byte at i, or a space past the end.
+/// The byte at i, or a space past the end.
 pub(crate) fn byte_at(text: &[u8], i: usize) -> u8
     ensures { result ≡ get_or text.now i 32 }
 {

@@ -62,7 +62,7 @@ fn read_literal<'a>(text: &'a [u8], name: &[u8], tree: Tree<'a>) -> Option<(Tree
     }
 }
 
-// A literal or a number in front.
+/// A literal or a number in front.
 #[inline(always)]
 pub(crate) fn read_token(text: &[u8]) -> Option<(Tree<'_>, &[u8])>
     ensures value { option_map (λ r. (tree_view r.0, r.1.now)) result ≡ token_at text.now }
@@ -116,7 +116,7 @@ fn read_name<'a>(alloc: Global, text: &'a [u8]) -> Result<(JsonText<'a>, &'a [u8
     }
 }
 
-// One value, with lists and objects nested no deeper than `depth`, by which the recursion is measured.
+/// One value, with lists and objects nested no deeper than `depth`, by which the recursion is measured.
 #[cycle(read)]
 #[inline(always)]
 pub(crate) fn read_value<'a>(

@@ -1,10 +1,10 @@
 //! Passing over a value without recursion and without building anything, however deep it nests.
 
-ghost use Rattle.std.specs.Prelude.{◌≡◌, ◌≤◌, length, IfSome, option_map};
+ghost use Rattle.std.specs.Prelude.{◌≡◌, ◌≤◌, ℕ, List, true, false, length, IfSome, IfOk, option_map};
 ghost use Rattle.exact_json.specs.Kinds.{KindAt};
 ghost use Rattle.exact_json.specs.Number.{head};
 ghost use Rattle.exact_json.specs.Reading.{scalar_at, name_at};
-ghost use Rattle.exact_json.specs.Scanning.{Scans, rest_of, element_value};
+ghost use Rattle.exact_json.specs.Scanning.{Scanning, Enters, Leaves, IsShorter, Scans, rest_of, element_value};
 
 use crate::fault::JsonFault;
 use crate::kinds::{Kind, Kinds};
@@ -70,55 +70,73 @@ fn element_value(text: &[u8], kind: Kind) -> Option<&[u8]>
     }
 }
 
+// Passes over the value in front down to the first in it that holds no other: a scalar, or an empty list or object.
+fn enter<'a>(kinds: &mut Kinds, text: &'a [u8]) -> Result<&'a [u8], JsonFault>
+    ensures passed { (all : List ℕ) → Scanning all kinds.old true text.now → Enters all kinds.new result }
+    ensures within { IfOk result (λ r. length r.now ≤ length text.now) }
+{
+    let mut rest = text;
+    loop {
+        let Some(kind) = kind_at(rest) else {
+            return pass_scalar(rest).ok_or(JsonFault::Text);
+        };
+        let inside = skip_spaces(after(rest, 1));
+        if byte_at(inside, 0) == kind.closing() {
+            return Ok(after(inside, 1));
+        }
+        let Some(start) = element_value(inside, kind) else {
+            return Err(JsonFault::Text);
+        };
+        kinds.open(kind)?;
+        rest = start;
+    }
+}
+
+/// What is to come behind a value.
+enum Behind<'a> {
+    /// Another element.
+    Element(&'a [u8]),
+    /// What follows all that was open.
+    End(&'a [u8]),
+}
+
+// Passes over the closing brackets behind a value, up to a comma and the value behind that.
+fn leave<'a>(kinds: &mut Kinds, text: &'a [u8]) -> Result<Behind<'a>, JsonFault>
+    ensures passed { (all : List ℕ) → Scanning all kinds.old false text.now → Leaves all kinds.new result }
+    ensures within { IfOk result (IsShorter text.now) }
+{
+    let mut rest = text;
+    loop {
+        let Some(kind) = kinds.innermost() else {
+            return Ok(Behind::End(rest));
+        };
+        let mark = skip_spaces(rest);
+        let byte = byte_at(mark, 0);
+        if byte == b',' {
+            let Some(start) = element_value(after(mark, 1), kind) else {
+                return Err(JsonFault::Text);
+            };
+            return Ok(Behind::Element(start));
+        }
+        if byte != kind.closing() {
+            return Err(JsonFault::Text);
+        }
+        rest = after(mark, 1);
+        kinds.close();
+    }
+}
+
 /// What follows the value in front. It takes memory for the kinds of the brackets that are open.
 pub(crate) fn scan<'a>(alloc: Global, text: &'a [u8]) -> Result<&'a [u8], JsonFault>
     ensures { Scans text.now result }
 {
     let mut kinds = Kinds::new(alloc);
-    let mut expects = true;
     let mut rest = text;
     loop {
-        if expects {
-            match kind_at(rest) {
-                Some(kind) => {
-                    let inside = skip_spaces(after(rest, 1));
-                    if byte_at(inside, 0) == kind.closing() {
-                        rest = after(inside, 1);
-                        expects = false;
-                    } else {
-                        let Some(start) = element_value(inside, kind) else {
-                            return Err(JsonFault::Text);
-                        };
-                        kinds.open(kind)?;
-                        rest = start;
-                    }
-                }
-                None => {
-                    let Some(behind) = pass_scalar(rest) else {
-                        return Err(JsonFault::Text);
-                    };
-                    rest = behind;
-                    expects = false;
-                }
-            }
-        } else {
-            let Some(kind) = kinds.innermost() else {
-                return Ok(rest);
-            };
-            let mark = skip_spaces(rest);
-            let byte = byte_at(mark, 0);
-            if byte == b',' {
-                let Some(start) = element_value(after(mark, 1), kind) else {
-                    return Err(JsonFault::Text);
-                };
-                rest = start;
-                expects = true;
-            } else if byte == kind.closing() {
-                rest = after(mark, 1);
-                kinds.close();
-            } else {
-                return Err(JsonFault::Text);
-            }
+        let behind = enter(&mut kinds, rest)?;
+        match leave(&mut kinds, behind)? {
+            Behind::Element(start) => rest = start,
+            Behind::End(end) => return Ok(end),
         }
     }
 }

@@ -1,9 +1,10 @@
 //! Strings (RFC 8259, section 7), from behind the opening quote on.
 
-ghost use Rattle.std.specs.Prelude.{◌≡◌, ◌≢◌, ◌+◌, ◌≤◌, ◌<◌, ◌++◌, [], ◌∷◌, length, option_map, IfOk, IfSome, OnOk, encode_utf8};
+ghost use Rattle.std.specs.Prelude.{◌≡◌, ◌≢◌, ◌+◌, ◌≤◌, ◌<◌, ◌++◌, [], ◌∷◌, length, option_map, IfOk, IfSome, OnOk, SomeIff, encode_utf8};
 ghost use Rattle.std.specs.List.{prefix_len};
 ghost use Rattle.std.specs.Char.{digit_value};
-ghost use Rattle.exact_json.specs.Strings.{code_unit, short_escape, low_next, is_low, unit_escape, after_high, escape, text_at, is_plain};
+ghost use Rattle.exact_json.specs.Strings.{short_escape, is_low};
+ghost use Rattle.exact_json.specs.StringReading.{code_unit, low_next, unit_escape, after_high, escape, text_at, is_plain};
 ghost use Rattle.exact_json.specs.Reading.{Finds};
 ghost use Rattle.exact_json.specs.View.{text_view};
 ghost use Rattle.exact_json.specs.Slices.{AreTextsBefore};
@@ -29,49 +30,43 @@ fn plain_len(text: &[u8]) -> usize
     i
 }
 
-fn digit(c: u8) -> u32
-    ensures value { result ≡ digit_value c }
-    ensures bound { result ≤ 36 }
+// The value of a hexadecimal digit.
+fn hex_value(byte: u8) -> Option<u32>
+    ensures { SomeIff result (digit_value byte < 16) (digit_value byte) }
 {
-    match c {
-        b'0'..=b'9' => (c - b'0') as u32,
-        b'A'..=b'Z' => (c - b'A') as u32 + 10,
-        b'a'..=b'z' => (c - b'a') as u32 + 10,
-        _ => 36,
-    }
+    (byte as char).to_digit(16)
 }
 
 // The code unit of four hexadecimal digits in front.
-#[tactic(auto, unfolding(crate::specs::Strings::code_unit))]
+#[tactic(auto, unfolding(crate::specs::StringReading::code_unit))]
 fn code_unit(text: &[u8]) -> Option<u32>
     ensures value { result ≡ code_unit text.now }
     ensures bounds { IfSome result (λ u. (u < 65536) × (4 ≤ length text.now)) }
 {
     match text {
         [a, b, c, d, ..] => {
-            let (a, b, c, d) = (digit(*a), digit(*b), digit(*c), digit(*d));
-            if (a < 16) & (b < 16) & (c < 16) & (d < 16) {
-                Some(a * 4096 + b * 256 + c * 16 + d)
-            } else {
-                None
-            }
+            let (a, b) = (hex_value(*a)?, hex_value(*b)?);
+            let (c, d) = (hex_value(*c)?, hex_value(*d)?);
+            Some(a * 4096 + b * 256 + c * 16 + d)
         }
         _ => None,
     }
 }
 
 #[tactic(auto, unfolding(crate::specs::Strings::short_escape))]
-fn short_escape(x: u8) -> Option<u8>
-    ensures value { result ≡ short_escape x }
-    ensures some { IfSome result (λ _. x ≢ 32) }
+fn short_escape(letter: u8) -> Option<char>
+    ensures value { result ≡ short_escape letter }
+    ensures some { IfSome result (λ _. letter ≢ 32) }
 {
-    match x {
-        b'"' | b'\\' | b'/' => Some(x),
-        b'b' => Some(8),
-        b'f' => Some(12),
-        b'n' => Some(b'\n'),
-        b'r' => Some(b'\r'),
-        b't' => Some(b'\t'),
+    match letter {
+        b't' => Some('\t'),
+        b'n' => Some('\n'),
+        b'r' => Some('\r'),
+        b'b' => Some('\u{8}'),
+        b'f' => Some('\u{c}'),
+        b'/' => Some('/'),
+        b'"' => Some('"'),
+        b'\\' => Some('\\'),
         _ => None,
     }
 }
@@ -113,7 +108,7 @@ fn unit_escape(text: &[u8], unit: u32) -> (char, usize)
 }
 
 // The character that the text behind a backslash stands for, and in how many bytes.
-#[tactic(auto, unfolding(crate::specs::Strings::escape))]
+#[tactic(auto, unfolding(crate::specs::StringReading::escape))]
 fn escape(text: &[u8]) -> Option<(char, usize)>
     ensures value { result ≡ escape text.now }
     ensures within { IfSome result (λ e. (1 ≤ e.1) × (e.1 ≤ length text.now)) }
@@ -124,8 +119,8 @@ fn escape(text: &[u8]) -> Option<(char, usize)>
         let unit = code_unit(digits)?;
         Some(unit_escape(digits, unit))
     } else {
-        let c = short_escape(first)?;
-        Some((c as char, 1))
+        let character = short_escape(first)?;
+        Some((character, 1))
     }
 }
 

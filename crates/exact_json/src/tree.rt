@@ -9,7 +9,7 @@ ghost use Rattle.exact_json.specs.Slices.{texts_of, items_texts, members_texts};
 /// The bytes of a string, which are UTF-8.
 #[derive(Drop)]
 pub enum JsonText<'a> {
-    /// A slice of the input, where the string has no escape.
+    /// The bytes between the quotation marks, where the string has no escape.
     Plain(&'a [u8]),
     /// The text that escapes stand for.
     Made(Vec<u8>),
@@ -21,7 +21,7 @@ pub enum JsonText<'a> {
 pub enum Tree<'a> {
     Null,
     Bool(bool),
-    /// The token, as it stands in the input.
+    /// The token.
     Number(&'a [u8]),
     Text(JsonText<'a>),
     Items(Items<'a>),
@@ -119,7 +119,7 @@ impl<'a> Tree<'a> {
     }
 }
 
-// The tree of a list's items.
+/// The tree of a list's items.
 pub(crate) fn array<'a>(list: Vec<Tree<'a>>) -> Tree<'a>
     ensures value { tree_view result ≡ items (items_view list.entry.items) }
     ensures texts { texts_of result ≡ items_texts list.entry.items }
@@ -127,7 +127,7 @@ pub(crate) fn array<'a>(list: Vec<Tree<'a>>) -> Tree<'a>
     Tree::Items(Items { list })
 }
 
-// The tree of an object's pairs.
+/// The tree of an object's pairs.
 pub(crate) fn record<'a>(pairs: Vec<Pair<'a>>) -> Tree<'a>
     ensures value { tree_view result ≡ object (members_view pairs.entry.items) }
     ensures texts { texts_of result ≡ members_texts pairs.entry.items }

@@ -4,6 +4,7 @@ pub mod DigitValues
 pub mod Existence
 pub mod Nearest
 pub mod Positions
+pub mod ReadBack
 pub mod Roundings
 pub mod Sizes
 pub mod Values

@@ -1,4 +1,4 @@
--- A token cut at its signs, its first point and its first e, whether it is a number or not.
+-- The code's own way, and no promise: a token cut at its signs, its first point and its first e, whether it is a number or not.
 use Rattle.std.specs.Prelude.{◌≡◌, ℕ, ◌≢◌, ◌==◌, ◌||◌, Bool, true, false, List, IfSome, IfNone, slice_index}
 use Rattle.std.specs.Option.{option_map, option_copied}
 use Rattle.std.specs.List.{AllByRecursion}

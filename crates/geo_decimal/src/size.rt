@@ -33,7 +33,7 @@ impl<'a> Parts<'a> {
     }
 }
 
-/// How many digits, from the first on, stand at or above the billionths. `None` where a place is left even before the first.
+// How many digits, from the first on, stand at or above the billionths. `None` where a place is left even before the first.
 fn kept_digits(whole_len: usize, exponent: Option<Exponent<'_>>) -> Option<usize>
     requires exponent { IfSome (option_map exponent_of exponent) IsExponent }
     requires whole_len { whole_len < 2 ^ 63 }

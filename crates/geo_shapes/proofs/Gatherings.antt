@@ -7,7 +7,7 @@ use Rattle.std.proofs.lemmas.Grind.{flat_map-append}
 use Rattle.std.proofs.lemmas.Slice.Zip.{all_zipped_more}
 use Rattle.std.proofs.lemmas.Bool.Decides.{Decides-at, Decides-like, Decides-or}
 use Rattle.exact_json.specs.Json.{Json}
-use Rattle.geo_shapes.specs.declared.shaped.Shaped.{Shaped}
+use Rattle.geo_shapes.specs.declared.read_geometry.ReadGeometry.{ReadGeometry}
 use Rattle.geo_shapes.specs.declared.gathered.Gathered.{Gathered}
 use Rattle.geo_shapes.specs.Position.{IsNoPosition, BreaksPositions}
 use Rattle.geo_shapes.specs.Geometry.{longest_of}
@@ -46,7 +46,7 @@ gathers_none {T} Is Breaks places rings g fresh = record {
   longest = fresh.longest;
 }
 
-pub gathers_more : {T : Type 0} (Is : Json → T → Type 0) (Breaks : Json → Type 0) (places rings : Json → List Json) (xs : List Json) (x : Json) (old new : Gathered T) (read : Shaped T)
+pub gathers_more : {T : Type 0} (Is : Json → T → Type 0) (Breaks : Json → Type 0) (places rings : Json → List Json) (xs : List Json) (x : Json) (old new : Gathered T) (read : ReadGeometry T)
     → Gathers Is Breaks places rings xs old → Reads (Is x) (Breaks x) (places x) (rings x) read → Adds old read new → Gathers Is Breaks places rings (xs ++ x ∷ []) new
 gathers_more {T} Is Breaks places rings xs x old new read before here adds = record {
   figures = λ p f.
@@ -79,7 +79,7 @@ gathers_more {T} Is Breaks places rings xs x old new read before here adds = rec
 }
 
 -- the step of a loop over trees
-pub gathers_step : {A T : Type 0} (Is : Json → T → Type 0) (Breaks : Json → Type 0) (places rings : Json → List Json) (view : A → Json) (xs : List A) (i : ℕ) (x : A) (old new : Gathered T) (read : Shaped T)
+pub gathers_step : {A T : Type 0} (Is : Json → T → Type 0) (Breaks : Json → Type 0) (places rings : Json → List Json) (view : A → Json) (xs : List A) (i : ℕ) (x : A) (old new : Gathered T) (read : ReadGeometry T)
     → i < length xs → x ≡ get_or xs i x
     → Gathers Is Breaks places rings (map view (take i xs)) old → Reads (Is (view x)) (Breaks (view x)) (places (view x)) (rings (view x)) read → Adds old read new
     → Gathers Is Breaks places rings (map view (take (i + 1) xs)) new

@@ -4,3 +4,6 @@ mod Rings
 mod Gatherings
 mod Polygons
 mod Geometries
+mod NumbersCut
+mod NumbersRead
+mod NumberTokens

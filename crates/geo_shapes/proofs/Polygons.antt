@@ -11,7 +11,7 @@ use Rattle.venue_types.specs.declared.point.Line.{Line}
 use Rattle.venue_types.specs.declared.point.Ring.{Ring}
 use Rattle.venue_types.specs.declared.point.Part.{Part}
 use Rattle.venue_types.specs.declared.point.Shape.{Shape}
-use Rattle.geo_shapes.specs.declared.shaped.Shaped.{Shaped}
+use Rattle.geo_shapes.specs.declared.read_geometry.ReadGeometry.{ReadGeometry}
 use Rattle.geo_shapes.specs.declared.gathered.Gathered.{Gathered}
 use Rattle.geo_shapes.specs.Values.{listed, IsList}
 use Rattle.geo_shapes.specs.Position.{IsPosition, IsNoPosition, BreaksPositions}
@@ -286,7 +286,7 @@ single_value value (Some p) (Some s) is makes =
     record { parts = subst Q (sym makes) (is, tt); one = omega arith }
 
 -- what is read of one polygon, as a shape
-pub single_read : (value : Json) (read : Shaped Part) (made : Option Shape) → ReadsPolygon value read → MakesShape read.value made
+pub single_read : (value : Json) (read : ReadGeometry Part) (made : Option Shape) → ReadsPolygon value read → MakesShape read.value made
     → ReadsShape (value ∷ []) (record { value = made; bad_position = read.bad_position; bad_form = read.bad_form; positions = read.positions; longest = read.longest })
 single_read value read made reads makes =
     let same : flat_map listed (value ∷ []) ≡ listed value = append-nil (listed value) in

@@ -4,3 +4,4 @@ pub mod Figure
 pub mod Geometry
 pub mod Reading
 pub mod Laws
+pub mod Numbers

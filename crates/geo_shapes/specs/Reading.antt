@@ -1,4 +1,4 @@
--- What is read of a value, and of several in turn.
+-- The code's own way, and no promise, but for `Reads`: what is read of a value, and of several in turn.
 use Rattle.std.specs.Prelude.{◌≡◌, ◌≢◌, ◌↔◌, ℕ, ℤ, ◌+◌, ◌-◌, ◌^◌, ◌<◌, ◌≤◌, min, max, List, [], ◌∷◌, ◌++◌, length, Any, Bool, true, false, ◌||◌, IsTrue, IsSome, IfSome, IsSomeAnd, MatchOption, Option, Some, None, Vec, ◌⊎◌}
 use Rattle.std.specs.Option.{option_to_list}
 use Rattle.std.specs.List.{flat_map, AllZip}
@@ -8,7 +8,7 @@ use Rattle.venue_types.specs.declared.point.Line.{Line}
 use Rattle.venue_types.specs.declared.point.Ring.{Ring}
 use Rattle.venue_types.specs.declared.point.Part.{Part}
 use Rattle.venue_types.specs.declared.point.Shape.{Shape}
-use Rattle.geo_shapes.specs.declared.shaped.Shaped.{Shaped}
+use Rattle.geo_shapes.specs.declared.read_geometry.ReadGeometry.{ReadGeometry}
 use Rattle.geo_shapes.specs.declared.gathered.Gathered.{Gathered}
 use Rattle.geo_shapes.specs.Values.{listed}
 use Rattle.geo_shapes.specs.Position.{IsAngle, IsPosition, IsNoPosition, BreaksPositions}
@@ -64,7 +64,7 @@ Holds parts true made = made ≡ None
 Holds parts false made = made ≡ Some (record { parts = parts })
 
 -- a figure, the form that it has to have, and what stands in the place of a position and of a ring
-pub record Reads {T : Type 0} (Is : T → Type 0) (Breaks : Type 0) (places rings : List Json) (read : Shaped T) : Type 0 where
+pub record Reads {T : Type 0} (Is : T → Type 0) (Breaks : Type 0) (places rings : List Json) (read : ReadGeometry T) : Type 0 where
   pub value : IfSome read.value Is
   pub there : IsSome read.value ↔ ((read.bad_position ≡ false) × (read.bad_form ≡ false))
   pub bad_position : IsTrue read.bad_position ↔ BreaksPositions places
@@ -89,17 +89,17 @@ pub record IsFresh {T : Type 0} (gathered : Gathered T) : Type 0 where
   pub longest : gathered.longest ≡ 0
 
 -- one more is taken in
-pub record Adds {T : Type 0} (old : Gathered T) (read : Shaped T) (new : Gathered T) : Type 0 where
+pub record Adds {T : Type 0} (old : Gathered T) (read : ReadGeometry T) (new : Gathered T) : Type 0 where
   pub figures : new.figures.items ≡ old.figures.items ++ option_to_list read.value
   pub bad_position : new.bad_position ≡ (old.bad_position || read.bad_position)
   pub bad_form : new.bad_form ≡ (old.bad_form || read.bad_form)
   pub positions : new.positions ≡ min (old.positions + read.positions) (2 ^ 64 - 1)
   pub longest : new.longest ≡ max old.longest read.longest
 
-abbrev pub ReadsLine : Json → Shaped Line → Type 0
+abbrev pub ReadsLine : Json → ReadGeometry Line → Type 0
 ReadsLine value read = Reads (IsLine value) (BreaksLine value) (listed value) [] read × (read.positions ≡ length (listed value))
 
-abbrev pub ReadsRing : Json → Shaped Ring → Type 0
+abbrev pub ReadsRing : Json → ReadGeometry Ring → Type 0
 ReadsRing value read = Reads (IsRing value) (BreaksRing value) (listed value) (value ∷ []) read
 
 abbrev pub GathersRings : List Json → Gathered Ring → Type 0
@@ -109,7 +109,7 @@ GathersRings values gathered = Gathers IsRing BreaksRing listed (λ value. value
 abbrev pub polygon_positions : Json → List Json
 polygon_positions value = flat_map listed (listed value)
 
-abbrev pub ReadsPolygon : Json → Shaped Part → Type 0
+abbrev pub ReadsPolygon : Json → ReadGeometry Part → Type 0
 ReadsPolygon value read = Reads (IsPolygon value) (BreaksPolygon value) (polygon_positions value) (listed value) read
 
 abbrev pub GathersPolygons : List Json → Gathered Part → Type 0
@@ -128,5 +128,5 @@ MakesShape (Some part) made = IsSomeAnd made (λ shape. shape.parts ≡ part ∷
 abbrev pub BreaksOf : List Json → Type 0
 BreaksOf polygons = (polygons ≡ []) ⊎ Any BreaksPolygon polygons
 
-abbrev pub ReadsShape : List Json → Shaped Shape → Type 0
+abbrev pub ReadsShape : List Json → ReadGeometry Shape → Type 0
 ReadsShape polygons read = Reads (IsOf polygons) (BreaksOf polygons) (flat_map listed (flat_map listed polygons)) (flat_map listed polygons) read

@@ -3,7 +3,7 @@
 ghost use Rattle.std.specs.Prelude.{◌≡◌, [], false, IfOk, OnOk};
 ghost use Rattle.geo_shapes.specs.Reading.{Adds, IsFresh};
 
-use crate::shaped::Shaped;
+use crate::read_geometry::ReadGeometry;
 use std::alloc::Global;
 use venue_types::OutOfMemory;
 
@@ -33,10 +33,10 @@ impl<T: Drop> Gathered<T> {
     }
 
     /// Takes one more in.
-    pub fn add(&mut self, read: Shaped<T>) -> Result<(), OutOfMemory>
+    pub fn add(&mut self, read: ReadGeometry<T>) -> Result<(), OutOfMemory>
         ensures { OnOk result (Adds self.old read self.new) }
     {
-        let Shaped {
+        let ReadGeometry {
             value,
             bad_position,
             bad_form,

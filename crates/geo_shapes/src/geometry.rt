@@ -9,7 +9,7 @@ ghost use Rattle.geo_shapes.specs.Geometry.{coordinates, is_multi, HasPoint, Has
 
 use crate::polygon::{several, single};
 use crate::position::{count, maybe_position, points};
-use crate::shaped::Shaped;
+use crate::read_geometry::ReadGeometry;
 use crate::values::{is_text, member};
 use exact_json::Tree;
 use std::alloc::Global;
@@ -33,7 +33,7 @@ fn is_multi(tree: &Tree) -> bool
 }
 
 /// Reads a Point (RFC 7946, section 3.1.2), whatever its `type` says. It takes no memory.
-pub fn point(tree: &Tree) -> Shaped<Point>
+pub fn point(tree: &Tree) -> ReadGeometry<Point>
     ensures value { IfSome result.value (HasPoint (tree_view tree.now)) }
     ensures there { IsSome result.value ↔ ((result.bad_position ≡ false) × (result.bad_form ≡ false)) }
     ensures bad_position { IsTrue result.bad_position ↔ BreaksPositions (point_places (tree_view tree.now)) }
@@ -42,7 +42,7 @@ pub fn point(tree: &Tree) -> Shaped<Point>
     ensures longest { result.longest ≡ 0 }
 {
     let value = maybe_position(coordinates(tree));
-    Shaped {
+    ReadGeometry {
         value,
         bad_position: value.is_none(),
         bad_form: false,
@@ -70,18 +70,18 @@ fn drawn(points: Option<Vec<Point>>, bad_form: bool) -> Option<Line>
 }
 
 // Reads the positions of a line.
-fn line_of(alloc: Global, tree: &Tree) -> Result<Shaped<Line>, OutOfMemory>
+fn line_of(alloc: Global, tree: &Tree) -> Result<ReadGeometry<Line>, OutOfMemory>
     ensures { IfOk result (ReadsLine (tree_view tree.now)) }
 {
     let trees = match tree.as_items() {
         Some(trees) => trees,
-        None => return Ok(Shaped::no_list()),
+        None => return Ok(ReadGeometry::no_list()),
     };
     let points = points(alloc, trees)?;
     let positions = count(trees);
     let bad_form = positions < 2;
     let bad_position = points.is_none();
-    Ok(Shaped {
+    Ok(ReadGeometry {
         value: drawn(points, bad_form),
         bad_position,
         bad_form,
@@ -90,17 +90,17 @@ fn line_of(alloc: Global, tree: &Tree) -> Result<Shaped<Line>, OutOfMemory>
     })
 }
 
-fn read_line(alloc: Global, tree: &Tree) -> Result<Shaped<Line>, OutOfMemory>
+fn read_line(alloc: Global, tree: &Tree) -> Result<ReadGeometry<Line>, OutOfMemory>
     ensures { IfOk result (ReadsLine (coordinates (tree_view tree.now))) }
 {
     match coordinates(tree) {
         Some(value) => line_of(alloc, value),
-        None => Ok(Shaped::no_list()),
+        None => Ok(ReadGeometry::no_list()),
     }
 }
 
 /// Reads a LineString (RFC 7946, section 3.1.4), whatever its `type` says, in time that grows with its positions.
-pub fn line(alloc: Global, tree: &Tree) -> Result<Shaped<Line>, OutOfMemory>
+pub fn line(alloc: Global, tree: &Tree) -> Result<ReadGeometry<Line>, OutOfMemory>
     ensures value { IfOk result (λ r. IfSome r.value (HasLine (tree_view tree.now))) }
     ensures there { IfOk result (λ r.
         IsSome r.value ↔ ((r.bad_position ≡ false) × (r.bad_form ≡ false))) }
@@ -114,17 +114,17 @@ pub fn line(alloc: Global, tree: &Tree) -> Result<Shaped<Line>, OutOfMemory>
     read_line(alloc, tree)
 }
 
-fn read_shape(alloc: Global, tree: &Tree) -> Result<Shaped<Shape>, OutOfMemory>
+fn read_shape(alloc: Global, tree: &Tree) -> Result<ReadGeometry<Shape>, OutOfMemory>
     ensures { IfOk result (ReadsShape (polygon_places (tree_view tree.now))) }
 {
     let value = match coordinates(tree) {
         Some(value) => value,
-        None => return Ok(Shaped::no_list()),
+        None => return Ok(ReadGeometry::no_list()),
     };
     if is_multi(tree) {
         match value.as_items() {
             Some(trees) => several(alloc, trees),
-            None => Ok(Shaped::no_list()),
+            None => Ok(ReadGeometry::no_list()),
         }
     } else {
         single(alloc, value)
@@ -134,7 +134,7 @@ fn read_shape(alloc: Global, tree: &Tree) -> Result<Shaped<Shape>, OutOfMemory>
 /// Reads a MultiPolygon (RFC 7946, section 3.1.7) where its `type` says so, else a Polygon (section 3.1.6), in one part.
 ///
 /// It goes over the positions once.
-pub fn shape(alloc: Global, tree: &Tree) -> Result<Shaped<Shape>, OutOfMemory>
+pub fn shape(alloc: Global, tree: &Tree) -> Result<ReadGeometry<Shape>, OutOfMemory>
     ensures value { IfOk result (λ r. IfSome r.value (HasShape (tree_view tree.now))) }
     ensures there { IfOk result (λ r.
         IsSome r.value ↔ ((r.bad_position ≡ false) × (r.bad_form ≡ false))) }

@@ -1,7 +1,9 @@
 //! Laws of what a geometry stands for.
 
 ghost use Rattle.geo_shapes.specs.Laws.{HasOnePoint, HasOneLine, HasOneShape};
+ghost use Rattle.geo_shapes.specs.Numbers.{SameNumbers, HasDecimals};
 
+use exact_json::laws::numbers_law;
 use geo_decimal::has_one_value;
 
 /// No Point stands for two points.
@@ -23,4 +25,17 @@ pub fn has_one_shape()
     ensures { HasOneShape }
 {
     has_one_value();
+}
+
+/// A token is a number of JSON text exactly where it is one that `nano` takes.
+pub fn same_numbers_law()
+    ensures { SameNumbers }
+{}
+
+/// `nano` never answers `Form` to the token of a number in a tree: by `read: ok` the tree is the value of a text, and by
+/// `nano: form` that answer comes where the token is no number.
+pub fn decimals_law()
+    ensures { HasDecimals }
+{
+    numbers_law();
 }

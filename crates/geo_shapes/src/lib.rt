@@ -6,12 +6,12 @@ mod geometry;
 mod laws;
 mod polygon;
 mod position;
+mod read_geometry;
 mod ring;
-mod shaped;
 #[cfg(test)]
 mod tests;
 mod values;
 
 pub use geometry::{line, point, shape};
-pub use laws::{has_one_line, has_one_point, has_one_shape};
-pub use shaped::Shaped;
+pub use laws::{decimals_law, has_one_line, has_one_point, has_one_shape, same_numbers_law};
+pub use read_geometry::ReadGeometry;

@@ -5,8 +5,8 @@ ghost use Rattle.exact_json.specs.View.{tree_view};
 ghost use Rattle.geo_shapes.specs.Reading.{Encloses, Holds, IsBadList, MakesShape, ReadsPolygon, GathersPolygons, ReadsShape};
 
 use crate::gathered::Gathered;
+use crate::read_geometry::ReadGeometry;
 use crate::ring::rings;
-use crate::shaped::Shaped;
 use exact_json::Tree;
 use std::alloc::Global;
 use venue_types::{List, OutOfMemory, Part, Ring, Shape};
@@ -35,12 +35,12 @@ fn breaks_form(bad_form: bool, trees: &[Tree]) -> bool
 }
 
 // Reads a polygon.
-fn polygon(alloc: Global, tree: &Tree) -> Result<Shaped<Part>, OutOfMemory>
+fn polygon(alloc: Global, tree: &Tree) -> Result<ReadGeometry<Part>, OutOfMemory>
     ensures { IfOk result (ReadsPolygon (tree_view tree.now)) }
 {
     let trees = match tree.as_items() {
         Some(trees) => trees,
-        None => return Ok(Shaped::no_list()),
+        None => return Ok(ReadGeometry::no_list()),
     };
     let Gathered {
         figures,
@@ -50,7 +50,7 @@ fn polygon(alloc: Global, tree: &Tree) -> Result<Shaped<Part>, OutOfMemory>
         longest,
     } = rings(alloc, trees)?;
     let bad_form = breaks_form(bad_form, trees);
-    Ok(Shaped {
+    Ok(ReadGeometry {
         value: part(figures, bad_position, bad_form),
         bad_position,
         bad_form,
@@ -85,7 +85,7 @@ fn shape_of(parts: Vec<Part>, bad_position: bool, bad_form: bool) -> Option<Shap
 }
 
 /// Reads a list of polygons, one or more.
-pub(crate) fn several(alloc: Global, trees: &[Tree]) -> Result<Shaped<Shape>, OutOfMemory>
+pub(crate) fn several(alloc: Global, trees: &[Tree]) -> Result<ReadGeometry<Shape>, OutOfMemory>
     ensures { IfOk result (ReadsShape (map tree_view trees.now)) }
 {
     let Gathered {
@@ -96,7 +96,7 @@ pub(crate) fn several(alloc: Global, trees: &[Tree]) -> Result<Shaped<Shape>, Ou
         longest,
     } = polygons(alloc, trees)?;
     let bad_form = breaks_form(bad_form, trees);
-    Ok(Shaped {
+    Ok(ReadGeometry {
         value: shape_of(figures, bad_position, bad_form),
         bad_position,
         bad_form,
@@ -121,10 +121,10 @@ fn one_part(alloc: Global, part: Option<Part>) -> Result<Option<Shape>, OutOfMem
 }
 
 /// Reads one polygon, as a shape of one part.
-pub(crate) fn single(alloc: Global, tree: &Tree) -> Result<Shaped<Shape>, OutOfMemory>
+pub(crate) fn single(alloc: Global, tree: &Tree) -> Result<ReadGeometry<Shape>, OutOfMemory>
     ensures { IfOk result (ReadsShape (tree_view tree.now ∷ [])) }
 {
-    let Shaped {
+    let ReadGeometry {
         value,
         bad_position,
         bad_form,
@@ -132,7 +132,7 @@ pub(crate) fn single(alloc: Global, tree: &Tree) -> Result<Shaped<Shape>, OutOfM
         longest,
     } = polygon(alloc, tree)?;
     let value = one_part(alloc, value)?;
-    Ok(Shaped {
+    Ok(ReadGeometry {
         value,
         bad_position,
         bad_form,

@@ -7,7 +7,7 @@ ghost use Rattle.geo_shapes.specs.Reading.{AreApart, Closes, IsBadRing, ReadsPos
 
 use crate::gathered::Gathered;
 use crate::position::{count, maybe_position, points};
-use crate::shaped::Shaped;
+use crate::read_geometry::ReadGeometry;
 use exact_json::Tree;
 use geo_decimal::has_one_value;
 use std::alloc::Global;
@@ -62,19 +62,19 @@ fn closed(points: Option<Vec<Point>>, bad_form: bool) -> Option<Ring>
 }
 
 /// Reads a ring, and goes over its positions once.
-pub(crate) fn ring(alloc: Global, tree: &Tree) -> Result<Shaped<Ring>, OutOfMemory>
+pub(crate) fn ring(alloc: Global, tree: &Tree) -> Result<ReadGeometry<Ring>, OutOfMemory>
     ensures { IfOk result (ReadsRing (tree_view tree.now)) }
 {
     has_one_value();
     let trees = match tree.as_items() {
         Some(trees) => trees,
-        None => return Ok(Shaped::no_list()),
+        None => return Ok(ReadGeometry::no_list()),
     };
     let points = points(alloc, trees)?;
     let bad_form = breaks_form(trees, &points);
     let bad_position = points.is_none();
     let positions = count(trees);
-    Ok(Shaped {
+    Ok(ReadGeometry {
         value: closed(points, bad_form),
         bad_position,
         bad_form,

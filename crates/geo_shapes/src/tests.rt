@@ -2,7 +2,7 @@
 
 mod table;
 
-use crate::{Shaped, line, point, shape};
+use crate::{ReadGeometry, line, point, shape};
 use exact_json::{Tree, read};
 use std::alloc::Global;
 use std::test::Fail;
@@ -45,7 +45,7 @@ fn shape_end(shape: &Shape) -> Option<(i64, i64)> {
 }
 
 fn seen_point(tree: &Tree) -> Seen {
-    let Shaped {
+    let ReadGeometry {
         value,
         bad_position,
         bad_form,
@@ -60,7 +60,7 @@ fn seen_point(tree: &Tree) -> Seen {
 }
 
 fn seen_line(alloc: Global, tree: &Tree) -> Result<Seen, OutOfMemory> {
-    let Shaped {
+    let ReadGeometry {
         value,
         bad_position,
         bad_form,
@@ -75,7 +75,7 @@ fn seen_line(alloc: Global, tree: &Tree) -> Result<Seen, OutOfMemory> {
 }
 
 fn seen_shape(alloc: Global, tree: &Tree) -> Result<Seen, OutOfMemory> {
-    let Shaped {
+    let ReadGeometry {
         value,
         bad_position,
         bad_form,

@@ -6,7 +6,7 @@ ghost use Rattle.imdf_forms.specs.Items.{geometry as geometry_of_item};
 ghost use Rattle.imdf_read.specs.Judging.{IsRead, IsJudged};
 
 use exact_json::Tree;
-use geo_shapes::{Shaped, line, point, shape};
+use geo_shapes::{ReadGeometry, line, point, shape};
 use imdf_forms::{File, Geometry, fits_geometry, geometry, is_feature};
 use imdf_rows::Figure;
 use std::alloc::Global;
@@ -85,7 +85,7 @@ fn judged_point(tree: &Tree) -> Judged
 fn judged_line(alloc: Global, tree: &Tree) -> Result<Judged, OutOfMemory>
     ensures { IfOk result (IsRead Geometry.Line (tree_view tree.now)) }
 {
-    let Shaped {
+    let ReadGeometry {
         value,
         bad_position,
         bad_form,
@@ -104,7 +104,7 @@ fn judged_line(alloc: Global, tree: &Tree) -> Result<Judged, OutOfMemory>
 fn judged_shape(alloc: Global, tree: &Tree) -> Result<Judged, OutOfMemory>
     ensures { IfOk result (IsRead Geometry.Shape (tree_view tree.now)) }
 {
-    let Shaped {
+    let ReadGeometry {
         value,
         bad_position,
         bad_form,

@@ -1,12 +1,12 @@
-use Rattle.std.proofs.Common.{◌≡◌, ◌≢◌, ℕ, suc, ◌-◌, ◌≤◌, [], ◌∷◌, ◌++◌, take, drop, length, map, Some, None, refl, sym, ap, ◌∙◌, subst, arith, rules}
-use Rattle.std.proofs.Math.Seq.{drop-length, take-length}
+use Rattle.std.proofs.Common.{◌≡◌, ◌≢◌, ℕ, suc, ◌-◌, ◌≤◌, [], ◌∷◌, ◌++◌, length, map, Some, sym, ap, ◌∙◌, subst, arith, rules}
 use Rattle.std.proofs.lemmas.Result.{err_from_is_err_and}
 use Rattle.exact_json.specs.View.{tree_view, pair_view}
 use Rattle.exact_json.specs.Number.{head}
 use Rattle.exact_json.specs.Slices.{texts_of, pair_texts, items_texts, members_texts, AreTextsBefore}
-use Rattle.exact_json.specs.Reading.{more_elements, elements_at, pair_at, value}
-use Rattle.exact_json.proofs.Lists.{joined, joined_nil, map_pushed, drop_pushed, take_pushed, length_pushed, comma_turn, last_turn, bad_turn, lost_turn, no_elements, some_elements, list_too_deep, object_too_deep, carry, carry_up, list_is, object_is, no_list, no_object, scalar_is}
-use Rattle.exact_json.proofs.Slices.{joins, then_quiet, spaces, one_byte, spaced_byte, more_texts}
+use Rattle.exact_json.specs.Reading.{elements_at, pair_at, value}
+use Rattle.exact_json.proofs.Turns.{first_turn, next_turn, last_elements, last_texts, bad, lost}
+use Rattle.exact_json.proofs.Lists.{no_elements, list_too_deep, object_too_deep, carry, carry_up, list_is, object_is, no_list, no_object, scalar_is}
+use Rattle.exact_json.proofs.Slices.{joins, spaces, one_byte, spaced_byte}
 use Rattle.exact_json.proofs.reading.+read.Goals as goal
 
 -- ---- a value
@@ -111,113 +111,63 @@ pub read_items-loop-tree-init : goal.read_items-loop-tree-init
 read_items-loop-tree-init t c =
     let s = c.skip_spaces-rest.result.now in
     let all = c.args.unclosed.now.trees.items in
-    let start = c.len-start.result in
-    let count : start ≡ length all = grind arith in
+    let count : c.len-start.result ≡ length all = grind arith in
     let h : head s ≢ 93 = grind arith in
-    let none : drop start all ≡ [] = ap (λ n. drop n all) count ∙ drop-length all in (
-      suc (length s),
-      omega arith,
-      (λ d le. some_elements 93 (value d) c.args.text.now s c.skip_spaces-rest.ensures.value h ∙ joined_nil (more_elements 93 (value d) (suc (length s)) s) ∙ ap (λ l. joined (map tree_view l) (more_elements 93 (value d) (suc (length s)) s)) (sym none)),
-      c.skip_spaces-rest.ensures.within,
-      subst (λ l. AreTextsBefore (items_texts l) c.args.text.now s) (sym none) (spaces c.args.text.now s c.skip_spaces-rest.ensures.value),
-      omega (arith, count),
-      ap (λ n. take n all) count ∙ take-length all,
-      refl,
-    )
+    first_turn tree_view texts_of 93 value c.args.depth c.args.text.now c.len-start.result all c.args.unclosed.now.pairs.items s c.skip_spaces-rest.ensures.value c.skip_spaces-rest.ensures.within h count
 
 pub read_items-loop-tree-preserved : goal.read_items-loop-tree-preserved
 read_items-loop-tree-preserved t c =
     let l = c.loop-tree in
-    let n = l.invariant.0 in
-    let s = c.skip_spaces.result.now in
     let m = c.skip_spaces-mark.result.now in
-    let tree = c.in_ok-tree.tree in
-    let behind = c.in_ok-tree.behind.now in
-    let rest = c.after-rest.result.now in
-    let start = c.len-start.result in
-    let before = l.unclosed.trees.items in
-    let xs = drop start before in
-    let ys = drop start c.push.new.self.items in
-    let kept = c.in_ok-tree.ensures.kept in
+    let found = c.in_ok-tree in
     let h : head m ≡ 44 = grind arith in
-    let pushed : c.push.new.self.items ≡ c.read_value.new.unclosed.trees.items ++ tree ∷ [] = search rules in
-    let grown : ys ≡ xs ++ tree ∷ [] = drop_pushed start before _ _ tree l.invariant.5 kept.trees pushed in
-    let seen : map tree_view xs ++ tree_view tree ∷ [] ≡ map tree_view ys = map_pushed tree_view xs tree ∙ ap (map tree_view) (sym grown) in
-    let inside = c.in_ok-tree.ensures.within in (
-      n - 1,
-      omega (arith, l.invariant.1, inside),
-      (λ d le. l.invariant.2 d le
-          ∙ comma_turn 93 (value d) n l.rest.now s m (map tree_view xs) (map tree_view ys) (tree_view tree) behind rest (omega (arith, l.invariant.1)) c.skip_spaces.ensures.value (c.in_ok-tree.ensures.value d le) c.skip_spaces-mark.ensures.value h c.after-rest.ensures.value seen),
-      omega (arith, l.invariant.3, inside),
-      then_quiet (items_texts ys) c.args.text.now behind rest
-          (more_texts texts_of xs ys tree c.args.text.now l.rest.now s behind grown l.invariant.4 c.skip_spaces.ensures.value c.in_ok-tree.ensures.slices)
-          (spaced_byte 44 behind m rest (λ e. omega (arith, e)) (λ e. omega (arith, e)) c.skip_spaces-mark.ensures.value h c.after-rest.ensures.value),
-      length_pushed start before _ _ tree l.invariant.5 kept.trees pushed,
-      take_pushed start before _ _ tree l.invariant.5 kept.trees pushed ∙ l.invariant.6,
-      kept.pairs ∙ l.invariant.7,
-    )
+    let pushed : c.push.new.self.items ≡ c.read_value.new.unclosed.trees.items ++ found.tree ∷ [] = search rules in
+    next_turn tree_view texts_of 93 value c.args.depth c.args.text.now c.len-start.result c.args.unclosed.now.trees.items c.args.unclosed.now.pairs.items l.unclosed.trees.items l.unclosed.pairs.items l.rest.now l.invariant c.skip_spaces.result.now
+    c.skip_spaces.ensures.value found.tree found.behind.now m found.ensures.value c.skip_spaces-mark.ensures.value c.skip_spaces.ensures.within found.ensures.within found.ensures.slices c.read_value.new.unclosed.trees.items c.push.new.self.items found.ensures.kept.trees pushed
+    c.read_value.new.unclosed.pairs.items c.after-rest.result.now found.ensures.kept.pairs c.skip_spaces-mark.ensures.within h c.after-rest.ensures.value c.after-rest.ensures.len
 
 pub read_items-returns-in-93-clause-value : goal.read_items-returns-in-93-clause-value
 read_items-returns-in-93-clause-value t c =
     let l = c.loop-tree in
-    let n = l.invariant.0 in
-    let s = c.skip_spaces.result.now in
     let m = c.skip_spaces-mark.result.now in
-    let tree = c.in_ok-tree.tree in
-    let rest = c.after-in-93.result.now in
-    let start = c.len-start.result in
-    let before = l.unclosed.trees.items in
-    let xs = drop start before in
-    let ys = c.in_ok-split_off-in-93.field-0.items in
+    let found = c.in_ok-tree in
+    let last = c.in_ok-split_off-in-93 in
     let h : head m ≡ 93 = grind arith in
-    let pushed : c.push.new.self.items ≡ c.read_value.new.unclosed.trees.items ++ tree ∷ [] = search rules in
-    let grown : ys ≡ xs ++ tree ∷ [] = c.in_ok-split_off-in-93.ensures.tail ∙ drop_pushed start before _ _ tree l.invariant.5 c.in_ok-tree.ensures.kept.trees pushed in
-    let seen : map tree_view xs ++ tree_view tree ∷ [] ≡ map tree_view ys = map_pushed tree_view xs tree ∙ ap (map tree_view) (sym grown) in
-    λ d le. l.invariant.2 d le
-    ∙ last_turn 93 (value d) n l.rest.now s m (map tree_view xs) (map tree_view ys) (tree_view tree) c.in_ok-tree.behind.now rest (λ e. omega (arith, e)) (omega (arith, l.invariant.1)) c.skip_spaces.ensures.value (c.in_ok-tree.ensures.value d le) c.skip_spaces-mark.ensures.value h c.after-in-93.ensures.value seen
+    let pushed : c.push.new.self.items ≡ c.read_value.new.unclosed.trees.items ++ found.tree ∷ [] = search rules in
+    last_elements tree_view texts_of 93 value c.args.depth c.args.text.now c.len-start.result c.args.unclosed.now.trees.items c.args.unclosed.now.pairs.items l.unclosed.trees.items l.unclosed.pairs.items l.rest.now l.invariant c.skip_spaces.result.now
+    c.skip_spaces.ensures.value found.tree found.behind.now m found.ensures.value c.skip_spaces-mark.ensures.value c.skip_spaces.ensures.within found.ensures.within found.ensures.slices c.read_value.new.unclosed.trees.items c.push.new.self.items found.ensures.kept.trees pushed
+    last.field-0.items c.after-in-93.result.now (λ e. omega (arith, e)) last.ensures.tail h c.after-in-93.ensures.value
 
 pub read_items-returns-in-93-clause-slices : goal.read_items-returns-in-93-clause-slices
 read_items-returns-in-93-clause-slices t c =
     let l = c.loop-tree in
-    let s = c.skip_spaces.result.now in
     let m = c.skip_spaces-mark.result.now in
-    let tree = c.in_ok-tree.tree in
-    let behind = c.in_ok-tree.behind.now in
-    let rest = c.after-in-93.result.now in
-    let start = c.len-start.result in
-    let before = l.unclosed.trees.items in
-    let xs = drop start before in
-    let ys = c.in_ok-split_off-in-93.field-0.items in
+    let found = c.in_ok-tree in
+    let last = c.in_ok-split_off-in-93 in
     let h : head m ≡ 93 = grind arith in
-    let pushed : c.push.new.self.items ≡ c.read_value.new.unclosed.trees.items ++ tree ∷ [] = search rules in
-    let grown : ys ≡ xs ++ tree ∷ [] = c.in_ok-split_off-in-93.ensures.tail ∙ drop_pushed start before _ _ tree l.invariant.5 c.in_ok-tree.ensures.kept.trees pushed in
-    then_quiet (items_texts ys) c.args.text.now behind rest
-    (more_texts texts_of xs ys tree c.args.text.now l.rest.now s behind grown l.invariant.4 c.skip_spaces.ensures.value c.in_ok-tree.ensures.slices)
-    (spaced_byte 93 behind m rest (λ e. omega (arith, e)) (λ e. omega (arith, e)) c.skip_spaces-mark.ensures.value h c.after-in-93.ensures.value)
+    let pushed : c.push.new.self.items ≡ c.read_value.new.unclosed.trees.items ++ found.tree ∷ [] = search rules in
+    last_texts tree_view texts_of 93 value c.args.depth c.args.text.now c.len-start.result c.args.unclosed.now.trees.items c.args.unclosed.now.pairs.items l.unclosed.trees.items l.unclosed.pairs.items l.rest.now l.invariant c.skip_spaces.result.now
+    c.skip_spaces.ensures.value found.tree found.behind.now m found.ensures.value c.skip_spaces-mark.ensures.value c.skip_spaces.ensures.within found.ensures.within found.ensures.slices c.read_value.new.unclosed.trees.items c.push.new.self.items found.ensures.kept.trees pushed
+    last.field-0.items c.after-in-93.result.now (λ e. omega (arith, e)) (λ e. omega (arith, e)) last.ensures.tail h c.after-in-93.ensures.value
 
 pub read_items-returns-in_default-clause-value : goal.read_items-returns-in_default-clause-value
 read_items-returns-in_default-clause-value t c =
     let l = c.loop-tree in
-    let n = l.invariant.0 in
-    let s = c.skip_spaces.result.now in
     let m = c.skip_spaces-mark.result.now in
-    let tree = c.in_ok-tree.tree in
+    let found = c.in_ok-tree in
     let nc : head m ≢ 44 = grind arith in
     let nb : head m ≢ 93 = grind arith in
-    λ d le. l.invariant.2 d le
-    ∙ bad_turn 93 (value d) n l.rest.now s m (map tree_view (drop c.len-start.result l.unclosed.trees.items)) (tree_view tree) c.in_ok-tree.behind.now (omega (arith, l.invariant.1)) c.skip_spaces.ensures.value (c.in_ok-tree.ensures.value d le) c.skip_spaces-mark.ensures.value nc nb
+    bad tree_view texts_of 93 value c.args.depth c.args.text.now c.len-start.result c.args.unclosed.now.trees.items c.args.unclosed.now.pairs.items l.unclosed.trees.items l.unclosed.pairs.items l.rest.now l.invariant c.skip_spaces.result.now c.skip_spaces.ensures.value found.tree
+    found.behind.now m found.ensures.value c.skip_spaces-mark.ensures.value nc nb
 
 pub read_items-returns-in_err-tree-clause-value : goal.read_items-returns-in_err-tree-clause-value
 read_items-returns-in_err-tree-clause-value t c =
     let l = c.loop-tree in
-    let n = l.invariant.0 in
-    let s = c.skip_spaces.result.now in
     let e = c.in_err-tree.field-0.0 in
     let p = err_from_is_err_and c.from_residual.result c.from_residual.ensures.1 in
     let same : p.0 ≡ e = first_of (search (rules, p.2), grind (arith, p.2)) in
-    let q = λ (d : ℕ). elements_at 93 (value d) c.args.text.now in
-    let fails = λ (d : ℕ) (le : c.args.depth ≤ d) (none : (value d) s ≡ None). l.invariant.2 d le ∙ lost_turn 93 (value d) n l.rest.now s (map tree_view (drop c.len-start.result l.unclosed.trees.items)) (omega (arith, l.invariant.1)) c.skip_spaces.ensures.value none in
-    rw (p.1, same) (carry c.args.depth (λ d. (value d) s) q fails e c.in_err-tree.ensures.value)
+    let fails = lost tree_view texts_of 93 value c.args.depth c.args.text.now c.len-start.result c.args.unclosed.now.trees.items c.args.unclosed.now.pairs.items l.unclosed.trees.items l.unclosed.pairs.items l.rest.now l.invariant c.skip_spaces.result.now c.skip_spaces.ensures.value in
+    rw (p.1, same) (carry c.args.depth (λ d. value d c.skip_spaces.result.now) (λ d. elements_at 93 (value d) c.args.text.now) fails e c.in_err-tree.ensures.value)
 
 -- ---- read_members
 
@@ -238,110 +188,60 @@ pub read_members-loop-pair-init : goal.read_members-loop-pair-init
 read_members-loop-pair-init t c =
     let s = c.skip_spaces-rest.result.now in
     let all = c.args.unclosed.now.pairs.items in
-    let start = c.len-start.result in
-    let count : start ≡ length all = grind arith in
+    let count : c.len-start.result ≡ length all = grind arith in
     let h : head s ≢ 125 = grind arith in
-    let none : drop start all ≡ [] = ap (λ n. drop n all) count ∙ drop-length all in (
-      suc (length s),
-      omega arith,
-      (λ d le. some_elements 125 (pair_at (value d)) c.args.text.now s c.skip_spaces-rest.ensures.value h ∙ joined_nil (more_elements 125 (pair_at (value d)) (suc (length s)) s) ∙ ap (λ l. joined (map pair_view l) (more_elements 125 (pair_at (value d)) (suc (length s)) s)) (sym none)),
-      c.skip_spaces-rest.ensures.within,
-      subst (λ l. AreTextsBefore (members_texts l) c.args.text.now s) (sym none) (spaces c.args.text.now s c.skip_spaces-rest.ensures.value),
-      omega (arith, count),
-      ap (λ n. take n all) count ∙ take-length all,
-      refl,
-    )
+    first_turn pair_view pair_texts 125 (λ d. pair_at (value d)) c.args.depth c.args.text.now c.len-start.result all c.args.unclosed.now.trees.items s c.skip_spaces-rest.ensures.value c.skip_spaces-rest.ensures.within h count
 
 pub read_members-loop-pair-preserved : goal.read_members-loop-pair-preserved
 read_members-loop-pair-preserved t c =
     let l = c.loop-pair in
-    let n = l.invariant.0 in
-    let s = c.skip_spaces.result.now in
     let m = c.skip_spaces-mark.result.now in
-    let pair = c.in_ok-pair.pair in
-    let behind = c.in_ok-pair.behind.now in
-    let rest = c.after-rest.result.now in
-    let start = c.len-start.result in
-    let before = l.unclosed.pairs.items in
-    let xs = drop start before in
-    let ys = drop start c.push.new.self.items in
-    let kept = c.in_ok-pair.ensures.kept in
+    let found = c.in_ok-pair in
     let h : head m ≡ 44 = grind arith in
-    let pushed : c.push.new.self.items ≡ c.read_pair.new.unclosed.pairs.items ++ pair ∷ [] = search rules in
-    let grown : ys ≡ xs ++ pair ∷ [] = drop_pushed start before _ _ pair l.invariant.5 kept.pairs pushed in
-    let seen : map pair_view xs ++ pair_view pair ∷ [] ≡ map pair_view ys = map_pushed pair_view xs pair ∙ ap (map pair_view) (sym grown) in
-    let inside = c.in_ok-pair.ensures.within in (
-      n - 1,
-      omega (arith, l.invariant.1, inside),
-      (λ d le. l.invariant.2 d le
-          ∙ comma_turn 125 (pair_at (value d)) n l.rest.now s m (map pair_view xs) (map pair_view ys) (pair_view pair) behind rest (omega (arith, l.invariant.1)) c.skip_spaces.ensures.value (c.in_ok-pair.ensures.value d le) c.skip_spaces-mark.ensures.value h c.after-rest.ensures.value seen),
-      omega (arith, l.invariant.3, inside),
-      then_quiet (members_texts ys) c.args.text.now behind rest
-          (more_texts pair_texts xs ys pair c.args.text.now l.rest.now s behind grown l.invariant.4 c.skip_spaces.ensures.value c.in_ok-pair.ensures.slices)
-          (spaced_byte 44 behind m rest (λ e. omega (arith, e)) (λ e. omega (arith, e)) c.skip_spaces-mark.ensures.value h c.after-rest.ensures.value),
-      length_pushed start before _ _ pair l.invariant.5 kept.pairs pushed,
-      take_pushed start before _ _ pair l.invariant.5 kept.pairs pushed ∙ l.invariant.6,
-      kept.trees ∙ l.invariant.7,
-    )
+    let pushed : c.push.new.self.items ≡ c.read_pair.new.unclosed.pairs.items ++ found.pair ∷ [] = search rules in
+    next_turn pair_view pair_texts 125 (λ d. pair_at (value d)) c.args.depth c.args.text.now c.len-start.result c.args.unclosed.now.pairs.items c.args.unclosed.now.trees.items l.unclosed.pairs.items l.unclosed.trees.items l.rest.now l.invariant c.skip_spaces.result.now
+    c.skip_spaces.ensures.value found.pair found.behind.now m found.ensures.value c.skip_spaces-mark.ensures.value c.skip_spaces.ensures.within found.ensures.within found.ensures.slices c.read_pair.new.unclosed.pairs.items c.push.new.self.items found.ensures.kept.pairs pushed
+    c.read_pair.new.unclosed.trees.items c.after-rest.result.now found.ensures.kept.trees c.skip_spaces-mark.ensures.within h c.after-rest.ensures.value c.after-rest.ensures.len
 
 pub read_members-returns-in-125-clause-value : goal.read_members-returns-in-125-clause-value
 read_members-returns-in-125-clause-value t c =
     let l = c.loop-pair in
-    let n = l.invariant.0 in
-    let s = c.skip_spaces.result.now in
     let m = c.skip_spaces-mark.result.now in
-    let pair = c.in_ok-pair.pair in
-    let rest = c.after-in-125.result.now in
-    let start = c.len-start.result in
-    let before = l.unclosed.pairs.items in
-    let xs = drop start before in
-    let ys = c.in_ok-split_off-in-125.field-0.items in
+    let found = c.in_ok-pair in
+    let last = c.in_ok-split_off-in-125 in
     let h : head m ≡ 125 = grind arith in
-    let pushed : c.push.new.self.items ≡ c.read_pair.new.unclosed.pairs.items ++ pair ∷ [] = search rules in
-    let grown : ys ≡ xs ++ pair ∷ [] = c.in_ok-split_off-in-125.ensures.tail ∙ drop_pushed start before _ _ pair l.invariant.5 c.in_ok-pair.ensures.kept.pairs pushed in
-    let seen : map pair_view xs ++ pair_view pair ∷ [] ≡ map pair_view ys = map_pushed pair_view xs pair ∙ ap (map pair_view) (sym grown) in
-    λ d le. l.invariant.2 d le
-    ∙ last_turn 125 (pair_at (value d)) n l.rest.now s m (map pair_view xs) (map pair_view ys) (pair_view pair) c.in_ok-pair.behind.now rest (λ e. omega (arith, e)) (omega (arith, l.invariant.1)) c.skip_spaces.ensures.value (c.in_ok-pair.ensures.value d le) c.skip_spaces-mark.ensures.value h c.after-in-125.ensures.value seen
+    let pushed : c.push.new.self.items ≡ c.read_pair.new.unclosed.pairs.items ++ found.pair ∷ [] = search rules in
+    last_elements pair_view pair_texts 125 (λ d. pair_at (value d)) c.args.depth c.args.text.now c.len-start.result c.args.unclosed.now.pairs.items c.args.unclosed.now.trees.items l.unclosed.pairs.items l.unclosed.trees.items l.rest.now l.invariant c.skip_spaces.result.now
+    c.skip_spaces.ensures.value found.pair found.behind.now m found.ensures.value c.skip_spaces-mark.ensures.value c.skip_spaces.ensures.within found.ensures.within found.ensures.slices c.read_pair.new.unclosed.pairs.items c.push.new.self.items found.ensures.kept.pairs pushed
+    last.field-0.items c.after-in-125.result.now (λ e. omega (arith, e)) last.ensures.tail h c.after-in-125.ensures.value
 
 pub read_members-returns-in-125-clause-slices : goal.read_members-returns-in-125-clause-slices
 read_members-returns-in-125-clause-slices t c =
     let l = c.loop-pair in
-    let s = c.skip_spaces.result.now in
     let m = c.skip_spaces-mark.result.now in
-    let pair = c.in_ok-pair.pair in
-    let behind = c.in_ok-pair.behind.now in
-    let rest = c.after-in-125.result.now in
-    let start = c.len-start.result in
-    let before = l.unclosed.pairs.items in
-    let xs = drop start before in
-    let ys = c.in_ok-split_off-in-125.field-0.items in
+    let found = c.in_ok-pair in
+    let last = c.in_ok-split_off-in-125 in
     let h : head m ≡ 125 = grind arith in
-    let pushed : c.push.new.self.items ≡ c.read_pair.new.unclosed.pairs.items ++ pair ∷ [] = search rules in
-    let grown : ys ≡ xs ++ pair ∷ [] = c.in_ok-split_off-in-125.ensures.tail ∙ drop_pushed start before _ _ pair l.invariant.5 c.in_ok-pair.ensures.kept.pairs pushed in
-    then_quiet (members_texts ys) c.args.text.now behind rest
-    (more_texts pair_texts xs ys pair c.args.text.now l.rest.now s behind grown l.invariant.4 c.skip_spaces.ensures.value c.in_ok-pair.ensures.slices)
-    (spaced_byte 125 behind m rest (λ e. omega (arith, e)) (λ e. omega (arith, e)) c.skip_spaces-mark.ensures.value h c.after-in-125.ensures.value)
+    let pushed : c.push.new.self.items ≡ c.read_pair.new.unclosed.pairs.items ++ found.pair ∷ [] = search rules in
+    last_texts pair_view pair_texts 125 (λ d. pair_at (value d)) c.args.depth c.args.text.now c.len-start.result c.args.unclosed.now.pairs.items c.args.unclosed.now.trees.items l.unclosed.pairs.items l.unclosed.trees.items l.rest.now l.invariant c.skip_spaces.result.now
+    c.skip_spaces.ensures.value found.pair found.behind.now m found.ensures.value c.skip_spaces-mark.ensures.value c.skip_spaces.ensures.within found.ensures.within found.ensures.slices c.read_pair.new.unclosed.pairs.items c.push.new.self.items found.ensures.kept.pairs pushed
+    last.field-0.items c.after-in-125.result.now (λ e. omega (arith, e)) (λ e. omega (arith, e)) last.ensures.tail h c.after-in-125.ensures.value
 
 pub read_members-returns-in_default-clause-value : goal.read_members-returns-in_default-clause-value
 read_members-returns-in_default-clause-value t c =
     let l = c.loop-pair in
-    let n = l.invariant.0 in
-    let s = c.skip_spaces.result.now in
     let m = c.skip_spaces-mark.result.now in
-    let pair = c.in_ok-pair.pair in
+    let found = c.in_ok-pair in
     let nc : head m ≢ 44 = grind arith in
     let nb : head m ≢ 125 = grind arith in
-    λ d le. l.invariant.2 d le
-    ∙ bad_turn 125 (pair_at (value d)) n l.rest.now s m (map pair_view (drop c.len-start.result l.unclosed.pairs.items)) (pair_view pair) c.in_ok-pair.behind.now (omega (arith, l.invariant.1)) c.skip_spaces.ensures.value (c.in_ok-pair.ensures.value d le) c.skip_spaces-mark.ensures.value nc nb
+    bad pair_view pair_texts 125 (λ d. pair_at (value d)) c.args.depth c.args.text.now c.len-start.result c.args.unclosed.now.pairs.items c.args.unclosed.now.trees.items l.unclosed.pairs.items l.unclosed.trees.items l.rest.now l.invariant c.skip_spaces.result.now c.skip_spaces.ensures.value found.pair
+    found.behind.now m found.ensures.value c.skip_spaces-mark.ensures.value nc nb
 
 pub read_members-returns-in_err-pair-clause-value : goal.read_members-returns-in_err-pair-clause-value
 read_members-returns-in_err-pair-clause-value t c =
     let l = c.loop-pair in
-    let n = l.invariant.0 in
-    let s = c.skip_spaces.result.now in
     let e = c.in_err-pair.field-0.0 in
     let p = err_from_is_err_and c.from_residual.result c.from_residual.ensures.1 in
     let same : p.0 ≡ e = first_of (search (rules, p.2), grind (arith, p.2)) in
-    let q = λ (d : ℕ). elements_at 125 (pair_at (value d)) c.args.text.now in
-    let fails = λ (d : ℕ) (le : c.args.depth ≤ d) (none : (pair_at (value d)) s ≡ None). l.invariant.2 d le ∙ lost_turn 125 (pair_at (value d)) n l.rest.now s (map pair_view (drop c.len-start.result l.unclosed.pairs.items)) (omega (arith, l.invariant.1)) c.skip_spaces.ensures.value none in
-    rw (p.1, same) (carry c.args.depth (λ d. (pair_at (value d)) s) q fails e c.in_err-pair.ensures.value)
+    let fails = lost pair_view pair_texts 125 (λ d. pair_at (value d)) c.args.depth c.args.text.now c.len-start.result c.args.unclosed.now.pairs.items c.args.unclosed.now.trees.items l.unclosed.pairs.items l.unclosed.trees.items l.rest.now l.invariant c.skip_spaces.result.now c.skip_spaces.ensures.value in
+    rw (p.1, same) (carry c.args.depth (λ d. pair_at (value d) c.skip_spaces.result.now) (λ d. elements_at 125 (pair_at (value d)) c.args.text.now) fails e c.in_err-pair.ensures.value)

@@ -1,8 +1,8 @@
-use Rattle.std.proofs.Common.{◌≡◌, ℕ, ◌+◌, ◌*◌, ◌<◌, ◌≤◌, length, map, take, drop}
+use Rattle.std.proofs.Common.{◌+◌, ◌*◌, length}
 use Rattle.exact_json.specs.View.{tree_view, pair_view}
-use Rattle.exact_json.specs.Slices.{items_texts, members_texts, AreTextsBefore}
-use Rattle.exact_json.specs.Reading.{elements_at, more_elements, pair_at, value}
-use Rattle.exact_json.proofs.Lists.{joined}
+use Rattle.exact_json.specs.Slices.{texts_of, pair_texts}
+use Rattle.exact_json.specs.Reading.{pair_at, value}
+use Rattle.exact_json.proofs.Turns.{Turns}
 use Rattle.exact_json.proofs.reading.+read.Given as goal
 
 abbrev pub decreases-read_value : goal.decreases-read_value
@@ -18,17 +18,13 @@ abbrev pub decreases-read_members : goal.decreases-read_members
 decreases-read_members l = 3 * l.depth + 2
 
 abbrev pub invariant-read_items-loop-tree : goal.invariant-read_items-loop-tree
-invariant-read_items-loop-tree l =
-    (n : ℕ) × (length l.rest < n) × ((d : ℕ) → l.depth ≤ d → elements_at 93 (value d) l.text ≡ joined (map tree_view (drop l.start l.unclosed.trees.items)) (more_elements 93 (value d) n l.rest)) × (length l.rest ≤ length l.text) × AreTextsBefore (items_texts (drop l.start l.unclosed.trees.items)) l.text l.rest
-    × (l.start ≤ length l.unclosed.trees.items) × (take l.start l.unclosed.trees.items ≡ l.initial.unclosed.trees.items) × (l.unclosed.pairs.items ≡ l.initial.unclosed.pairs.items)
+invariant-read_items-loop-tree l = Turns tree_view texts_of 93 value l.depth l.text l.start l.initial.unclosed.trees.items l.unclosed.trees.items l.initial.unclosed.pairs.items l.unclosed.pairs.items l.rest
 
 abbrev pub decreases-read_items-loop-tree : goal.decreases-read_items-loop-tree
 decreases-read_items-loop-tree l = length l.rest
 
 abbrev pub invariant-read_members-loop-pair : goal.invariant-read_members-loop-pair
-invariant-read_members-loop-pair l =
-    (n : ℕ) × (length l.rest < n) × ((d : ℕ) → l.depth ≤ d → elements_at 125 (pair_at (value d)) l.text ≡ joined (map pair_view (drop l.start l.unclosed.pairs.items)) (more_elements 125 (pair_at (value d)) n l.rest)) × (length l.rest ≤ length l.text) × AreTextsBefore (members_texts (drop l.start l.unclosed.pairs.items)) l.text l.rest
-    × (l.start ≤ length l.unclosed.pairs.items) × (take l.start l.unclosed.pairs.items ≡ l.initial.unclosed.pairs.items) × (l.unclosed.trees.items ≡ l.initial.unclosed.trees.items)
+invariant-read_members-loop-pair l = Turns pair_view pair_texts 125 (λ d. pair_at (value d)) l.depth l.text l.start l.initial.unclosed.pairs.items l.unclosed.pairs.items l.initial.unclosed.trees.items l.unclosed.trees.items l.rest
 
 abbrev pub decreases-read_members-loop-pair : goal.decreases-read_members-loop-pair
 decreases-read_members-loop-pair l = length l.rest

@@ -1,5 +1,5 @@
 use Rattle.std.proofs.Common.{◌≡◌, ◌≤◌, length}
-use Rattle.exact_json.specs.Strings.{text_at}
+use Rattle.exact_json.specs.StringReading.{text_at}
 use Rattle.exact_json.specs.Scanning.{rest_of}
 use Rattle.exact_json.proofs.text.pass_text.Given as goal
 

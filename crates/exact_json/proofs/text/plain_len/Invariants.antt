@@ -1,6 +1,6 @@
 use Rattle.std.proofs.Common.{◌≡◌, ◌+◌, ◌-◌, ◌≤◌, length, drop}
 use Rattle.std.specs.List.{prefix_len}
-use Rattle.exact_json.specs.Strings.{is_plain}
+use Rattle.exact_json.specs.StringReading.{is_plain}
 use Rattle.exact_json.proofs.text.plain_len.Given as goal
 
 abbrev pub invariant-loop-i : goal.invariant-loop-i

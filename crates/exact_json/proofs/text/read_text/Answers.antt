@@ -1,7 +1,7 @@
 use Rattle.std.proofs.Common.{◌≡◌, ◌≢◌, take, drop, ◌∷◌, ◌++◌, sym, ap, ap₂, ◌∙◌, subst, arith, Some, take-append-drop}
 use Rattle.exact_json.specs.Number.{head}
 use Rattle.std.specs.List.{prefix_len}
-use Rattle.exact_json.specs.Strings.{is_plain}
+use Rattle.exact_json.specs.StringReading.{is_plain}
 use Rattle.exact_json.proofs.Texts.{whole_run, quoted, head_cons, has_backslash}
 use Rattle.exact_json.proofs.Slices.{plain_text, made_text}
 use Rattle.exact_json.proofs.text.read_text.Goals as goal

@@ -1,7 +1,7 @@
 use Rattle.std.proofs.Common.{◌≡◌, ◌≢◌, ◌++◌, take, sym, ◌∙◌, arith}
 use Rattle.std.specs.Char.{encode_utf8}
 use Rattle.exact_json.specs.Number.{head}
-use Rattle.exact_json.specs.Strings.{text_at, prepend}
+use Rattle.exact_json.specs.StringReading.{text_at, prepend}
 use Rattle.exact_json.proofs.Texts.{turn, quoted, stopped, escapes, no_escape}
 use Rattle.exact_json.proofs.text.unescape.Goals as goal
 use Rattle.exact_json.proofs.text.unescape.Goals.{After-after-stop}

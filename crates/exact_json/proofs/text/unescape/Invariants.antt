@@ -1,5 +1,5 @@
 use Rattle.std.proofs.Common.{◌≡◌, ◌≤◌, length}
-use Rattle.exact_json.specs.Strings.{text_at, prepend}
+use Rattle.exact_json.specs.StringReading.{text_at, prepend}
 use Rattle.exact_json.proofs.text.unescape.Given as goal
 
 abbrev pub invariant-loop-made : goal.invariant-loop-made

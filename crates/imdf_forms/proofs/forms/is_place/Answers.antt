@@ -4,7 +4,7 @@ use Rattle.exact_json.specs.View.{tree_view}
 use Rattle.venue_types.specs.declared.point.Point.{Point}
 use Rattle.geo_shapes.specs.Position.{IsPosition, BreaksPositions}
 use Rattle.geo_shapes.specs.Geometry.{HasPoint, point_places, coordinates}
-use Rattle.geo_shapes.specs.declared.shaped.Shaped.{Shaped}
+use Rattle.geo_shapes.specs.declared.read_geometry.ReadGeometry.{ReadGeometry}
 use Rattle.imdf_forms.specs.Values.{seen, is_word}
 use Rattle.imdf_forms.specs.Forms.{IsPlace}
 use Rattle.imdf_forms.proofs.forms.is_place.Goals as goal

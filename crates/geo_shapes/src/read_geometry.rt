@@ -4,7 +4,7 @@ ghost use Rattle.std.specs.Prelude.{◌≡◌, true, false};
 
 /// A figure, the two rules that its geometry may break, and its counts.
 #[derive(Drop)]
-pub struct Shaped<T> {
+pub struct ReadGeometry<T> {
     /// There exactly where neither rule is broken.
     pub value: Option<T>,
     /// What stands in the place of a position is none: no list that begins with a longitude within 180 degrees and a
@@ -18,12 +18,12 @@ pub struct Shaped<T> {
     pub longest: u64,
 }
 
-impl<T> Shaped<T> {
-    // What is read where a list was to stand and none does.
-    pub(crate) fn no_list() -> Shaped<T>
+impl<T> ReadGeometry<T> {
+    /// What is read where a list was to stand and none does.
+    pub(crate) fn no_list() -> ReadGeometry<T>
         ensures { result ≡ record { value = None; bad_position = false; bad_form = true; positions = 0; longest = 0 } }
     {
-        Shaped {
+        ReadGeometry {
             value: None,
             bad_position: false,
             bad_form: true,
