@@ -14,7 +14,7 @@ use Rattle.route_certificate.specs.Answers.{answer_head, to_line, to_body, none_
 use Rattle.route_certificate.specs.AnswerFronts.{IsClaim, IsClaimText}
 use Rattle.route_certificate.proofs.LineLemmas.{from_line_is, from_unique, Lacks-from_body}
 use Rattle.route_certificate.proofs.AnswerLines.{to_line_is, to_unique, Lacks-to_body}
-use Rattle.route_certificate.proofs.Stuck.{stuck, HasNone-begins, fault_behind}
+use Rattle.text_forms.proofs.Stuck.{stuck, HasNone-begins, fault_behind}
 use Rattle.route_certificate.proofs.ClaimLemmas.{one_claim}
 use Rattle.route_certificate.proofs.ClaimFaults.{some_claim}
 

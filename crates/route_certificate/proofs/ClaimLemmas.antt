@@ -15,7 +15,7 @@ use Rattle.route_certificate.proofs.LineLemmas.{step_unique, step_line_is, Lacks
 use Rattle.route_certificate.proofs.WalkLemmas.{no_step_behind}
 use Rattle.route_certificate.proofs.AnswerLines.{route_unique, at_unique, reach_unique, at_line_is, reach_line_is, Lacks-at_body, Lacks-reach_body, small_potential}
 use Rattle.route_certificate.proofs.RisingFronts.{rising_agree, rises_from, increasing_from, map_same}
-use Rattle.route_certificate.proofs.Stuck.{BeginsAs, HasNone-begins}
+use Rattle.text_forms.proofs.Stuck.{BeginsAs, HasNone-begins}
 
 -- ---- no item where others stand
 

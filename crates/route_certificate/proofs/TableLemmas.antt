@@ -4,7 +4,7 @@ use Rattle.std.proofs.lemmas.List.{append_cancel_left, length-append, append-nil
 use Rattle.std.specs.List.{flat_map, AllByRecursion}
 use Rattle.venue_types.specs.declared.feature_id.FeatureId.{FeatureId}
 use Rattle.text_forms.specs.Lines.{line}
-use Rattle.text_forms.specs.Fronts.{HasNone, IsCut, IsFront}
+use Rattle.text_forms.specs.Fronts.{HasNone, IsSplitAt, IsFront}
 use Rattle.text_forms.proofs.ListLemmas.{fronts_agree, fronts_split, differ, length-flat_map-le}
 use Rattle.text_forms.proofs.FaultLemmas.{HasNone-line}
 use Rattle.route_certificate.specs.declared.table.Row.{Row}
@@ -50,7 +50,7 @@ table_read text rest more end nodes links count head front count-is front' = rec
 }
 
 -- the same where the rest is another text with the same first line
-pub read_on : (text : List ℕ) (nodes : List FeatureId) (links : List Row) (rest body after more : List ℕ) → TableRead text nodes links rest → IsCut 10 rest body after
+pub read_on : (text : List ℕ) (nodes : List FeatureId) (links : List Row) (rest body after more : List ℕ) → TableRead text nodes links rest → IsSplitAt 10 rest body after
     → TableRead (table_head ++ (flat_map node_line nodes ++ (flat_map link_line links ++ (line body ++ more)))) nodes links (line body ++ more)
 read_on text nodes [] rest body after more read cut = record {
   parts = refl;

@@ -3,7 +3,7 @@ use Rattle.std.proofs.Common.{◌≡◌, ℕ, ◌^◌, ◌<◌, List, [], ◌∷
 use Rattle.std.proofs.lemmas.List.{append_cancel_left, length-append}
 use Rattle.std.specs.List.{flat_map, AllByRecursion}
 use Rattle.text_forms.specs.Lines.{line}
-use Rattle.text_forms.specs.Fronts.{HasNone, IsCut, IsFront}
+use Rattle.text_forms.specs.Fronts.{HasNone, IsSplitAt, IsFront}
 use Rattle.text_forms.proofs.ListLemmas.{fronts_agree, differ, length-flat_map-le}
 use Rattle.text_forms.proofs.FaultLemmas.{HasNone-line}
 use Rattle.route_certificate.specs.declared.table.Table.{Table}
@@ -36,7 +36,7 @@ walk_read text rest more end nodes from steps head first start front = record {
 }
 
 -- the same where the rest is another text with the same first line
-pub read_on : (text : List ℕ) (nodes from : ℕ) (steps : List ℕ) (rest body after more : List ℕ) → WalkRead text nodes from steps rest → IsCut 10 rest body after
+pub read_on : (text : List ℕ) (nodes from : ℕ) (steps : List ℕ) (rest body after more : List ℕ) → WalkRead text nodes from steps rest → IsSplitAt 10 rest body after
     → WalkRead (walk_head ++ (from_line from ++ (flat_map step_line steps ++ (line body ++ more)))) nodes from steps (line body ++ more)
 read_on text nodes from steps rest body after more read cut = record {
   parts = refl;

@@ -4,7 +4,7 @@ use Rattle.std.proofs.lemmas.Bool.Decides.{nat_tests}
 use Rattle.std.proofs.lemmas.Fmt.{decimal_injective}
 use Rattle.std.specs.Fmt.{decimal}
 use Rattle.text_forms.specs.Lines.{line, word}
-use Rattle.text_forms.specs.Fronts.{Lacks, IsCut}
+use Rattle.text_forms.specs.Fronts.{Lacks, IsSplitAt}
 use Rattle.text_forms.proofs.ListLemmas.{Lacks-append, Lacks-cut, cut_unique}
 use Rattle.text_forms.proofs.NumberLemmas.{Lacks-decimal}
 
@@ -19,7 +19,7 @@ line_front body more = append_assoc body (10 ∷ []) more
 pub no_line : (text body more : List ℕ) → Lacks 10 text → text ≡ line body ++ more → ⊥
 no_line text body more lacks e = Lacks-cut 10 body more (subst (Lacks 10) (e ∙ line_front body more) lacks)
 
-pub same_line : (text front rest body more : List ℕ) → IsCut 10 text front rest → Lacks 10 body → text ≡ line body ++ more → (front ≡ body) × (rest ≡ more)
+pub same_line : (text front rest body more : List ℕ) → IsSplitAt 10 text front rest → Lacks 10 body → text ≡ line body ++ more → (front ≡ body) × (rest ≡ more)
 same_line text front rest body more cut lacks e = cut_unique 10 front rest body more cut.first lacks (sym cut.parts ∙ e ∙ line_front body more)
 
 pub lines_unique : (a b x y : List ℕ) → Lacks 10 a → Lacks 10 b → line a ++ x ≡ line b ++ y → (a ≡ b) × (x ≡ y)

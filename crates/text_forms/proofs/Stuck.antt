@@ -5,7 +5,7 @@ use Rattle.std.proofs.lemmas.List.{length-append, length-take-le, length-drop, t
 use Rattle.std.proofs.lemmas.Grind.{flat_map-append}
 use Rattle.std.specs.List.{flat_map, AllByRecursion}
 use Rattle.text_forms.specs.Lines.{line}
-use Rattle.text_forms.specs.Fronts.{Lacks, IsCut, HasNone}
+use Rattle.text_forms.specs.Fronts.{Lacks, IsSplitAt, HasNone}
 use Rattle.text_forms.specs.Faults.{IsLines, FitsTo, IsFaultLine}
 use Rattle.text_forms.proofs.LineLemmas.{lines_unique}
 use Rattle.text_forms.proofs.FaultLemmas.{IsLines-append, FitsTo-below, HasNone-line, next_faulty}
@@ -13,7 +13,7 @@ use Rattle.text_forms.proofs.FaultLemmas.{IsLines-append, FitsTo-below, HasNone-
 -- the same text, or another with the same first line
 pub data BeginsAs (rest t : List ℕ) : Type 0 where
   same : t ≡ rest → BeginsAs rest t
-  first : (body after more : List ℕ) → IsCut 10 rest body after → t ≡ line body ++ more → BeginsAs rest t
+  first : (body after more : List ℕ) → IsSplitAt 10 rest body after → t ≡ line body ++ more → BeginsAs rest t
 
 -- behind these lines no text of the form goes on so
 pub stuck : (Text : List ℕ → Type 0) (text front rest more : List ℕ) (k : ℕ) → text ≡ front ++ rest → IsLines k front → Text (front ++ more)
