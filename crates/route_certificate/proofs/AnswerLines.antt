@@ -10,7 +10,8 @@ use Rattle.text_forms.specs.Lines.{line, word}
 use Rattle.text_forms.specs.Fronts.{Lacks, IsUnique}
 use Rattle.text_forms.proofs.ListLemmas.{Lacks-append}
 use Rattle.text_forms.proofs.LineLemmas.{word_unique, lines_unique, Lacks-word, Lacks-number, Lacks-test}
-use Rattle.route_certificate.specs.Answers.{to_body, route_body, at_body, reach_body, to_line, route_line, at_line, reach_line, FitsNode, FitsCost, FitsPotential}
+use Rattle.route_certificate.specs.Forms.{FitsNode}
+use Rattle.route_certificate.specs.Answers.{to_body, route_body, at_body, reach_body, to_line, route_line, at_line, reach_line, FitsCost, FitsPotential}
 
 -- ---- bodies lack LF
 

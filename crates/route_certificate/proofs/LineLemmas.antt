@@ -10,9 +10,8 @@ use Rattle.venue_types.proofs.IdentifierLemmas.{identifier_text-high, identifier
 use Rattle.text_forms.specs.Lines.{line, word}
 use Rattle.text_forms.specs.Fronts.{Lacks, IsUnique}
 use Rattle.text_forms.proofs.LineLemmas.{word_unique, lines_unique, Lacks-word, Lacks-number, Lacks-test}
-use Rattle.route_certificate.specs.declared.table.Row.{Row}
-use Rattle.route_certificate.specs.Forms.{node_body, link_body, from_body, step_body, node_line, link_line, from_line, step_line, FitsId, FitsRow, FitsStep}
-use Rattle.route_certificate.specs.Fronts.{FitsFrom}
+use Rattle.route_certificate.specs.declared.table.TableLink.{TableLink}
+use Rattle.route_certificate.specs.Forms.{node_body, link_body, from_body, step_body, node_line, link_line, from_line, step_line, FitsId, FitsLink, FitsStep, FitsNode}
 
 Lacks-high : (stop low : ℕ) (bs : List ℕ) → stop < low → AllByRecursion (λ x. low ≤ x) bs → Lacks stop bs
 Lacks-high stop low [] less p = tt
@@ -26,15 +25,15 @@ Lacks-identifier stop id low = Lacks-high stop 45 (identifier_text id) low (iden
 pub Lacks-node_body : (id : FeatureId) → Lacks 10 (node_body id)
 Lacks-node_body id = Lacks-word (codes "node") (identifier_text id) (Lacks-test 10 (codes "node") refl) (Lacks-identifier 10 id (omega arith))
 
-pub record Small (row : Row) : Type 0 where
+pub record Small (row : TableLink) : Type 0 where
   pub from : row.from < 2 ^ 64
   pub to : row.to < 2 ^ 64
   pub cost : row.cost < 2 ^ 64
 
-pub small_row : (nodes : ℕ) (row : Row) → nodes ≤ 2 ^ 32 → FitsRow nodes row → Small row
+pub small_row : (nodes : ℕ) (row : TableLink) → nodes ≤ 2 ^ 32 → FitsLink nodes row → Small row
 small_row nodes row few fits = record { from = omega (arith, fits.from); to = omega (arith, fits.to); cost = omega (arith, fits.cost) }
 
-pub Lacks-link_body : (row : Row) → Small row → Lacks 10 (link_body row)
+pub Lacks-link_body : (row : TableLink) → Small row → Lacks 10 (link_body row)
 Lacks-link_body row small =
     Lacks-word (codes "link") _ (Lacks-test 10 (codes "link") refl)
     (Lacks-word (decimal row.from) _ (Lacks-number row.from small.from)
@@ -49,24 +48,24 @@ Lacks-from_body k fits = Lacks-word (codes "from") (decimal k) (Lacks-test 10 (c
 
 -- ---- the words of a link
 
-abbrev pub link_tail : Row → List ℕ
+abbrev pub link_tail : TableLink → List ℕ
 link_tail row = word (decimal row.from) (word (decimal row.to) (word (decimal row.cost) (identifier_text row.via)))
 
-pub link_0 : (rest : List ℕ) (row : Row) → codes "link " ++ rest ≡ link_body row → rest ≡ link_tail row
+pub link_0 : (rest : List ℕ) (row : TableLink) → codes "link " ++ rest ≡ link_body row → rest ≡ link_tail row
 link_0 rest row e = append_cancel_left (codes "link ") rest (link_tail row) e
 
-pub link_1 : (from : ℕ) (rest : List ℕ) (row : Row) → from < 2 ^ 64 → Small row → word (decimal from) rest ≡ link_tail row
+pub link_1 : (from : ℕ) (rest : List ℕ) (row : TableLink) → from < 2 ^ 64 → Small row → word (decimal from) rest ≡ link_tail row
     → (from ≡ row.from) × (rest ≡ word (decimal row.to) (word (decimal row.cost) (identifier_text row.via)))
 link_1 from rest row p small e = word_unique from row.from rest _ p small.from e
 
-pub link_2 : (from to : ℕ) (rest : List ℕ) (row : Row) → from < 2 ^ 64 → to < 2 ^ 64 → Small row → word (decimal from) (word (decimal to) rest) ≡ link_tail row
+pub link_2 : (from to : ℕ) (rest : List ℕ) (row : TableLink) → from < 2 ^ 64 → to < 2 ^ 64 → Small row → word (decimal from) (word (decimal to) rest) ≡ link_tail row
     → (from ≡ row.from) × (to ≡ row.to) × (rest ≡ word (decimal row.cost) (identifier_text row.via))
 link_2 from to rest row p q small e =
     let one = link_1 from _ row p small e in
     let two = word_unique to row.to rest _ q small.to one.1 in
     (one.0, two.0, two.1)
 
-pub link_3 : (from to cost : ℕ) (rest : List ℕ) (row : Row) → from < 2 ^ 64 → to < 2 ^ 64 → cost < 2 ^ 64 → Small row
+pub link_3 : (from to cost : ℕ) (rest : List ℕ) (row : TableLink) → from < 2 ^ 64 → to < 2 ^ 64 → cost < 2 ^ 64 → Small row
     → word (decimal from) (word (decimal to) (word (decimal cost) rest)) ≡ link_tail row
     → (from ≡ row.from) × (to ≡ row.to) × (cost ≡ row.cost) × (rest ≡ identifier_text row.via)
 link_3 from to cost rest row p q r small e =
@@ -76,7 +75,7 @@ link_3 from to cost rest row p q r small e =
 
 -- ---- each item has one spelling
 
-row_same : (a b : Row) → a.from ≡ b.from → a.to ≡ b.to → a.cost ≡ b.cost → a.via ≡ b.via → a ≡ b
+row_same : (a b : TableLink) → a.from ≡ b.from → a.to ≡ b.to → a.cost ≡ b.cost → a.via ≡ b.via → a ≡ b
 row_same a b p q r s = λ i. record { from = p i; to = q i; cost = r i; via = s i }
 
 pub node_unique : IsUnique node_line FitsId
@@ -85,7 +84,7 @@ node_unique x y a b p q e =
     let both = lines_unique (node_body x) (node_body y) a b (Lacks-node_body x) (Lacks-node_body y) e in
     (identifier_unique x y p q (append_cancel_left (codes "node ") (identifier_text x) (identifier_text y) both.0), both.1)
 
-pub link_unique : (nodes : ℕ) → nodes ≤ 2 ^ 32 → IsUnique link_line (FitsRow nodes)
+pub link_unique : (nodes : ℕ) → nodes ≤ 2 ^ 32 → IsUnique link_line (FitsLink nodes)
 unfolding link_line
 link_unique nodes few x y a b p q e =
     let x-small = small_row nodes x few p in
@@ -100,7 +99,7 @@ step_unique x y a b p q e =
     let both = lines_unique (step_body x) (step_body y) a b (Lacks-step_body x (omega arith)) (Lacks-step_body y (omega arith)) e in
     (decimal_injective x y (omega arith) (omega arith) (append_cancel_left (codes "step ") (decimal x) (decimal y) both.0), both.1)
 
-pub from_unique : (nodes : ℕ) → IsUnique from_line (FitsFrom nodes)
+pub from_unique : (nodes : ℕ) → IsUnique from_line (FitsNode nodes)
 unfolding from_line
 from_unique nodes x y a b p q e =
     let x-small : x < 2 ^ 64 = omega (arith, p.small) in
@@ -114,7 +113,7 @@ pub node_line_is : (x : FeatureId) → node_line x ≡ line (node_body x)
 unfolding node_line
 node_line_is x = refl
 
-pub link_line_is : (x : Row) → link_line x ≡ line (link_body x)
+pub link_line_is : (x : TableLink) → link_line x ≡ line (link_body x)
 unfolding link_line
 link_line_is x = refl
 

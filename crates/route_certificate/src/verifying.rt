@@ -8,9 +8,9 @@ ghost use Rattle.route_certificate.specs.Forms.{FitsTable};
 ghost use Rattle.route_certificate.specs.Answers.{FitsAnswer, HasFewSteps, potentials_read};
 ghost use Rattle.route_certificate.specs.Verdicts.{IsGentle, IsClosed, HoldsOfLinks, FailsFirstAt, IsRouteJudged, IsNothingJudged, IsJudged, IsTrueAnswer};
 
-use crate::answer::{AnswerIn, Claim, Place, Verdict};
+use crate::answer::{AnswerIn, Claim, FailedClause, Verdict};
 use crate::pricing::{Followed, follow};
-use crate::table::{Row, Table};
+use crate::table::{TableLink, Table};
 use venue_types::Potential;
 use walk_laws::{has_node, rises_within};
 
@@ -26,7 +26,7 @@ fn potential_of(at: &[Potential], cost: u64, node: u32) -> u64
 }
 
 // Whether the potential rises along a link by no more than its cost.
-fn is_gentle(at: &[Potential], cost: u64, row: Row) -> bool
+fn is_gentle(at: &[Potential], cost: u64, row: TableLink) -> bool
     requires { Ascends potentials_read at.now }
     ensures { IsTrue result ↔ IsGentle cost at.now row }
 {
@@ -36,7 +36,7 @@ fn is_gentle(at: &[Potential], cost: u64, row: Row) -> bool
 }
 
 // Whether a link does not leave what is reached.
-fn is_closed(reached: &[u32], row: Row) -> bool
+fn is_closed(reached: &[u32], row: TableLink) -> bool
     requires { IsStrictlyIncreasing reached.now }
     ensures { IsTrue result ↔ IsClosed reached.now row }
 {
@@ -44,7 +44,7 @@ fn is_closed(reached: &[u32], row: Row) -> bool
 }
 
 // The first link along which the potential rises by more than the cost.
-fn first_steep(links: &[Row], at: &[Potential], cost: u64) -> Option<u32>
+fn first_steep(links: &[TableLink], at: &[Potential], cost: u64) -> Option<u32>
     requires few { length links.now < 2 ^ 32 }
     requires ascends { Ascends potentials_read at.now }
     ensures found { IfSome result (FailsFirstAt (IsGentle cost at.now) links.now) }
@@ -59,7 +59,7 @@ fn first_steep(links: &[Row], at: &[Potential], cost: u64) -> Option<u32>
 }
 
 // The first link that leaves what is reached.
-fn first_leaving(links: &[Row], reached: &[u32]) -> Option<u32>
+fn first_leaving(links: &[TableLink], reached: &[u32]) -> Option<u32>
     requires few { length links.now < 2 ^ 32 }
     requires ascends { IsStrictlyIncreasing reached.now }
     ensures found { IfSome result (FailsFirstAt (IsClosed reached.now) links.now) }
@@ -75,7 +75,7 @@ fn first_leaving(links: &[Row], reached: &[u32]) -> Option<u32>
 
 // The clauses of a route, in order.
 fn judge_route(
-    links: &[Row],
+    links: &[TableLink],
     from: u32,
     to: u32,
     cost: u64,
@@ -90,40 +90,40 @@ fn judge_route(
 {
     let (end, sum) = match follow(links, from, steps) {
         Followed::To { end, sum } => (end, sum),
-        Followed::Broken(step) => return Verdict::Fails(Place::Step(step)),
+        Followed::Broken(step) => return Verdict::Fails(FailedClause::Step(step)),
     };
     if end != to {
-        return Verdict::Fails(Place::End);
+        return Verdict::Fails(FailedClause::End);
     }
     if sum != cost {
-        return Verdict::Fails(Place::Sum);
+        return Verdict::Fails(FailedClause::Sum);
     }
     if potential_of(at, cost, from) != 0 {
-        return Verdict::Fails(Place::Start);
+        return Verdict::Fails(FailedClause::Start);
     }
     if potential_of(at, cost, to) != cost {
-        return Verdict::Fails(Place::Finish);
+        return Verdict::Fails(FailedClause::Finish);
     }
     match first_steep(links, at, cost) {
-        Some(link) => Verdict::Fails(Place::Link(link)),
+        Some(link) => Verdict::Fails(FailedClause::Link(link)),
         None => Verdict::Proved,
     }
 }
 
 // The clauses where there is no walk, in order.
-fn judge_nothing(links: &[Row], from: u32, to: u32, reached: &[u32]) -> Verdict
+fn judge_nothing(links: &[TableLink], from: u32, to: u32, reached: &[u32]) -> Verdict
     requires links { length links.now < 2 ^ 32 }
     requires ascends { IsStrictlyIncreasing reached.now }
     ensures { IsNothingJudged links.now from to reached.now result }
 {
     if !has_node(reached, from) {
-        return Verdict::Fails(Place::Start);
+        return Verdict::Fails(FailedClause::Start);
     }
     if has_node(reached, to) {
-        return Verdict::Fails(Place::Finish);
+        return Verdict::Fails(FailedClause::Finish);
     }
     match first_leaving(links, reached) {
-        Some(link) => Verdict::Fails(Place::Link(link)),
+        Some(link) => Verdict::Fails(FailedClause::Link(link)),
         None => Verdict::Proved,
     }
 }
