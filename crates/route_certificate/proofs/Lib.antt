@@ -14,3 +14,4 @@ pub mod ClaimLemmas
 pub mod ClaimFaults
 pub mod AnswerFaults
 pub mod MoreNodes
+pub mod OneVerdict

@@ -25,20 +25,20 @@ Lacks-identifier stop id low = Lacks-high stop 45 (identifier_text id) low (iden
 pub Lacks-node_body : (id : FeatureId) → Lacks 10 (node_body id)
 Lacks-node_body id = Lacks-word (codes "node") (identifier_text id) (Lacks-test 10 (codes "node") refl) (Lacks-identifier 10 id (omega arith))
 
-pub record Small (row : TableLink) : Type 0 where
-  pub from : row.from < 2 ^ 64
-  pub to : row.to < 2 ^ 64
-  pub cost : row.cost < 2 ^ 64
+pub record Small (link : TableLink) : Type 0 where
+  pub from : link.from < 2 ^ 64
+  pub to : link.to < 2 ^ 64
+  pub cost : link.cost < 2 ^ 64
 
-pub small_row : (nodes : ℕ) (row : TableLink) → nodes ≤ 2 ^ 32 → FitsLink nodes row → Small row
-small_row nodes row few fits = record { from = omega (arith, fits.from); to = omega (arith, fits.to); cost = omega (arith, fits.cost) }
+pub small_row : (nodes : ℕ) (link : TableLink) → nodes ≤ 2 ^ 32 → FitsLink nodes link → Small link
+small_row nodes link few fits = record { from = omega (arith, fits.from); to = omega (arith, fits.to); cost = omega (arith, fits.cost) }
 
-pub Lacks-link_body : (row : TableLink) → Small row → Lacks 10 (link_body row)
-Lacks-link_body row small =
+pub Lacks-link_body : (link : TableLink) → Small link → Lacks 10 (link_body link)
+Lacks-link_body link small =
     Lacks-word (codes "link") _ (Lacks-test 10 (codes "link") refl)
-    (Lacks-word (decimal row.from) _ (Lacks-number row.from small.from)
-    (Lacks-word (decimal row.to) _ (Lacks-number row.to small.to)
-    (Lacks-word (decimal row.cost) _ (Lacks-number row.cost small.cost) (Lacks-identifier 10 row.via (omega arith)))))
+    (Lacks-word (decimal link.from) _ (Lacks-number link.from small.from)
+    (Lacks-word (decimal link.to) _ (Lacks-number link.to small.to)
+    (Lacks-word (decimal link.cost) _ (Lacks-number link.cost small.cost) (Lacks-identifier 10 link.via (omega arith)))))
 
 pub Lacks-step_body : (k : ℕ) → k < 2 ^ 64 → Lacks 10 (step_body k)
 Lacks-step_body k fits = Lacks-word (codes "step") (decimal k) (Lacks-test 10 (codes "step") refl) (Lacks-number k fits)
@@ -49,28 +49,28 @@ Lacks-from_body k fits = Lacks-word (codes "from") (decimal k) (Lacks-test 10 (c
 -- ---- the words of a link
 
 abbrev pub link_tail : TableLink → List ℕ
-link_tail row = word (decimal row.from) (word (decimal row.to) (word (decimal row.cost) (identifier_text row.via)))
+link_tail link = word (decimal link.from) (word (decimal link.to) (word (decimal link.cost) (identifier_text link.via)))
 
-pub link_0 : (rest : List ℕ) (row : TableLink) → codes "link " ++ rest ≡ link_body row → rest ≡ link_tail row
-link_0 rest row e = append_cancel_left (codes "link ") rest (link_tail row) e
+pub link_0 : (rest : List ℕ) (link : TableLink) → codes "link " ++ rest ≡ link_body link → rest ≡ link_tail link
+link_0 rest link e = append_cancel_left (codes "link ") rest (link_tail link) e
 
-pub link_1 : (from : ℕ) (rest : List ℕ) (row : TableLink) → from < 2 ^ 64 → Small row → word (decimal from) rest ≡ link_tail row
-    → (from ≡ row.from) × (rest ≡ word (decimal row.to) (word (decimal row.cost) (identifier_text row.via)))
-link_1 from rest row p small e = word_unique from row.from rest _ p small.from e
+pub link_1 : (from : ℕ) (rest : List ℕ) (link : TableLink) → from < 2 ^ 64 → Small link → word (decimal from) rest ≡ link_tail link
+    → (from ≡ link.from) × (rest ≡ word (decimal link.to) (word (decimal link.cost) (identifier_text link.via)))
+link_1 from rest link p small e = word_unique from link.from rest _ p small.from e
 
-pub link_2 : (from to : ℕ) (rest : List ℕ) (row : TableLink) → from < 2 ^ 64 → to < 2 ^ 64 → Small row → word (decimal from) (word (decimal to) rest) ≡ link_tail row
-    → (from ≡ row.from) × (to ≡ row.to) × (rest ≡ word (decimal row.cost) (identifier_text row.via))
-link_2 from to rest row p q small e =
-    let one = link_1 from _ row p small e in
-    let two = word_unique to row.to rest _ q small.to one.1 in
+pub link_2 : (from to : ℕ) (rest : List ℕ) (link : TableLink) → from < 2 ^ 64 → to < 2 ^ 64 → Small link → word (decimal from) (word (decimal to) rest) ≡ link_tail link
+    → (from ≡ link.from) × (to ≡ link.to) × (rest ≡ word (decimal link.cost) (identifier_text link.via))
+link_2 from to rest link p q small e =
+    let one = link_1 from _ link p small e in
+    let two = word_unique to link.to rest _ q small.to one.1 in
     (one.0, two.0, two.1)
 
-pub link_3 : (from to cost : ℕ) (rest : List ℕ) (row : TableLink) → from < 2 ^ 64 → to < 2 ^ 64 → cost < 2 ^ 64 → Small row
-    → word (decimal from) (word (decimal to) (word (decimal cost) rest)) ≡ link_tail row
-    → (from ≡ row.from) × (to ≡ row.to) × (cost ≡ row.cost) × (rest ≡ identifier_text row.via)
-link_3 from to cost rest row p q r small e =
-    let two = link_2 from to _ row p q small e in
-    let three = word_unique cost row.cost rest _ r small.cost two.2 in
+pub link_3 : (from to cost : ℕ) (rest : List ℕ) (link : TableLink) → from < 2 ^ 64 → to < 2 ^ 64 → cost < 2 ^ 64 → Small link
+    → word (decimal from) (word (decimal to) (word (decimal cost) rest)) ≡ link_tail link
+    → (from ≡ link.from) × (to ≡ link.to) × (cost ≡ link.cost) × (rest ≡ identifier_text link.via)
+link_3 from to cost rest link p q r small e =
+    let two = link_2 from to _ link p q small e in
+    let three = word_unique cost link.cost rest _ r small.cost two.2 in
     (two.0, two.1, three.0, three.1)
 
 -- ---- each item has one spelling

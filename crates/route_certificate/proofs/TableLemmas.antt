@@ -18,15 +18,15 @@ use Rattle.route_certificate.proofs.LineLemmas.{node_unique, link_unique, node_l
 pub no_node_behind : (links : List TableLink) (tail : List ℕ) → HasNone node_line FitsId (flat_map link_line links ++ (end_line ++ tail))
 unfolding node_line link_line
 no_node_behind [] tail x more fits e = differ 101 110 _ _ e (λ h. omega arith)
-no_node_behind (row ∷ links) tail x more fits e = differ 108 110 _ _ e (λ h. omega arith)
+no_node_behind (link ∷ links) tail x more fits e = differ 108 110 _ _ e (λ h. omega arith)
 
 pub no_link_behind : (nodes : ℕ) (tail : List ℕ) → HasNone link_line (FitsLink nodes) (end_line ++ tail)
 unfolding link_line
 no_link_behind nodes tail x more fits e = differ 101 108 _ _ e (λ h. omega arith)
 
-no_node_first : (row : TableLink) (links : List TableLink) (tail : List ℕ) → HasNone node_line FitsId (flat_map link_line (row ∷ links) ++ tail)
+no_node_first : (link : TableLink) (links : List TableLink) (tail : List ℕ) → HasNone node_line FitsId (flat_map link_line (link ∷ links) ++ tail)
 unfolding node_line link_line
-no_node_first row links tail x more fits e = differ 108 110 _ _ e (λ h. omega arith)
+no_node_first link links tail x more fits e = differ 108 110 _ _ e (λ h. omega arith)
 
 -- ---- how far a table's text was read
 
@@ -58,7 +58,7 @@ read_on text nodes [] rest body after more read cut = record {
   nodes_fit = read.nodes_fit;
   links_fit = read.links_fit;
   no_node = λ less. HasNone-line node_line node_body FitsId node_line_is (λ x fits. Lacks-node_body x) rest body after more (read.no_node less) cut;
-  no_link = HasNone-line link_line link_body (FitsLink (length nodes)) link_line_is (λ row fits. Lacks-link_body row (small_row (length nodes) row (omega (arith, read.count)) fits)) rest body after more read.no_link cut;
+  no_link = HasNone-line link_line link_body (FitsLink (length nodes)) link_line_is (λ link fits. Lacks-link_body link (small_row (length nodes) link (omega (arith, read.count)) fits)) rest body after more read.no_link cut;
 }
 read_on text nodes (first ∷ links) rest body after more read cut = record {
   parts = refl;
@@ -66,7 +66,7 @@ read_on text nodes (first ∷ links) rest body after more read cut = record {
   nodes_fit = read.nodes_fit;
   links_fit = read.links_fit;
   no_node = λ less. no_node_first first links (line body ++ more);
-  no_link = HasNone-line link_line link_body (FitsLink (length nodes)) link_line_is (λ row fits. Lacks-link_body row (small_row (length nodes) row (omega (arith, read.count)) fits)) rest body after more read.no_link cut;
+  no_link = HasNone-line link_line link_body (FitsLink (length nodes)) link_line_is (λ link fits. Lacks-link_body link (small_row (length nodes) link (omega (arith, read.count)) fits)) rest body after more read.no_link cut;
 }
 
 -- ---- the table of such a text
@@ -123,9 +123,9 @@ node_some : (id : FeatureId) → 0 < length (node_line id)
 unfolding node_line
 node_some id = omega (arith, length-append (node_body id) (10 ∷ []))
 
-link_some : (row : TableLink) → 0 < length (link_line row)
+link_some : (link : TableLink) → 0 < length (link_line link)
 unfolding link_line
-link_some row = omega (arith, length-append (link_body row) (10 ∷ []))
+link_some link = omega (arith, length-append (link_body link) (10 ∷ []))
 
 pub few_links : (text : List ℕ) (nodes : List FeatureId) (links : List TableLink) (rest : List ℕ) → TableRead text nodes links rest → length text < 2 ^ 32 → length links < 2 ^ 32
 few_links text nodes links rest read small =

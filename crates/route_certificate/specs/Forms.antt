@@ -18,13 +18,13 @@ node_body id = word (codes "node") (identifier_text id)
 
 -- link FROM TO COST VIA
 abbrev pub link_body : TableLink → List ℕ
-link_body row = word (codes "link") (word (decimal row.from) (word (decimal row.to) (word (decimal row.cost) (identifier_text row.via))))
+link_body link = word (codes "link") (word (decimal link.from) (word (decimal link.to) (word (decimal link.cost) (identifier_text link.via))))
 
 unfoldable pub node_line : FeatureId → List ℕ
 node_line id = line (node_body id)
 
 unfoldable pub link_line : TableLink → List ℕ
-link_line row = line (link_body row)
+link_line link = line (link_body link)
 
 -- the last line of every form
 abbrev pub end_line : List ℕ
@@ -42,11 +42,11 @@ abbrev pub FitsId : FeatureId → Type 0
 FitsId id = id.0 < 2 ^ 128
 
 -- the ends are below the number of nodes, and the cost is at most 67 kilometres
-pub record FitsLink (nodes : ℕ) (row : TableLink) : Type 0 where
-  pub from : row.from < nodes
-  pub to : row.to < nodes
-  pub cost : row.cost ≤ 6700000
-  pub via : FitsId row.via
+pub record FitsLink (nodes : ℕ) (link : TableLink) : Type 0 where
+  pub from : link.from < nodes
+  pub to : link.to < nodes
+  pub cost : link.cost ≤ 6700000
+  pub via : FitsId link.via
 
 -- the numbers of a table are within the form's ranges
 pub record FitsTable (table : Table) : Type 0 where

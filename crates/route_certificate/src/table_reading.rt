@@ -27,8 +27,8 @@ fn node_of(body: &[u8]) -> Option<FeatureId>
 
 fn link_of(nodes: u32, body: &[u8]) -> Option<TableLink>
     requires { nodes ≤ 400000 }
-    ensures found { IfSome result (λ row. (body.now ≡ link_body row) × FitsLink nodes row) }
-    ensures none { IfNone result ((row : TableLink) → FitsLink nodes row → body.now ≡ link_body row → ⊥) }
+    ensures found { IfSome result (λ link. (body.now ≡ link_body link) × FitsLink nodes link) }
+    ensures none { IfNone result ((link : TableLink) → FitsLink nodes link → body.now ≡ link_body link → ⊥) }
 {
     let rest = after(body, b"link ")?;
     let (from, rest) = number_word(rest)?;
@@ -64,8 +64,8 @@ fn next_link(nodes: u32, text: &[u8]) -> Option<(TableLink, &[u8])>
     ensures shorter { IfSome result (λ x. length x.1.now < length text.now) }
 {
     let (body, rest) = cut_at(text, b'\n')?;
-    let row = link_of(nodes, body)?;
-    Some((row, rest))
+    let link = link_of(nodes, body)?;
+    Some((link, rest))
 }
 
 /// The nodes at the front, as many as there are and a table may have, and what follows them.
@@ -97,8 +97,8 @@ pub(crate) fn read_links(
 {
     let mut links = Vec::new(alloc);
     let mut rest = text;
-    while let Some((row, more)) = next_link(nodes, rest) {
-        links.push(row)?;
+    while let Some((link, more)) = next_link(nodes, rest) {
+        links.push(link)?;
         rest = more;
     }
     Ok((links, rest))

@@ -41,7 +41,8 @@ pub fn read_table(alloc: Global, text: &[u8]) -> Result<Table, FormFault>
 /// The one text of a table, which reads back to it.
 pub fn write_table(alloc: Global, table: &Table) -> Result<Bytes, OutOfMemory>
     requires { FitsTable table.now }
-    ensures { IfOk result (λ bytes. bytes ≡ table_text table.now) }
+    ensures spelled { IfOk result (λ bytes. bytes ≡ table_text table.now) }
+    ensures reads_back { IfOk result (λ bytes. IsTable bytes table.now) }
 {
     let nodes = table.nodes.as_slice();
     let links = table.links.as_slice();

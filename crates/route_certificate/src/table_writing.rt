@@ -20,17 +20,17 @@ fn push_node(out: &mut Vec<u8>, id: FeatureId) -> Result<(), AllocError>
     Ok(())
 }
 
-fn push_link(out: &mut Vec<u8>, row: &TableLink) -> Result<(), AllocError>
-    ensures { OnOk result (out.new.items ≡ out.old.items ++ link_line row.now) }
+fn push_link(out: &mut Vec<u8>, link: &TableLink) -> Result<(), AllocError>
+    ensures { OnOk result (out.new.items ≡ out.old.items ++ link_line link.now) }
 {
     out.extend_from_slice(b"link ")?;
-    push_number(out, row.from as u64)?;
+    push_number(out, link.from as u64)?;
     out.push(b' ')?;
-    push_number(out, row.to as u64)?;
+    push_number(out, link.to as u64)?;
     out.push(b' ')?;
-    push_number(out, row.cost as u64)?;
+    push_number(out, link.cost as u64)?;
     out.push(b' ')?;
-    out.extend_from_slice(&row.via.write())?;
+    out.extend_from_slice(&link.via.write())?;
     out.push(b'\n')?;
     Ok(())
 }
@@ -49,8 +49,8 @@ pub(crate) fn push_nodes(out: &mut Vec<u8>, nodes: &[FeatureId]) -> Result<(), A
 pub(crate) fn push_links(out: &mut Vec<u8>, links: &[TableLink]) -> Result<(), AllocError>
     ensures { OnOk result (out.new.items ≡ out.old.items ++ flat_map link_line links.now) }
 {
-    for row in links {
-        push_link(out, row)?;
+    for link in links {
+        push_link(out, link)?;
     }
     Ok(())
 }

@@ -3,7 +3,7 @@
 ghost use Rattle.std.specs.Prelude.{◌≡◌, ℕ, ◌^◌, ◌<◌, ◌++◌, IfSome, IfNone, IfOk, length};
 ghost use Rattle.text_forms.specs.Fronts.{HasNone, IsFront};
 ghost use Rattle.route_certificate.specs.Forms.{FitsStep, from_body, step_body, from_line, step_line, FitsNode};
-ghost 
+
 use std::alloc::{AllocError, Global};
 use text_forms::{after, cut_at, number};
 

@@ -6,18 +6,18 @@ use Rattle.route_certificate.proofs.table_reading.next_link.Goals as goal
 
 pub returns-in_err-body-clause-none : goal.returns-in_err-body-clause-none
 unfolding link_line
-returns-in_err-body-clause-none c = rw c.from_residual.ensures (λ row more fits e. no_line c.args.text.now (link_body row) more c.in_err-body.ensures.none e)
+returns-in_err-body-clause-none c = rw c.from_residual.ensures (λ link more fits e. no_line c.args.text.now (link_body link) more c.in_err-body.ensures.none e)
 
-pub returns-in_err-row-clause-none : goal.returns-in_err-row-clause-none
+pub returns-in_err-link-clause-none : goal.returns-in_err-link-clause-none
 unfolding link_line
-returns-in_err-row-clause-none c =
-    rw c.from_residual-in_err-row.ensures (λ row more fits e.
-    let lacks = Lacks-link_body row (small_row c.args.nodes row (omega arith) fits) in
-    let same = same_line c.args.text.now c.in_ok-body.body.now c.in_ok-body.rest.now (link_body row) more c.in_ok-body.ensures.found lacks e in
-    c.in_err-row.ensures.none row fits same.0)
+returns-in_err-link-clause-none c =
+    rw c.from_residual-in_err-link.ensures (λ link more fits e.
+    let lacks = Lacks-link_body link (small_row c.args.nodes link (omega arith) fits) in
+    let same = same_line c.args.text.now c.in_ok-body.body.now c.in_ok-body.rest.now (link_body link) more c.in_ok-body.ensures.found lacks e in
+    c.in_err-link.ensures.none link fits same.0)
 
 pub returns-clause-found : goal.returns-clause-found
 unfolding link_line
 returns-clause-found c =
-    let body = c.in_ok-row.ensures.found in
-    (c.in_ok-body.ensures.found.parts ∙ ap (λ (b : List ℕ). b ++ 10 ∷ c.in_ok-body.rest.now) body.0 ∙ sym (line_front (link_body c.in_ok-row.row) c.in_ok-body.rest.now), body.1)
+    let body = c.in_ok-link.ensures.found in
+    (c.in_ok-body.ensures.found.parts ∙ ap (λ (b : List ℕ). b ++ 10 ∷ c.in_ok-body.rest.now) body.0 ∙ sym (line_front (link_body c.in_ok-link.link) c.in_ok-body.rest.now), body.1)

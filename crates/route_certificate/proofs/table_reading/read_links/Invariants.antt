@@ -3,8 +3,8 @@ use Rattle.std.specs.List.{flat_map, AllByRecursion}
 use Rattle.route_certificate.specs.Forms.{link_line, FitsLink}
 use Rattle.route_certificate.proofs.table_reading.read_links.Given as goal
 
-abbrev pub invariant-loop-row : goal.invariant-loop-row
-invariant-loop-row l = (l.text ≡ flat_map link_line l.links.items ++ l.rest) × AllByRecursion (FitsLink l.nodes) l.links.items
+abbrev pub invariant-loop-link : goal.invariant-loop-link
+invariant-loop-link l = (l.text ≡ flat_map link_line l.links.items ++ l.rest) × AllByRecursion (FitsLink l.nodes) l.links.items
 
-abbrev pub decreases-loop-row : goal.decreases-loop-row
-decreases-loop-row l = length l.rest
+abbrev pub decreases-loop-link : goal.decreases-loop-link
+decreases-loop-link l = length l.rest

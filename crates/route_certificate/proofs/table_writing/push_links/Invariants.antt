@@ -3,5 +3,5 @@ use Rattle.std.specs.List.{flat_map}
 use Rattle.route_certificate.specs.Forms.{link_line}
 use Rattle.route_certificate.proofs.table_writing.push_links.Given as goal
 
-abbrev pub invariant-loop-row : goal.invariant-loop-row
-invariant-loop-row l = l.out.items ≡ l.initial.out.items ++ flat_map link_line (take l.row-index l.links)
+abbrev pub invariant-loop-link : goal.invariant-loop-link
+invariant-loop-link l = l.out.items ≡ l.initial.out.items ++ flat_map link_line (take l.link-index l.links)
