@@ -1,7 +1,6 @@
 -- Lines of tables and walks are read in one way.
 use Rattle.std.proofs.Common.{◌≡◌, ℕ, ◌^◌, ◌<◌, ◌≤◌, List, [], ◌∷◌, ◌++◌, refl, arith, codes}
 use Rattle.std.proofs.lemmas.List.{append_cancel_left}
-use Rattle.std.proofs.lemmas.Fmt.{decimal_injective}
 use Rattle.std.specs.Fmt.{decimal}
 use Rattle.std.specs.List.{AllByRecursion}
 use Rattle.venue_types.specs.declared.feature_id.FeatureId.{FeatureId}
@@ -9,7 +8,7 @@ use Rattle.venue_types.specs.Identifier.{identifier_text}
 use Rattle.venue_types.proofs.IdentifierLemmas.{identifier_text-high, identifier_unique}
 use Rattle.text_forms.specs.Lines.{line, word}
 use Rattle.text_forms.specs.Fronts.{Lacks, IsUnique}
-use Rattle.text_forms.proofs.LineLemmas.{word_unique, lines_unique, Lacks-word, Lacks-number, Lacks-test}
+use Rattle.text_forms.proofs.LineLemmas.{word_unique, lines_unique, numbered_unique, Lacks-word, Lacks-number, Lacks-test}
 use Rattle.route_certificate.specs.declared.table.TableLink.{TableLink}
 use Rattle.route_certificate.specs.Forms.{node_body, link_body, from_body, step_body, node_line, link_line, from_line, step_line, FitsId, FitsLink, FitsStep, FitsNode}
 
@@ -95,17 +94,11 @@ link_unique nodes few x y a b p q e =
 
 pub step_unique : IsUnique step_line FitsStep
 unfolding step_line
-step_unique x y a b p q e =
-    let both = lines_unique (step_body x) (step_body y) a b (Lacks-step_body x (omega arith)) (Lacks-step_body y (omega arith)) e in
-    (decimal_injective x y (omega arith) (omega arith) (append_cancel_left (codes "step ") (decimal x) (decimal y) both.0), both.1)
+step_unique x y a b p q e = numbered_unique (codes "step") x y a b (Lacks-test 10 (codes "step") refl) (omega (arith, p)) (omega (arith, q)) e
 
 pub from_unique : (nodes : ℕ) → IsUnique from_line (FitsNode nodes)
 unfolding from_line
-from_unique nodes x y a b p q e =
-    let x-small : x < 2 ^ 64 = omega (arith, p.small) in
-    let y-small : y < 2 ^ 64 = omega (arith, q.small) in
-    let both = lines_unique (from_body x) (from_body y) a b (Lacks-from_body x x-small) (Lacks-from_body y y-small) e in
-    (decimal_injective x y x-small y-small (append_cancel_left (codes "from ") (decimal x) (decimal y) both.0), both.1)
+from_unique nodes x y a b p q e = numbered_unique (codes "from") x y a b (Lacks-test 10 (codes "from") refl) (omega (arith, p.small)) (omega (arith, q.small)) e
 
 -- ---- each item is a line
 

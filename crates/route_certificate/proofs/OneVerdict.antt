@@ -104,11 +104,19 @@ pub record FailsAt (Clause : ℕ → Type 0) (Number : ℕ → ℕ → Type 0) (
   pub fails : stage < last → Clause stage → ⊥
   pub numbered : Number stage number
 
-pub stages_same : (Clause : ℕ → Type 0) (Number : ℕ → ℕ → Type 0) (last s k s' k' : ℕ) → FailsAt Clause Number last s k → FailsAt Clause Number last s' k' → s ≡ s'
+stages_same : (Clause : ℕ → Type 0) (Number : ℕ → ℕ → Type 0) (last s k s' k' : ℕ) → FailsAt Clause Number last s k → FailsAt Clause Number last s' k' → s ≡ s'
 stages_same Clause Number last s k s' k' p q =
     let low : s < s' → ⊥ = λ less. p.fails (omega (arith, less, q.known)) (kept Clause s s' less q.keeps) in
     let high : s' < s → ⊥ = λ less. q.fails (omega (arith, less, p.known)) (kept Clause s' s less p.keeps) in
     omega arith
+
+-- what is made of the number of the first clause that fails and of its step or link is one thing
+one_of : (Clause : ℕ → Type 0) (Number : ℕ → ℕ → Type 0) (last : ℕ) (verdict : ℕ → ℕ → Verdict) → ((s k k' : ℕ) → Number s k → Number s k' → k ≡ k')
+    → (s k s' k' : ℕ) → FailsAt Clause Number last s k → FailsAt Clause Number last s' k' → verdict s k ≡ verdict s' k'
+one_of Clause Number last verdict unique s k s' k' p q =
+    let stage : s ≡ s' = stages_same Clause Number last s k s' k' p q in
+    let number : k ≡ k' = unique s' k k' (subst (λ (t : ℕ). Number t k) stage p.numbered) q.numbered in
+    ap (λ (t : ℕ). verdict t k) stage ∙ ap (verdict s') number
 
 -- ---- a route's verdict by the number of its clause, and of its step or link
 
@@ -222,13 +230,10 @@ route_fails links from to cost steps at (Fails (Link j)) p = record {
 one_route : (links : List TableLink) (from to cost : ℕ) (steps : List ℕ) (at : List Potential) (v w : Verdict) → IsRouteJudged links from to cost steps at v
     → IsRouteJudged links from to cost steps at w → v ≡ w
 one_route links from to cost steps at v w p q =
-    let Number : ℕ → ℕ → Type 0 = RouteNumber links from cost steps at in
-    let one = route_fails links from to cost steps at v p in
-    let other = route_fails links from to cost steps at w q in
-    let stage : route_stage v ≡ route_stage w = stages_same (RouteClause links from to cost steps at) Number 6 (route_stage v) (number_of v) (route_stage w) (number_of w) one other in
-    let moved : Number (route_stage w) (number_of v) = subst (λ (s : ℕ). Number s (number_of v)) stage one.numbered in
-    let number : number_of v ≡ number_of w = route_number_same links from cost steps at (route_stage w) (number_of v) (number_of w) moved other.numbered in
-    route_verdict_is v ∙ ap (λ (s : ℕ). route_verdict s (number_of v)) stage ∙ ap (route_verdict (route_stage w)) number ∙ sym (route_verdict_is w)
+    let same : route_verdict (route_stage v) (number_of v) ≡ route_verdict (route_stage w) (number_of w) =
+    one_of (RouteClause links from to cost steps at) (RouteNumber links from cost steps at) 6 route_verdict (route_number_same links from cost steps at)
+    (route_stage v) (number_of v) (route_stage w) (number_of w) (route_fails links from to cost steps at v p) (route_fails links from to cost steps at w q) in
+    route_verdict_is v ∙ same ∙ sym (route_verdict_is w)
 
 -- ---- and that where there is no walk
 
@@ -291,14 +296,10 @@ nothing_fails links from to reached (Fails (Link j)) p = record {
 
 one_nothing : (links : List TableLink) (from to : ℕ) (reached : List ℕ) (v w : Verdict) → IsNothingJudged links from to reached v → IsNothingJudged links from to reached w → v ≡ w
 one_nothing links from to reached v w p q =
-    let Number : ℕ → ℕ → Type 0 = NothingNumber links reached in
-    let one = nothing_fails links from to reached v p in
-    let other = nothing_fails links from to reached w q in
-    let stage : nothing_stage v ≡ nothing_stage w = stages_same (NothingClause links from to reached) Number 3 (nothing_stage v) (number_of v) (nothing_stage w) (number_of w) one other in
-    let moved : Number (nothing_stage w) (number_of v) = subst (λ (s : ℕ). Number s (number_of v)) stage one.numbered in
-    let number : number_of v ≡ number_of w = nothing_number_same links reached (nothing_stage w) (number_of v) (number_of w) moved other.numbered in
-    nothing_verdict_is links from to reached v p ∙ ap (λ (s : ℕ). nothing_verdict s (number_of v)) stage ∙ ap (nothing_verdict (nothing_stage w)) number
-    ∙ sym (nothing_verdict_is links from to reached w q)
+    let same : nothing_verdict (nothing_stage v) (number_of v) ≡ nothing_verdict (nothing_stage w) (number_of w) =
+    one_of (NothingClause links from to reached) (NothingNumber links reached) 3 nothing_verdict (nothing_number_same links reached)
+    (nothing_stage v) (number_of v) (nothing_stage w) (number_of w) (nothing_fails links from to reached v p) (nothing_fails links from to reached w q) in
+    nothing_verdict_is links from to reached v p ∙ same ∙ sym (nothing_verdict_is links from to reached w q)
 
 pub one_claim_verdict : (links : List TableLink) (from to : ℕ) (claim : Claim) (v w : Verdict) → IsClaimJudged links from to claim v → IsClaimJudged links from to claim w → v ≡ w
 one_claim_verdict links from to (Route cost steps at) v w p q = one_route links from to cost steps at v w p q

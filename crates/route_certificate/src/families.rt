@@ -8,7 +8,7 @@ ghost use Rattle.route_certificate.specs.Verdicts.{links_read};
 
 use walk_laws::{LinkFamily, PotentialKind};
 
-// The links of a list.
+/// The links of a list.
 pub(crate) struct TableLinks;
 
 impl LinkFamily for TableLinks {
@@ -21,7 +21,7 @@ impl LinkFamily for TableLinks {
     ghost has = { Contains };
 }
 
-// The potentials that an answer lists.
+/// The potentials that an answer lists.
 pub(crate) struct ListedPotentials;
 
 impl PotentialKind for ListedPotentials {

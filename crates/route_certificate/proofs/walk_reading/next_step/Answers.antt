@@ -1,22 +1,19 @@
-use Rattle.std.proofs.Common.{List, ℕ, ◌++◌, ◌∷◌, sym, ap, ◌∙◌, arith}
-use Rattle.route_certificate.specs.Forms.{step_body, step_line}
-use Rattle.text_forms.proofs.LineLemmas.{line_front, no_line, same_line}
-use Rattle.route_certificate.proofs.LineLemmas.{Lacks-step_body}
+use Rattle.std.proofs.Common.{arith}
+use Rattle.route_certificate.specs.Forms.{step_body, step_line, FitsStep}
+use Rattle.text_forms.proofs.LineLemmas.{no_item_line, other_item_line, item_line}
+use Rattle.route_certificate.proofs.LineLemmas.{step_line_is, Lacks-step_body}
 use Rattle.route_certificate.proofs.walk_reading.next_step.Goals as goal
 
 pub returns-in_err-body-clause-none : goal.returns-in_err-body-clause-none
-unfolding step_line
-returns-in_err-body-clause-none c = rw c.from_residual.ensures (λ k more fits e. no_line c.args.text.now (step_body k) more c.in_err-body.ensures.none e)
+returns-in_err-body-clause-none c = rw c.from_residual.ensures (no_item_line step_line step_body FitsStep step_line_is c.args.text.now c.in_err-body.ensures.none)
 
 pub returns-in_err-step-clause-none : goal.returns-in_err-step-clause-none
-unfolding step_line
 returns-in_err-step-clause-none c =
-    rw c.from_residual-in_err-step.ensures (λ k more fits e.
-    let same = same_line c.args.text.now c.in_ok-body.body.now c.in_ok-body.rest.now (step_body k) more c.in_ok-body.ensures.found (Lacks-step_body k (omega (arith, fits))) e in
-    c.in_err-step.ensures.none k fits same.0)
+    rw c.from_residual-in_err-step.ensures
+    (other_item_line step_line step_body FitsStep step_line_is (λ k fits. Lacks-step_body k (omega (arith, fits)))
+    c.args.text.now c.in_ok-body.body.now c.in_ok-body.rest.now c.in_ok-body.ensures.found c.in_err-step.ensures.none)
 
 pub returns-clause-found : goal.returns-clause-found
-unfolding step_line
 returns-clause-found c =
-    let body = c.in_ok-step.ensures.found in
-    (c.in_ok-body.ensures.found.parts ∙ ap (λ (b : List ℕ). b ++ 10 ∷ c.in_ok-body.rest.now) body.0 ∙ sym (line_front (step_body c.in_ok-step.step) c.in_ok-body.rest.now), body.1)
+    let found = c.in_ok-step.ensures.found in
+    (item_line step_line step_body step_line_is c.args.text.now c.in_ok-body.body.now c.in_ok-body.rest.now c.in_ok-step.step c.in_ok-body.ensures.found found.0, found.1)
