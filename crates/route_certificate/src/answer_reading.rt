@@ -14,10 +14,10 @@ use std::alloc::{AllocError, Global};
 use text_forms::{after, cut_at, number, number_word};
 use venue_types::Potential;
 
-/// Above the most that an answer costs and that a potential is, in centimetres.
+// Above the most that an answer costs and that a potential is, in centimetres.
 const COST_END: u64 = 4_398_046_511_104;
 
-/// Above the greatest number of 32 bits.
+// Above the greatest number of 32 bits.
 const NODE_END: u64 = 4_294_967_296;
 
 // The number behind the front in the first line, where it is within the bounds, and what follows the line.

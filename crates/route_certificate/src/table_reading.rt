@@ -12,10 +12,10 @@ use std::alloc::{AllocError, Global};
 use text_forms::{after, cut_at, number_word};
 use venue_types::FeatureId;
 
-/// The most nodes that a table has.
+// The most nodes that a table has.
 const MAX_NODES: usize = 400_000;
 
-/// The most that a link costs, in centimetres.
+// The most that a link costs, in centimetres.
 const MAX_COST: u64 = 6_700_000;
 
 fn node_of(body: &[u8]) -> Option<FeatureId>

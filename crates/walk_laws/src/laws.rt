@@ -27,43 +27,43 @@ pub trait PotentialKind {
 
 /// Where there is a certificate, no walk costs less.
 pub fn certificate_law<F: LinkFamily>()
-    ensures { (ground : F.Ground) (a b cost : ℕ) (potential_of : ℕ → ℕ)
-        → IsCertificate F.view (F.has ground) a b cost potential_of → CostsAtLeast F.view (F.has ground) a b cost }
+    ensures { (whole : F.Ground) (a b cost : ℕ) (potential_of : ℕ → ℕ)
+        → IsCertificate F.view (F.has whole) a b cost potential_of → CostsAtLeast F.view (F.has whole) a b cost }
 {}
 
 /// A walk of the cost of a certificate is a least one, and all least walks cost the same.
 pub fn least_law<F: LinkFamily>()
-    ensures least { (ground : F.Ground) (a b cost : ℕ) (potential_of : ℕ → ℕ) (walk : List F.Link)
-        → IsCertificate F.view (F.has ground) a b cost potential_of → IsWalk F.view (F.has ground) a b walk → walk_cost F.view walk ≡ cost
-        → IsLeast F.view (F.has ground) a b walk cost }
-    ensures one_cost { (ground : F.Ground) (a b cost cost' : ℕ) (walk walk' : List F.Link)
-        → IsLeast F.view (F.has ground) a b walk cost → IsLeast F.view (F.has ground) a b walk' cost' → cost ≡ cost' }
+    ensures least { (whole : F.Ground) (a b cost : ℕ) (potential_of : ℕ → ℕ) (walk : List F.Link)
+        → IsCertificate F.view (F.has whole) a b cost potential_of → IsWalk F.view (F.has whole) a b walk → walk_cost F.view walk ≡ cost
+        → IsLeast F.view (F.has whole) a b walk cost }
+    ensures one_cost { (whole : F.Ground) (a b cost cost' : ℕ) (walk walk' : List F.Link)
+        → IsLeast F.view (F.has whole) a b walk cost → IsLeast F.view (F.has whole) a b walk' cost' → cost ≡ cost' }
 {}
 
 /// Where there is a cut, there is no walk.
 pub fn cut_law<F: LinkFamily>()
-    ensures { (ground : F.Ground) (a b : ℕ) (reached : List ℕ) → IsCut F.view (F.has ground) a b reached → HasNoWalk F.view (F.has ground) a b }
+    ensures { (whole : F.Ground) (a b : ℕ) (reached : List ℕ) → IsCut F.view (F.has whole) a b reached → HasNoWalk F.view (F.has whole) a b }
 {}
 
 /// Walks join and part, their costs add up, and links lead from a node to one end at most.
 pub fn walk_law<F: LinkFamily>()
-    ensures joined { (ground : F.Ground) (a b c : ℕ) (front back : List F.Link)
-        → IsWalk F.view (F.has ground) a b front → IsWalk F.view (F.has ground) b c back → IsWalk F.view (F.has ground) a c (front ++ back) }
-    ensures parted { (ground : F.Ground) (a c : ℕ) (front back : List F.Link) → IsWalk F.view (F.has ground) a c (front ++ back)
-        → (b : ℕ) × IsWalk F.view (F.has ground) a b front × IsWalk F.view (F.has ground) b c back }
+    ensures joined { (whole : F.Ground) (a b c : ℕ) (front back : List F.Link)
+        → IsWalk F.view (F.has whole) a b front → IsWalk F.view (F.has whole) b c back → IsWalk F.view (F.has whole) a c (front ++ back) }
+    ensures parted { (whole : F.Ground) (a c : ℕ) (front back : List F.Link) → IsWalk F.view (F.has whole) a c (front ++ back)
+        → (b : ℕ) × IsWalk F.view (F.has whole) a b front × IsWalk F.view (F.has whole) b c back }
     ensures added { (front back : List F.Link) → walk_cost F.view (front ++ back) ≡ walk_cost F.view front + walk_cost F.view back }
-    ensures one_end { (ground : F.Ground) (a b c : ℕ) (walk : List F.Link)
-        → IsWalk F.view (F.has ground) a b walk → IsWalk F.view (F.has ground) a c walk → b ≡ c }
+    ensures one_end { (whole : F.Ground) (a b c : ℕ) (walk : List F.Link)
+        → IsWalk F.view (F.has whole) a b walk → IsWalk F.view (F.has whole) a c walk → b ≡ c }
 {}
 
 /// What holds of all walks over the links of one family holds of those over links that stand for them.
 pub fn stand_in_law<F: LinkFamily, G: LinkFamily>()
-    ensures least { (ground : F.Ground) (other_ground : G.Ground) (other : F.Link → G.Link) (a b cost : ℕ)
-        → StandsFor F.view (F.has ground) G.view (G.has other_ground) other
-        → CostsAtLeast G.view (G.has other_ground) a b cost → CostsAtLeast F.view (F.has ground) a b cost }
-    ensures none { (ground : F.Ground) (other_ground : G.Ground) (other : F.Link → G.Link) (a b : ℕ)
-        → StandsFor F.view (F.has ground) G.view (G.has other_ground) other
-        → HasNoWalk G.view (G.has other_ground) a b → HasNoWalk F.view (F.has ground) a b }
+    ensures least { (whole : F.Ground) (other_whole : G.Ground) (other : F.Link → G.Link) (a b cost : ℕ)
+        → StandsFor F.view (F.has whole) G.view (G.has other_whole) other
+        → CostsAtLeast G.view (G.has other_whole) a b cost → CostsAtLeast F.view (F.has whole) a b cost }
+    ensures none { (whole : F.Ground) (other_whole : G.Ground) (other : F.Link → G.Link) (a b : ℕ)
+        → StandsFor F.view (F.has whole) G.view (G.has other_whole) other
+        → HasNoWalk G.view (G.has other_whole) a b → HasNoWalk F.view (F.has whole) a b }
 {}
 
 /// Where the nodes of a list ascend, a node has one potential: its own value, or the cost of the answer where it is not

@@ -4,6 +4,6 @@ use Rattle.walk_laws.proofs.laws.least_law.Goals as goal
 
 pub returns : goal.returns
 returns g c = record {
-  least = λ ground. certifies_least g.F.LinkFamily.view (g.F.LinkFamily.has ground);
-  one_cost = λ ground a b cost cost' walk walk'. IsLeast-cost g.F.LinkFamily.view (g.F.LinkFamily.has ground) a b walk walk' cost cost';
+  least = λ whole. certifies_least g.F.LinkFamily.view (g.F.LinkFamily.has whole);
+  one_cost = λ whole a b cost cost' walk walk'. IsLeast-cost g.F.LinkFamily.view (g.F.LinkFamily.has whole) a b walk walk' cost cost';
 }
