@@ -8,13 +8,12 @@ use Rattle.text_forms.proofs.LineLemmas.{Lacks-test}
 use Rattle.text_forms.proofs.FaultLemmas.{IsLines-one, IsLines-append, first_faulty, other_head}
 use Rattle.route_certificate.specs.declared.table.Table.{Table}
 use Rattle.route_certificate.specs.declared.answer.AnswerIn.{AnswerIn}
-use Rattle.route_certificate.specs.Forms.{from_line, from_body, end_line}
-use Rattle.route_certificate.specs.Fronts.{FitsFrom}
-use Rattle.route_certificate.specs.Answers.{answer_head, to_line, to_body, none_line, claim_text, FitsNode, IsAnswerText, IsAnswerTextOver}
+use Rattle.route_certificate.specs.Forms.{from_line, from_body, end_line, FitsNode}
+use Rattle.route_certificate.specs.Answers.{answer_head, to_line, to_body, none_line, claim_text, IsAnswerText, IsAnswerTextOver}
 use Rattle.route_certificate.specs.AnswerFronts.{IsClaim, IsClaimText}
 use Rattle.route_certificate.proofs.LineLemmas.{from_line_is, from_unique, Lacks-from_body}
 use Rattle.route_certificate.proofs.AnswerLines.{to_line_is, to_unique, Lacks-to_body}
-use Rattle.route_certificate.proofs.Stuck.{stuck, HasNone-begins, fault_behind}
+use Rattle.text_forms.proofs.Stuck.{stuck, HasNone-begins, fault_behind}
 use Rattle.route_certificate.proofs.ClaimLemmas.{one_claim}
 use Rattle.route_certificate.proofs.ClaimFaults.{some_claim}
 
@@ -36,7 +35,7 @@ no_head text table none =
 head_lines : IsLines 1 answer_head
 head_lines = IsLines-one (codes "imdf-answer 1") (Lacks-test 10 (codes "imdf-answer 1") refl)
 
-from_lines : (nodes from : ℕ) → FitsFrom nodes from → IsLines 2 (answer_head ++ from_line from)
+from_lines : (nodes from : ℕ) → FitsNode nodes from → IsLines 2 (answer_head ++ from_line from)
 from_lines nodes from fits =
     IsLines-append 1 1 answer_head (from_line from) head_lines (subst (IsLines 1) (sym (from_line_is from)) (IsLines-one (from_body from) (Lacks-from_body from (omega (arith, fits.small)))))
 
@@ -47,7 +46,7 @@ head_is : (from to : ℕ) (t : List ℕ) → head_front from to ++ t ≡ answer_
 unfolding head_front
 head_is from to t = append_assoc answer_head (from_line from ++ to_line to) t ∙ ap (λ (x : List ℕ). answer_head ++ x) (append_assoc (from_line from) (to_line to) t)
 
-to_lines : (nodes from to : ℕ) → FitsFrom nodes from → FitsNode nodes to → IsLines 3 (head_front from to)
+to_lines : (nodes from to : ℕ) → FitsNode nodes from → FitsNode nodes to → IsLines 3 (head_front from to)
 unfolding head_front
 to_lines nodes from to fits fits' =
     IsLines-append 1 2 answer_head (from_line from ++ to_line to) head_lines
@@ -62,7 +61,7 @@ pub record SameHead (nodes from to : ℕ) (t : List ℕ) (answer : AnswerIn) : T
   pub to_is : to ≡ answer.to
   pub claim_is : IsClaim nodes t answer.claim
 
-pub answer_behind : (table : Table) (from to : ℕ) (t : List ℕ) (answer : AnswerIn) → FitsFrom (length table.nodes) from → FitsNode (length table.nodes) to
+pub answer_behind : (table : Table) (from to : ℕ) (t : List ℕ) (answer : AnswerIn) → FitsNode (length table.nodes) from → FitsNode (length table.nodes) to
     → IsAnswerText (answer_head ++ (from_line from ++ (to_line to ++ t))) table answer → SameHead (length table.nodes) from to t answer
 answer_behind table from to t answer fits fits' is =
     let one = from_unique (length table.nodes) from answer.from (to_line to ++ t) (to_line answer.to ++ claim_text answer.claim) fits is.fits.from
@@ -70,7 +69,7 @@ answer_behind table from to t answer fits fits' is =
     let two = to_unique (length table.nodes) to answer.to t (claim_text answer.claim) fits' is.fits.to one.1 in
     record { from_is = one.0; to_is = two.0; claim_is = record { spelled = two.1; fits = is.fits.claim } }
 
-claim_goes_on : (table : Table) (from to : ℕ) → FitsFrom (length table.nodes) from → FitsNode (length table.nodes) to → (t : List ℕ) → IsClaimText (length table.nodes) t → IsAnswerTextOver table (head_front from to ++ t)
+claim_goes_on : (table : Table) (from to : ℕ) → FitsNode (length table.nodes) from → FitsNode (length table.nodes) to → (t : List ℕ) → IsClaimText (length table.nodes) t → IsAnswerTextOver table (head_front from to ++ t)
 claim_goes_on table from to fits fits' t is =
     let answer : AnswerIn = record { from = from; to = to; claim = is.0 } in (
       answer,
@@ -81,7 +80,7 @@ claim_goes_on table from to fits fits' t is =
     )
 
 -- the faulty line of what should be the claim
-pub claim_fault : (text rest : List ℕ) (table : Table) (from to n : ℕ) → FitsFrom (length table.nodes) from → FitsNode (length table.nodes) to
+pub claim_fault : (text rest : List ℕ) (table : Table) (from to n : ℕ) → FitsNode (length table.nodes) from → FitsNode (length table.nodes) to
     → text ≡ answer_head ++ (from_line from ++ (to_line to ++ rest)) → IsFaultLine (IsClaimText (length table.nodes)) rest n → IsFaultLine (IsAnswerTextOver table) text (3 + n)
 claim_fault text rest table from to n fits fits' parts fault =
     fault_behind (IsAnswerTextOver table) (IsClaimText (length table.nodes)) text (head_front from to) rest (none_line ++ end_line) 3 n (parts ∙ sym (head_is from to rest))
@@ -93,21 +92,21 @@ claim_fault text rest table from to n fits fits' parts fault =
 
 -- ---- no second or third line
 
-first_node : (table : Table) → 0 < length table.nodes → FitsFrom (length table.nodes) 0
+first_node : (table : Table) → 0 < length table.nodes → FitsNode (length table.nodes) 0
 first_node table some = record { node = some; small = omega arith }
 
 -- a text whose second line is no start
-pub no_start : (text rest : List ℕ) (table : Table) → 0 < length table.nodes → text ≡ answer_head ++ rest → HasNone from_line (FitsFrom (length table.nodes)) rest
+pub no_start : (text rest : List ℕ) (table : Table) → 0 < length table.nodes → text ≡ answer_head ++ rest → HasNone from_line (FitsNode (length table.nodes)) rest
     → IsFaultLine (IsAnswerTextOver table) text 2
 no_start text rest table some head none =
     stuck (IsAnswerTextOver table) text answer_head rest (from_line 0 ++ (to_line 0 ++ (none_line ++ end_line))) 1 head head_lines
     (subst (IsAnswerTextOver table) (head_is 0 0 (none_line ++ end_line)) (claim_goes_on table 0 0 (first_node table some) (first_node table some) (none_line ++ end_line) (some_claim (length table.nodes))))
     (λ t begins is.
-    HasNone-begins from_line from_body (FitsFrom (length table.nodes)) from_line_is (λ n fits. Lacks-from_body n (omega (arith, fits.small))) rest t begins none
+    HasNone-begins from_line from_body (FitsNode (length table.nodes)) from_line_is (λ n fits. Lacks-from_body n (omega (arith, fits.small))) rest t begins none
     is.0.from _ is.1.fits.from (append_cancel_left answer_head t _ is.1.spelled))
 
 -- a text whose third line is no end
-pub no_finish : (text rest : List ℕ) (table : Table) (from : ℕ) → FitsFrom (length table.nodes) from → text ≡ answer_head ++ (from_line from ++ rest) → HasNone to_line (FitsNode (length table.nodes)) rest
+pub no_finish : (text rest : List ℕ) (table : Table) (from : ℕ) → FitsNode (length table.nodes) from → text ≡ answer_head ++ (from_line from ++ rest) → HasNone to_line (FitsNode (length table.nodes)) rest
     → IsFaultLine (IsAnswerTextOver table) text 3
 no_finish text rest table from fits head none =
     let front = answer_head ++ from_line from in

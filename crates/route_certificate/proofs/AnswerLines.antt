@@ -9,8 +9,9 @@ use Rattle.venue_types.specs.declared.link.Potential.{Potential}
 use Rattle.text_forms.specs.Lines.{line, word}
 use Rattle.text_forms.specs.Fronts.{Lacks, IsUnique}
 use Rattle.text_forms.proofs.ListLemmas.{Lacks-append}
-use Rattle.text_forms.proofs.LineLemmas.{word_unique, lines_unique, Lacks-word, Lacks-number, Lacks-test}
-use Rattle.route_certificate.specs.Answers.{to_body, route_body, at_body, reach_body, to_line, route_line, at_line, reach_line, FitsNode, FitsCost, FitsPotential}
+use Rattle.text_forms.proofs.LineLemmas.{word_unique, lines_unique, numbered_unique, Lacks-word, Lacks-number, Lacks-test}
+use Rattle.route_certificate.specs.Forms.{FitsNode}
+use Rattle.route_certificate.specs.Answers.{to_body, route_body, at_body, reach_body, to_line, route_line, at_line, reach_line, FitsCost, FitsPotential}
 
 -- ---- bodies lack LF
 
@@ -51,27 +52,15 @@ Lacks-at_body p small =
 
 pub to_unique : (nodes : ℕ) → IsUnique to_line (FitsNode nodes)
 unfolding to_line
-to_unique nodes x y a b p q e =
-    let x-small : x < 2 ^ 64 = omega (arith, p.small) in
-    let y-small : y < 2 ^ 64 = omega (arith, q.small) in
-    let both = lines_unique (to_body x) (to_body y) a b (Lacks-to_body x x-small) (Lacks-to_body y y-small) e in
-    (decimal_injective x y x-small y-small (append_cancel_left (codes "to ") (decimal x) (decimal y) both.0), both.1)
+to_unique nodes x y a b p q e = numbered_unique (codes "to") x y a b (Lacks-test 10 (codes "to") refl) (omega (arith, p.small)) (omega (arith, q.small)) e
 
 pub reach_unique : (nodes : ℕ) → IsUnique reach_line (FitsNode nodes)
 unfolding reach_line
-reach_unique nodes x y a b p q e =
-    let x-small : x < 2 ^ 64 = omega (arith, p.small) in
-    let y-small : y < 2 ^ 64 = omega (arith, q.small) in
-    let both = lines_unique (reach_body x) (reach_body y) a b (Lacks-reach_body x x-small) (Lacks-reach_body y y-small) e in
-    (decimal_injective x y x-small y-small (append_cancel_left (codes "reach ") (decimal x) (decimal y) both.0), both.1)
+reach_unique nodes x y a b p q e = numbered_unique (codes "reach") x y a b (Lacks-test 10 (codes "reach") refl) (omega (arith, p.small)) (omega (arith, q.small)) e
 
 pub route_unique : IsUnique route_line FitsCost
 unfolding route_line
-route_unique x y a b p q e =
-    let x-small : x < 2 ^ 64 = omega (arith, p) in
-    let y-small : y < 2 ^ 64 = omega (arith, q) in
-    let both = lines_unique (route_body x) (route_body y) a b (Lacks-route_body x x-small) (Lacks-route_body y y-small) e in
-    (decimal_injective x y x-small y-small (append_cancel_left (codes "route ") (decimal x) (decimal y) both.0), both.1)
+route_unique x y a b p q e = numbered_unique (codes "route") x y a b (Lacks-test 10 (codes "route") refl) (omega (arith, p)) (omega (arith, q)) e
 
 potential_same : (a b : Potential) → a.node ≡ b.node → a.value ≡ b.value → a ≡ b
 potential_same a b p q = λ i. record { node = p i; value = q i }

@@ -10,12 +10,12 @@ use Rattle.text_forms.proofs.LineLemmas.{Lacks-test}
 use Rattle.text_forms.proofs.FaultLemmas.{IsLines-none, IsLines-one, IsLines-append, IsLines-items}
 use Rattle.route_certificate.specs.declared.answer.Claim.{Claim}
 use Rattle.route_certificate.specs.declared.answer.Claim.TheVariants.{Route, Nothing}
-use Rattle.route_certificate.specs.Forms.{step_line, step_body, end_line, FitsStep}
-use Rattle.route_certificate.specs.Answers.{route_line, route_body, at_line, at_body, none_line, reach_line, reach_body, FitsNode, FitsCost, FitsPotential}
+use Rattle.route_certificate.specs.Forms.{step_line, step_body, end_line, FitsStep, FitsNode}
+use Rattle.route_certificate.specs.Answers.{route_line, route_body, at_line, at_body, none_line, reach_line, reach_body, FitsCost, FitsPotential}
 use Rattle.route_certificate.specs.AnswerFronts.{IsClaim, IsClaimText}
 use Rattle.route_certificate.proofs.LineLemmas.{step_line_is, Lacks-step_body}
 use Rattle.route_certificate.proofs.AnswerLines.{route_line_is, at_line_is, reach_line_is, Lacks-route_body, Lacks-at_body, Lacks-reach_body, small_potential}
-use Rattle.route_certificate.proofs.Stuck.{BeginsAs, stuck, HasNone-begins, some_begins}
+use Rattle.text_forms.proofs.Stuck.{BeginsAs, stuck, HasNone-begins, some_begins}
 use Rattle.route_certificate.proofs.ClaimLemmas.{RouteRead, route_begins, route_ends, route_fits, route_of, NothingRead, nothing_begins, nothing_ends, nothing_fits, nothing_of}
 
 -- ---- the last line

@@ -8,14 +8,14 @@ use Rattle.text_forms.specs.Fronts.{HasNone, IsFront}
 use Rattle.text_forms.proofs.ListLemmas.{fronts_agree, differ}
 use Rattle.route_certificate.specs.declared.answer.Claim.{Claim}
 use Rattle.route_certificate.specs.declared.answer.Claim.TheVariants.{Route, Nothing}
-use Rattle.route_certificate.specs.Forms.{step_line, step_body, end_line, FitsStep}
-use Rattle.route_certificate.specs.Answers.{route_line, at_line, at_body, none_line, reach_line, reach_body, FitsNode, FitsCost, FitsPotential, FitsRoute, FitsNothing}
+use Rattle.route_certificate.specs.Forms.{step_line, step_body, end_line, FitsStep, FitsNode}
+use Rattle.route_certificate.specs.Answers.{route_line, at_line, at_body, none_line, reach_line, reach_body, FitsCost, FitsPotential, FitsRoute, FitsNothing}
 use Rattle.route_certificate.specs.AnswerFronts.{Rises, next_number, FitsBehind, IsRisingFront, IsClaim}
 use Rattle.route_certificate.proofs.LineLemmas.{step_unique, step_line_is, Lacks-step_body}
 use Rattle.route_certificate.proofs.WalkLemmas.{no_step_behind}
 use Rattle.route_certificate.proofs.AnswerLines.{route_unique, at_unique, reach_unique, at_line_is, reach_line_is, Lacks-at_body, Lacks-reach_body, small_potential}
 use Rattle.route_certificate.proofs.RisingFronts.{rising_agree, rises_from, increasing_from, map_same}
-use Rattle.route_certificate.proofs.Stuck.{BeginsAs, HasNone-begins}
+use Rattle.text_forms.proofs.Stuck.{BeginsAs, HasNone-begins}
 
 -- ---- no item where others stand
 

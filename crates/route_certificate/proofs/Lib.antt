@@ -10,8 +10,8 @@ pub mod AnswerLines
 pub mod RisingFronts
 pub mod VerdictLemmas
 pub mod AnswerWritten
-pub mod Stuck
 pub mod ClaimLemmas
 pub mod ClaimFaults
 pub mod AnswerFaults
 pub mod MoreNodes
+pub mod OneVerdict

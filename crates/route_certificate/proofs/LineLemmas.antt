@@ -1,7 +1,6 @@
 -- Lines of tables and walks are read in one way.
 use Rattle.std.proofs.Common.{◌≡◌, ℕ, ◌^◌, ◌<◌, ◌≤◌, List, [], ◌∷◌, ◌++◌, refl, arith, codes}
 use Rattle.std.proofs.lemmas.List.{append_cancel_left}
-use Rattle.std.proofs.lemmas.Fmt.{decimal_injective}
 use Rattle.std.specs.Fmt.{decimal}
 use Rattle.std.specs.List.{AllByRecursion}
 use Rattle.venue_types.specs.declared.feature_id.FeatureId.{FeatureId}
@@ -9,10 +8,9 @@ use Rattle.venue_types.specs.Identifier.{identifier_text}
 use Rattle.venue_types.proofs.IdentifierLemmas.{identifier_text-high, identifier_unique}
 use Rattle.text_forms.specs.Lines.{line, word}
 use Rattle.text_forms.specs.Fronts.{Lacks, IsUnique}
-use Rattle.text_forms.proofs.LineLemmas.{word_unique, lines_unique, Lacks-word, Lacks-number, Lacks-test}
-use Rattle.route_certificate.specs.declared.table.Row.{Row}
-use Rattle.route_certificate.specs.Forms.{node_body, link_body, from_body, step_body, node_line, link_line, from_line, step_line, FitsId, FitsRow, FitsStep}
-use Rattle.route_certificate.specs.Fronts.{FitsFrom}
+use Rattle.text_forms.proofs.LineLemmas.{word_unique, lines_unique, numbered_unique, Lacks-word, Lacks-number, Lacks-test}
+use Rattle.route_certificate.specs.declared.table.TableLink.{TableLink}
+use Rattle.route_certificate.specs.Forms.{node_body, link_body, from_body, step_body, node_line, link_line, from_line, step_line, FitsId, FitsLink, FitsStep, FitsNode}
 
 Lacks-high : (stop low : ℕ) (bs : List ℕ) → stop < low → AllByRecursion (λ x. low ≤ x) bs → Lacks stop bs
 Lacks-high stop low [] less p = tt
@@ -26,20 +24,20 @@ Lacks-identifier stop id low = Lacks-high stop 45 (identifier_text id) low (iden
 pub Lacks-node_body : (id : FeatureId) → Lacks 10 (node_body id)
 Lacks-node_body id = Lacks-word (codes "node") (identifier_text id) (Lacks-test 10 (codes "node") refl) (Lacks-identifier 10 id (omega arith))
 
-pub record Small (row : Row) : Type 0 where
-  pub from : row.from < 2 ^ 64
-  pub to : row.to < 2 ^ 64
-  pub cost : row.cost < 2 ^ 64
+pub record Small (link : TableLink) : Type 0 where
+  pub from : link.from < 2 ^ 64
+  pub to : link.to < 2 ^ 64
+  pub cost : link.cost < 2 ^ 64
 
-pub small_row : (nodes : ℕ) (row : Row) → nodes ≤ 2 ^ 32 → FitsRow nodes row → Small row
-small_row nodes row few fits = record { from = omega (arith, fits.from); to = omega (arith, fits.to); cost = omega (arith, fits.cost) }
+pub small_row : (nodes : ℕ) (link : TableLink) → nodes ≤ 2 ^ 32 → FitsLink nodes link → Small link
+small_row nodes link few fits = record { from = omega (arith, fits.from); to = omega (arith, fits.to); cost = omega (arith, fits.cost) }
 
-pub Lacks-link_body : (row : Row) → Small row → Lacks 10 (link_body row)
-Lacks-link_body row small =
+pub Lacks-link_body : (link : TableLink) → Small link → Lacks 10 (link_body link)
+Lacks-link_body link small =
     Lacks-word (codes "link") _ (Lacks-test 10 (codes "link") refl)
-    (Lacks-word (decimal row.from) _ (Lacks-number row.from small.from)
-    (Lacks-word (decimal row.to) _ (Lacks-number row.to small.to)
-    (Lacks-word (decimal row.cost) _ (Lacks-number row.cost small.cost) (Lacks-identifier 10 row.via (omega arith)))))
+    (Lacks-word (decimal link.from) _ (Lacks-number link.from small.from)
+    (Lacks-word (decimal link.to) _ (Lacks-number link.to small.to)
+    (Lacks-word (decimal link.cost) _ (Lacks-number link.cost small.cost) (Lacks-identifier 10 link.via (omega arith)))))
 
 pub Lacks-step_body : (k : ℕ) → k < 2 ^ 64 → Lacks 10 (step_body k)
 Lacks-step_body k fits = Lacks-word (codes "step") (decimal k) (Lacks-test 10 (codes "step") refl) (Lacks-number k fits)
@@ -49,34 +47,34 @@ Lacks-from_body k fits = Lacks-word (codes "from") (decimal k) (Lacks-test 10 (c
 
 -- ---- the words of a link
 
-abbrev pub link_tail : Row → List ℕ
-link_tail row = word (decimal row.from) (word (decimal row.to) (word (decimal row.cost) (identifier_text row.via)))
+abbrev pub link_tail : TableLink → List ℕ
+link_tail link = word (decimal link.from) (word (decimal link.to) (word (decimal link.cost) (identifier_text link.via)))
 
-pub link_0 : (rest : List ℕ) (row : Row) → codes "link " ++ rest ≡ link_body row → rest ≡ link_tail row
-link_0 rest row e = append_cancel_left (codes "link ") rest (link_tail row) e
+pub link_0 : (rest : List ℕ) (link : TableLink) → codes "link " ++ rest ≡ link_body link → rest ≡ link_tail link
+link_0 rest link e = append_cancel_left (codes "link ") rest (link_tail link) e
 
-pub link_1 : (from : ℕ) (rest : List ℕ) (row : Row) → from < 2 ^ 64 → Small row → word (decimal from) rest ≡ link_tail row
-    → (from ≡ row.from) × (rest ≡ word (decimal row.to) (word (decimal row.cost) (identifier_text row.via)))
-link_1 from rest row p small e = word_unique from row.from rest _ p small.from e
+pub link_1 : (from : ℕ) (rest : List ℕ) (link : TableLink) → from < 2 ^ 64 → Small link → word (decimal from) rest ≡ link_tail link
+    → (from ≡ link.from) × (rest ≡ word (decimal link.to) (word (decimal link.cost) (identifier_text link.via)))
+link_1 from rest link p small e = word_unique from link.from rest _ p small.from e
 
-pub link_2 : (from to : ℕ) (rest : List ℕ) (row : Row) → from < 2 ^ 64 → to < 2 ^ 64 → Small row → word (decimal from) (word (decimal to) rest) ≡ link_tail row
-    → (from ≡ row.from) × (to ≡ row.to) × (rest ≡ word (decimal row.cost) (identifier_text row.via))
-link_2 from to rest row p q small e =
-    let one = link_1 from _ row p small e in
-    let two = word_unique to row.to rest _ q small.to one.1 in
+pub link_2 : (from to : ℕ) (rest : List ℕ) (link : TableLink) → from < 2 ^ 64 → to < 2 ^ 64 → Small link → word (decimal from) (word (decimal to) rest) ≡ link_tail link
+    → (from ≡ link.from) × (to ≡ link.to) × (rest ≡ word (decimal link.cost) (identifier_text link.via))
+link_2 from to rest link p q small e =
+    let one = link_1 from _ link p small e in
+    let two = word_unique to link.to rest _ q small.to one.1 in
     (one.0, two.0, two.1)
 
-pub link_3 : (from to cost : ℕ) (rest : List ℕ) (row : Row) → from < 2 ^ 64 → to < 2 ^ 64 → cost < 2 ^ 64 → Small row
-    → word (decimal from) (word (decimal to) (word (decimal cost) rest)) ≡ link_tail row
-    → (from ≡ row.from) × (to ≡ row.to) × (cost ≡ row.cost) × (rest ≡ identifier_text row.via)
-link_3 from to cost rest row p q r small e =
-    let two = link_2 from to _ row p q small e in
-    let three = word_unique cost row.cost rest _ r small.cost two.2 in
+pub link_3 : (from to cost : ℕ) (rest : List ℕ) (link : TableLink) → from < 2 ^ 64 → to < 2 ^ 64 → cost < 2 ^ 64 → Small link
+    → word (decimal from) (word (decimal to) (word (decimal cost) rest)) ≡ link_tail link
+    → (from ≡ link.from) × (to ≡ link.to) × (cost ≡ link.cost) × (rest ≡ identifier_text link.via)
+link_3 from to cost rest link p q r small e =
+    let two = link_2 from to _ link p q small e in
+    let three = word_unique cost link.cost rest _ r small.cost two.2 in
     (two.0, two.1, three.0, three.1)
 
 -- ---- each item has one spelling
 
-row_same : (a b : Row) → a.from ≡ b.from → a.to ≡ b.to → a.cost ≡ b.cost → a.via ≡ b.via → a ≡ b
+row_same : (a b : TableLink) → a.from ≡ b.from → a.to ≡ b.to → a.cost ≡ b.cost → a.via ≡ b.via → a ≡ b
 row_same a b p q r s = λ i. record { from = p i; to = q i; cost = r i; via = s i }
 
 pub node_unique : IsUnique node_line FitsId
@@ -85,7 +83,7 @@ node_unique x y a b p q e =
     let both = lines_unique (node_body x) (node_body y) a b (Lacks-node_body x) (Lacks-node_body y) e in
     (identifier_unique x y p q (append_cancel_left (codes "node ") (identifier_text x) (identifier_text y) both.0), both.1)
 
-pub link_unique : (nodes : ℕ) → nodes ≤ 2 ^ 32 → IsUnique link_line (FitsRow nodes)
+pub link_unique : (nodes : ℕ) → nodes ≤ 2 ^ 32 → IsUnique link_line (FitsLink nodes)
 unfolding link_line
 link_unique nodes few x y a b p q e =
     let x-small = small_row nodes x few p in
@@ -96,17 +94,11 @@ link_unique nodes few x y a b p q e =
 
 pub step_unique : IsUnique step_line FitsStep
 unfolding step_line
-step_unique x y a b p q e =
-    let both = lines_unique (step_body x) (step_body y) a b (Lacks-step_body x (omega arith)) (Lacks-step_body y (omega arith)) e in
-    (decimal_injective x y (omega arith) (omega arith) (append_cancel_left (codes "step ") (decimal x) (decimal y) both.0), both.1)
+step_unique x y a b p q e = numbered_unique (codes "step") x y a b (Lacks-test 10 (codes "step") refl) (omega (arith, p)) (omega (arith, q)) e
 
-pub from_unique : (nodes : ℕ) → IsUnique from_line (FitsFrom nodes)
+pub from_unique : (nodes : ℕ) → IsUnique from_line (FitsNode nodes)
 unfolding from_line
-from_unique nodes x y a b p q e =
-    let x-small : x < 2 ^ 64 = omega (arith, p.small) in
-    let y-small : y < 2 ^ 64 = omega (arith, q.small) in
-    let both = lines_unique (from_body x) (from_body y) a b (Lacks-from_body x x-small) (Lacks-from_body y y-small) e in
-    (decimal_injective x y x-small y-small (append_cancel_left (codes "from ") (decimal x) (decimal y) both.0), both.1)
+from_unique nodes x y a b p q e = numbered_unique (codes "from") x y a b (Lacks-test 10 (codes "from") refl) (omega (arith, p.small)) (omega (arith, q.small)) e
 
 -- ---- each item is a line
 
@@ -114,7 +106,7 @@ pub node_line_is : (x : FeatureId) → node_line x ≡ line (node_body x)
 unfolding node_line
 node_line_is x = refl
 
-pub link_line_is : (x : Row) → link_line x ≡ line (link_body x)
+pub link_line_is : (x : TableLink) → link_line x ≡ line (link_body x)
 unfolding link_line
 link_line_is x = refl
 

@@ -2,10 +2,11 @@
 use Rattle.std.proofs.Common.{ℕ, ◌≤◌, List, [], ◌∷◌, arith}
 use Rattle.std.specs.List.{AllByRecursion}
 use Rattle.venue_types.specs.declared.link.Potential.{Potential}
+use Rattle.route_certificate.specs.Forms.{FitsNode}
 use Rattle.route_certificate.specs.declared.answer.AnswerIn.{AnswerIn}
 use Rattle.route_certificate.specs.declared.answer.Claim.{Claim}
 use Rattle.route_certificate.specs.declared.answer.Claim.TheVariants.{Route, Nothing}
-use Rattle.route_certificate.specs.Answers.{FitsNode, FitsPotential, FitsClaim, FitsAnswer}
+use Rattle.route_certificate.specs.Answers.{FitsPotential, FitsClaim, FitsAnswer}
 
 node_more : (m n k : ℕ) → m ≤ n → FitsNode m k → FitsNode n k
 node_more m n k more fits = record { node = omega (arith, fits.node); small = fits.small }

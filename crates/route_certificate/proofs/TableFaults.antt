@@ -7,9 +7,9 @@ use Rattle.text_forms.specs.Lines.{line}
 use Rattle.text_forms.specs.Faults.{IsLines, IsFaultLine}
 use Rattle.text_forms.proofs.LineLemmas.{Lacks-test, line_front, lines_unique}
 use Rattle.text_forms.proofs.FaultLemmas.{IsLines-one, IsLines-append, IsLines-items, other_head, next_faulty}
-use Rattle.route_certificate.specs.declared.table.Row.{Row}
+use Rattle.route_certificate.specs.declared.table.TableLink.{TableLink}
 use Rattle.route_certificate.specs.declared.table.Table.{Table}
-use Rattle.route_certificate.specs.Forms.{node_line, link_line, node_body, link_body, end_line, table_head, FitsId, FitsRow, IsTable, IsTableText}
+use Rattle.route_certificate.specs.Forms.{node_line, link_line, node_body, link_body, end_line, table_head, FitsId, FitsLink, IsTable, IsTableText}
 use Rattle.route_certificate.proofs.LineLemmas.{node_line_is, link_line_is, Lacks-node_body, Lacks-link_body, small_row}
 use Rattle.route_certificate.proofs.TableLemmas.{TableRead, read_on, table_of, no_node_behind, no_link_behind}
 
@@ -17,33 +17,33 @@ use Rattle.route_certificate.proofs.TableLemmas.{TableRead, read_on, table_of, n
 pub no_head : (text : List ℕ) → ((rest : List ℕ) → text ≡ table_head ++ rest → ⊥) → IsFaultLine IsTableText text 1
 no_head text none = other_head IsTableText text (codes "imdf-links 1") (Lacks-test 10 (codes "imdf-links 1") refl) (λ whole is. (_, is.1.spelled)) none
 
-front_of : List FeatureId → List Row → List ℕ
+front_of : List FeatureId → List TableLink → List ℕ
 front_of nodes links = table_head ++ (flat_map node_line nodes ++ flat_map link_line links)
 
-front_is : (nodes : List FeatureId) (links : List Row) (rest : List ℕ) → front_of nodes links ++ rest ≡ table_head ++ (flat_map node_line nodes ++ (flat_map link_line links ++ rest))
+front_is : (nodes : List FeatureId) (links : List TableLink) (rest : List ℕ) → front_of nodes links ++ rest ≡ table_head ++ (flat_map node_line nodes ++ (flat_map link_line links ++ rest))
 unfolding front_of
 front_is nodes links rest =
     append_assoc table_head (flat_map node_line nodes ++ flat_map link_line links) rest
     ∙ ap (λ (t : List ℕ). table_head ++ t) (append_assoc (flat_map node_line nodes) (flat_map link_line links) rest)
 
 -- as many lines as nodes and links, and the first
-front_lines : (text : List ℕ) (nodes : List FeatureId) (links : List Row) (rest : List ℕ) → TableRead text nodes links rest → IsLines (1 + (length nodes + length links)) (front_of nodes links)
+front_lines : (text : List ℕ) (nodes : List FeatureId) (links : List TableLink) (rest : List ℕ) → TableRead text nodes links rest → IsLines (1 + (length nodes + length links)) (front_of nodes links)
 unfolding front_of
 front_lines text nodes links rest read =
     IsLines-append 1 (length nodes + length links) table_head (flat_map node_line nodes ++ flat_map link_line links)
     (IsLines-one (codes "imdf-links 1") (Lacks-test 10 (codes "imdf-links 1") refl))
     (IsLines-append (length nodes) (length links) (flat_map node_line nodes) (flat_map link_line links)
     (IsLines-items node_line node_body FitsId node_line_is (λ x fits. Lacks-node_body x) nodes read.nodes_fit)
-    (IsLines-items link_line link_body (FitsRow (length nodes)) link_line_is (λ row fits. Lacks-link_body row (small_row (length nodes) row (omega (arith, read.count)) fits)) links read.links_fit))
+    (IsLines-items link_line link_body (FitsLink (length nodes)) link_line_is (λ link fits. Lacks-link_body link (small_row (length nodes) link (omega (arith, read.count)) fits)) links read.links_fit))
 
 -- what was read, and the line `end`, is a table's text
-ended : (text : List ℕ) (nodes : List FeatureId) (links : List Row) (rest : List ℕ) → TableRead text nodes links rest → IsTableText (front_of nodes links ++ end_line)
+ended : (text : List ℕ) (nodes : List FeatureId) (links : List TableLink) (rest : List ℕ) → TableRead text nodes links rest → IsTableText (front_of nodes links ++ end_line)
 ended text nodes links rest read =
     let table : Table = record { nodes = nodes; links = links } in
     (table, record { spelled = front_is nodes links end_line; fits = record { count = read.count; nodes = read.nodes_fit; links = read.links_fit } })
 
 -- neither a node, nor a link, nor the end
-pub no_end : (text : List ℕ) (nodes : List FeatureId) (links : List Row) (rest : List ℕ) → TableRead text nodes links rest → ((more : List ℕ) → rest ≡ end_line ++ more → ⊥)
+pub no_end : (text : List ℕ) (nodes : List FeatureId) (links : List TableLink) (rest : List ℕ) → TableRead text nodes links rest → ((more : List ℕ) → rest ≡ end_line ++ more → ⊥)
     → IsFaultLine IsTableText text (1 + (length nodes + length links) + 1)
 no_end text nodes links rest read none =
     next_faulty IsTableText text (front_of nodes links) rest end_line (1 + (length nodes + length links)) (read.parts ∙ sym (front_is nodes links rest))
@@ -62,7 +62,7 @@ line_some : (body more : List ℕ) → 0 < length (line body ++ more)
 line_some body more = omega (arith, length-append (line body) more, length-append body (10 ∷ []))
 
 -- more stands behind the end
-pub text_behind : (text : List ℕ) (nodes : List FeatureId) (links : List Row) (rest behind : List ℕ) → TableRead text nodes links rest → rest ≡ end_line ++ behind → 0 < length behind
+pub text_behind : (text : List ℕ) (nodes : List FeatureId) (links : List TableLink) (rest behind : List ℕ) → TableRead text nodes links rest → rest ≡ end_line ++ behind → 0 < length behind
     → IsFaultLine IsTableText text (1 + (length nodes + length links) + 1 + 1)
 text_behind text nodes links rest behind read ends some =
     let front = front_of nodes links ++ end_line in

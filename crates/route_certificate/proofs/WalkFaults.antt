@@ -10,8 +10,7 @@ use Rattle.text_forms.proofs.LineLemmas.{Lacks-test, line_front, lines_unique}
 use Rattle.text_forms.proofs.FaultLemmas.{IsLines-one, IsLines-append, IsLines-items, first_faulty, other_head, next_faulty, HasNone-line}
 use Rattle.route_certificate.specs.declared.table.Table.{Table}
 use Rattle.route_certificate.specs.declared.table.WalkIn.{WalkIn}
-use Rattle.route_certificate.specs.Forms.{from_line, from_body, step_line, step_body, end_line, walk_head, FitsStep, IsWalkText, IsWalkTextOver}
-use Rattle.route_certificate.specs.Fronts.{FitsFrom}
+use Rattle.route_certificate.specs.Forms.{from_line, from_body, step_line, step_body, end_line, walk_head, FitsStep, IsWalkText, IsWalkTextOver, FitsNode}
 use Rattle.route_certificate.proofs.LineLemmas.{from_line_is, step_line_is, Lacks-from_body, Lacks-step_body}
 use Rattle.route_certificate.proofs.WalkLemmas.{WalkRead, read_on, walk_of, no_step_behind, start_fits}
 
@@ -30,7 +29,7 @@ head_lines : IsLines 1 walk_head
 head_lines = IsLines-one (codes "imdf-walk 1") (Lacks-test 10 (codes "imdf-walk 1") refl)
 
 -- a text whose second line is no start
-pub no_start : (text rest : List ℕ) (table : Table) → 0 < length table.nodes → text ≡ walk_head ++ rest → HasNone from_line (FitsFrom (length table.nodes)) rest
+pub no_start : (text rest : List ℕ) (table : Table) → 0 < length table.nodes → text ≡ walk_head ++ rest → HasNone from_line (FitsNode (length table.nodes)) rest
     → IsFaultLine (IsWalkTextOver table) text (1 + 1)
 no_start text rest table some head none =
     let walk : WalkIn = record { from = 0; steps = [] } in
@@ -38,7 +37,7 @@ no_start text rest table some head none =
     (walk, record { spelled = refl; fits = record { from = some; small = omega arith; steps = tt } })
     (λ is. none is.0.from _ (start_fits table is.0 is.1.fits) (append_cancel_left walk_head rest _ (sym head ∙ is.1.spelled)))
     (λ body after more cut is.
-    HasNone-line from_line from_body (FitsFrom (length table.nodes)) from_line_is (λ n fits. Lacks-from_body n (omega (arith, fits.small))) rest body after more none cut
+    HasNone-line from_line from_body (FitsNode (length table.nodes)) from_line_is (λ n fits. Lacks-from_body n (omega (arith, fits.small))) rest body after more none cut
     is.0.from _ (start_fits table is.0 is.1.fits) (append_cancel_left walk_head (line body ++ more) _ is.1.spelled))
 
 front_of : ℕ → List ℕ → List ℕ

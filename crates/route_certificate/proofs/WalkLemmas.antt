@@ -3,30 +3,29 @@ use Rattle.std.proofs.Common.{◌≡◌, ℕ, ◌^◌, ◌<◌, List, [], ◌∷
 use Rattle.std.proofs.lemmas.List.{append_cancel_left, length-append}
 use Rattle.std.specs.List.{flat_map, AllByRecursion}
 use Rattle.text_forms.specs.Lines.{line}
-use Rattle.text_forms.specs.Fronts.{HasNone, IsCut, IsFront}
+use Rattle.text_forms.specs.Fronts.{HasNone, IsSplitAt, IsFront}
 use Rattle.text_forms.proofs.ListLemmas.{fronts_agree, differ, length-flat_map-le}
 use Rattle.text_forms.proofs.FaultLemmas.{HasNone-line}
 use Rattle.route_certificate.specs.declared.table.Table.{Table}
 use Rattle.route_certificate.specs.declared.table.WalkIn.{WalkIn}
-use Rattle.route_certificate.specs.Forms.{from_line, step_line, step_body, end_line, walk_head, FitsStep, FitsWalk, IsWalkText}
-use Rattle.route_certificate.specs.Fronts.{FitsFrom}
+use Rattle.route_certificate.specs.Forms.{from_line, step_line, step_body, end_line, walk_head, FitsStep, FitsWalk, IsWalkText, FitsNode}
 use Rattle.route_certificate.proofs.LineLemmas.{from_unique, step_unique, step_line_is, Lacks-step_body}
 
 pub no_step_behind : (tail : List ℕ) → HasNone step_line FitsStep (end_line ++ tail)
 unfolding step_line
 no_step_behind tail x more fits e = differ 101 115 _ _ e (λ h. omega arith)
 
-pub start_fits : (table : Table) (walk : WalkIn) → FitsWalk table walk → FitsFrom (length table.nodes) walk.from
+pub start_fits : (table : Table) (walk : WalkIn) → FitsWalk table walk → FitsNode (length table.nodes) walk.from
 start_fits table walk fits = record { node = fits.from; small = fits.small }
 
 -- how far a walk's text was read
 pub record WalkRead (text : List ℕ) (nodes from : ℕ) (steps : List ℕ) (rest : List ℕ) : Type 0 where
   pub parts : text ≡ walk_head ++ (from_line from ++ (flat_map step_line steps ++ rest))
-  pub start : FitsFrom nodes from
+  pub start : FitsNode nodes from
   pub steps_fit : AllByRecursion FitsStep steps
   pub no_step : HasNone step_line FitsStep rest
 
-pub walk_read : (text rest more end : List ℕ) (nodes from : ℕ) (steps : List ℕ) → text ≡ walk_head ++ rest → rest ≡ from_line from ++ more → FitsFrom nodes from
+pub walk_read : (text rest more end : List ℕ) (nodes from : ℕ) (steps : List ℕ) → text ≡ walk_head ++ rest → rest ≡ from_line from ++ more → FitsNode nodes from
     → IsFront step_line FitsStep steps more end → WalkRead text nodes from steps end
 walk_read text rest more end nodes from steps head first start front = record {
   parts = head ∙ ap (λ (t : List ℕ). walk_head ++ t) (first ∙ ap (λ (t : List ℕ). from_line from ++ t) front.parts);
@@ -36,7 +35,7 @@ walk_read text rest more end nodes from steps head first start front = record {
 }
 
 -- the same where the rest is another text with the same first line
-pub read_on : (text : List ℕ) (nodes from : ℕ) (steps : List ℕ) (rest body after more : List ℕ) → WalkRead text nodes from steps rest → IsCut 10 rest body after
+pub read_on : (text : List ℕ) (nodes from : ℕ) (steps : List ℕ) (rest body after more : List ℕ) → WalkRead text nodes from steps rest → IsSplitAt 10 rest body after
     → WalkRead (walk_head ++ (from_line from ++ (flat_map step_line steps ++ (line body ++ more)))) nodes from steps (line body ++ more)
 read_on text nodes from steps rest body after more read cut = record {
   parts = refl;

@@ -1,13 +1,12 @@
--- How far the text of an answer was read.
+-- The code's own way, no promise: how far the text of an answer was read.
 use Rattle.std.specs.Prelude.{◌≡◌, ℕ, ◌+◌, ◌<◌, ◌≤◌, List, [], ◌∷◌, ◌++◌}
 use Rattle.std.specs.List.{flat_map, AllByRecursion}
 use Rattle.text_forms.specs.Fronts.{HasNone}
-use Rattle.text_forms.specs.Faults.{IsFaultLine}
 use Rattle.route_certificate.specs.declared.answer.Claim.{Claim}
 use Rattle.route_certificate.specs.Answers.{claim_text, FitsClaim}
 
 -- a number from low on and below a bound
-pub record IsWithin (low below n : ℕ) : Type 0 where
+pub record IsInRange (low below n : ℕ) : Type 0 where
   pub least : low ≤ n
   pub most : n < below
 
@@ -40,9 +39,3 @@ pub record IsClaim (nodes : ℕ) (text : List ℕ) (claim : Claim) : Type 0 wher
 
 abbrev pub IsClaimText : ℕ → List ℕ → Type 0
 IsClaimText nodes text = (claim : Claim) × IsClaim nodes text claim
-
--- a line is the faulty one of a text that stands behind so many others
-pub record IsFaultBehind (Form : List ℕ → Type 0) (lines : ℕ) (text : List ℕ) (n : ℕ) : Type 0 where
-  pub line : ℕ
-  pub behind : n ≡ lines + line
-  pub fault : IsFaultLine Form text line

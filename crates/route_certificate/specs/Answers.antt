@@ -11,8 +11,7 @@ use Rattle.route_certificate.specs.declared.table.Table.{Table}
 use Rattle.route_certificate.specs.declared.answer.AnswerIn.{AnswerIn}
 use Rattle.route_certificate.specs.declared.answer.Claim.{Claim}
 use Rattle.route_certificate.specs.declared.answer.Claim.TheVariants.{Route, Nothing}
-use Rattle.route_certificate.specs.Forms.{from_line, step_line, end_line, FitsStep}
-use Rattle.route_certificate.specs.Fronts.{FitsFrom}
+use Rattle.route_certificate.specs.Forms.{from_line, step_line, end_line, FitsNode, FitsStep}
 
 -- what is read of a potential
 abbrev pub potentials_read : PotentialView Potential
@@ -66,10 +65,6 @@ abbrev pub answer_text : AnswerIn → List ℕ
 answer_text answer = answer_head ++ (from_line answer.from ++ (to_line answer.to ++ claim_text answer.claim))
 
 -- ---- ranges
-
--- a node of a table of so many, and a number of 32 bits
-abbrev pub FitsNode : ℕ → ℕ → Type 0
-FitsNode nodes n = FitsFrom nodes n
 
 -- costs and potentials are at most 2^42 - 1
 abbrev pub FitsCost : ℕ → Type 0

@@ -6,7 +6,7 @@ use Rattle.std.specs.Fmt.{decimal}
 use Rattle.text_forms.specs.Lines.{line, word}
 use Rattle.venue_types.specs.declared.feature_id.FeatureId.{FeatureId}
 use Rattle.venue_types.specs.Identifier.{identifier_text}
-use Rattle.route_certificate.specs.declared.table.Row.{Row}
+use Rattle.route_certificate.specs.declared.table.TableLink.{TableLink}
 use Rattle.route_certificate.specs.declared.table.Table.{Table}
 use Rattle.route_certificate.specs.declared.table.WalkIn.{WalkIn}
 
@@ -17,14 +17,14 @@ abbrev pub node_body : FeatureId → List ℕ
 node_body id = word (codes "node") (identifier_text id)
 
 -- link FROM TO COST VIA
-abbrev pub link_body : Row → List ℕ
-link_body row = word (codes "link") (word (decimal row.from) (word (decimal row.to) (word (decimal row.cost) (identifier_text row.via))))
+abbrev pub link_body : TableLink → List ℕ
+link_body link = word (codes "link") (word (decimal link.from) (word (decimal link.to) (word (decimal link.cost) (identifier_text link.via))))
 
 unfoldable pub node_line : FeatureId → List ℕ
 node_line id = line (node_body id)
 
-unfoldable pub link_line : Row → List ℕ
-link_line row = line (link_body row)
+unfoldable pub link_line : TableLink → List ℕ
+link_line link = line (link_body link)
 
 -- the last line of every form
 abbrev pub end_line : List ℕ
@@ -42,17 +42,17 @@ abbrev pub FitsId : FeatureId → Type 0
 FitsId id = id.0 < 2 ^ 128
 
 -- the ends are below the number of nodes, and the cost is at most 67 kilometres
-pub record FitsRow (nodes : ℕ) (row : Row) : Type 0 where
-  pub from : row.from < nodes
-  pub to : row.to < nodes
-  pub cost : row.cost ≤ 6700000
-  pub via : FitsId row.via
+pub record FitsLink (nodes : ℕ) (link : TableLink) : Type 0 where
+  pub from : link.from < nodes
+  pub to : link.to < nodes
+  pub cost : link.cost ≤ 6700000
+  pub via : FitsId link.via
 
 -- the numbers of a table are within the form's ranges
 pub record FitsTable (table : Table) : Type 0 where
   pub count : length table.nodes ≤ 400000
   pub nodes : AllByRecursion FitsId table.nodes
-  pub links : AllByRecursion (FitsRow (length table.nodes)) table.links
+  pub links : AllByRecursion (FitsLink (length table.nodes)) table.links
 
 -- the text is the one text of the table
 pub record IsTable (text : List ℕ) (table : Table) : Type 0 where
@@ -85,6 +85,11 @@ walk_head = line (codes "imdf-walk 1")
 -- the text of a walk
 abbrev pub walk_text : WalkIn → List ℕ
 walk_text walk = walk_head ++ (from_line walk.from ++ (flat_map step_line walk.steps ++ end_line))
+
+-- a node of a table of so many, and a number of 32 bits
+pub record FitsNode (nodes n : ℕ) : Type 0 where
+  pub node : n < nodes
+  pub small : n < 2 ^ 32
 
 -- a step is a number of 32 bits, whether the table has such a link or not
 abbrev pub FitsStep : ℕ → Type 0

@@ -1,5 +1,5 @@
--- How far a text of a form was read.
-use Rattle.std.specs.Prelude.{◌≡◌, ℕ, ◌^◌, ◌<◌, ◌≤◌, List, ◌++◌, length}
+-- The code's own way, no promise: how far a text of a form was read.
+use Rattle.std.specs.Prelude.{◌≡◌, ℕ, ◌<◌, ◌≤◌, List, ◌++◌, length}
 use Rattle.std.specs.List.{flat_map, AllByRecursion}
 use Rattle.text_forms.specs.Fronts.{HasNone}
 use Rattle.venue_types.specs.declared.feature_id.FeatureId.{FeatureId}
@@ -13,11 +13,6 @@ pub record IsNodeFront (nodes : List FeatureId) (text rest : List ℕ) : Type 0 
   pub fit : AllByRecursion FitsId nodes
   pub count : length nodes ≤ 400000
   pub all : length nodes < 400000 → HasNone node_line FitsId rest
-
--- a walk over so many nodes may start there
-pub record FitsFrom (nodes n : ℕ) : Type 0 where
-  pub node : n < nodes
-  pub small : n < 2 ^ 32
 
 -- whether the text is the line `end`, does not begin with it, or goes on behind it
 abbrev pub IsEnding : List ℕ → Ending → Type 0

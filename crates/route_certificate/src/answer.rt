@@ -31,7 +31,7 @@ pub struct AnswerIn {
 
 /// A clause that an answer does not keep.
 #[derive(Clone, Copy, Debug, PartialEq, Eq)]
-pub enum Place {
+pub enum FailedClause {
     /// This step, from 1, is no link of the table or does not start where the walk stands.
     Step(u64),
     /// The walk ends elsewhere.
@@ -51,5 +51,5 @@ pub enum Place {
 pub enum Verdict {
     Proved,
     /// The first clause that it does not keep.
-    Fails(Place),
+    Fails(FailedClause),
 }

@@ -6,6 +6,11 @@ ghost use Rattle.route_certificate.specs.declared.table.WalkIn.{WalkIn};
 ghost use Rattle.route_certificate.specs.declared.answer.AnswerIn.{AnswerIn};
 ghost use Rattle.route_certificate.specs.Forms.{IsTable, IsWalkText};
 ghost use Rattle.route_certificate.specs.Answers.{IsAnswerText, FitsAnswer};
+ghost use Rattle.route_certificate.specs.declared.answer.Verdict.{Verdict};
+ghost use Rattle.route_certificate.specs.Verdicts.{IsJudged, IsProved, IsTrueAnswer};
+
+use crate::families::TableLinks;
+use walk_laws::{cut_law, least_law};
 
 /// A text is the text of at most one table, and a table has at most one text.
 pub fn table_law()
@@ -26,3 +31,12 @@ pub fn answer_law()
     ensures one_text { (a b : List ℕ) (table : Table) (answer : AnswerIn) → IsAnswerText a table answer → IsAnswerText b table answer → a ≡ b }
     ensures more_nodes { (m n : ℕ) (answer : AnswerIn) → m ≤ n → FitsAnswer m answer → FitsAnswer n answer }
 {}
+
+/// An answer over a table has one verdict, and what is proved is true of the table.
+pub fn verdict_law()
+    ensures one_verdict { (table : Table) (answer : AnswerIn) (a b : Verdict) → IsJudged table answer a → IsJudged table answer b → a ≡ b }
+    ensures truth { (table : Table) (answer : AnswerIn) → IsProved table answer → IsTrueAnswer table answer }
+{
+    least_law::<TableLinks>();
+    cut_law::<TableLinks>();
+}

@@ -5,7 +5,7 @@ ghost use Rattle.route_certificate.specs.Forms.{FitsTable};
 
 use crate::{
     FormFault, Priced, Table, Verdict, answer_law, price, read_answer, read_table, read_walk,
-    table_law, verify, walk_law, write_answer, write_table,
+    table_law, verdict_law, verify, walk_law, write_answer, write_table,
 };
 use std::alloc::Global;
 use venue_types::Bytes;
@@ -145,5 +145,6 @@ fn judges_texts(rt: HostRuntime) {
         assert_eq!(rt; verdict, Verdict::Proved);
     }
     table_law();
+    verdict_law();
     walk_law();
 }

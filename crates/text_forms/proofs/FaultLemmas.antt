@@ -2,7 +2,7 @@
 use Rattle.std.proofs.Common.{◌≡◌, ℕ, ◌+◌, ◌<◌, ◌≤◌, zero, suc, List, [], ◌∷◌, ◌++◌, length, take, drop, refl, sym, ap, subst, ◌∙◌, append_assoc, arith}
 use Rattle.std.specs.List.{flat_map, AllByRecursion}
 use Rattle.text_forms.specs.Lines.{line}
-use Rattle.text_forms.specs.Fronts.{Lacks, IsCut, HasNone}
+use Rattle.text_forms.specs.Fronts.{Lacks, IsSplitAt, HasNone}
 use Rattle.text_forms.specs.Faults.{IsLines, FitsTo, IsFaultLine}
 use Rattle.text_forms.proofs.LineLemmas.{line_front, lines_unique}
 
@@ -53,7 +53,7 @@ IsLines-items {X} spelling body Fits is lacks (x ∷ xs) p =
 pub record NextLine (front front' rest rest' : List ℕ) : Type 0 where
   pub body : List ℕ
   pub front_is : front' ≡ front ++ line body
-  pub cut : IsCut 10 rest body rest'
+  pub cut : IsSplitAt 10 rest body rest'
 
 next_body : (xs ys : List (List ℕ)) (rest rest' : List ℕ) → AllByRecursion (Lacks 10) xs → AllByRecursion (Lacks 10) ys → length ys ≡ length xs + 1
     → flat_map line xs ++ rest ≡ flat_map line ys ++ rest' → NextLine (flat_map line xs) (flat_map line ys) rest rest'
@@ -121,7 +121,7 @@ FitsTo-below Text text m n less fits =
 
 -- no text of the form begins with the lines of the front and the next line of the rest
 abbrev pub BeginsNone : (List ℕ → Type 0) → List ℕ → List ℕ → Type 0
-BeginsNone Text front rest = (body after more : List ℕ) → IsCut 10 rest body after → Text (front ++ (line body ++ more)) → ⊥
+BeginsNone Text front rest = (body after more : List ℕ) → IsSplitAt 10 rest body after → Text (front ++ (line body ++ more)) → ⊥
 
 no_text_begins : (Text : List ℕ → Type 0) (text front rest : List ℕ) (k : ℕ) → text ≡ front ++ rest → IsLines k front → BeginsNone Text front rest → FitsTo Text text (k + 1) → ⊥
 no_text_begins Text text front rest k parts lines none fits =
@@ -148,7 +148,7 @@ next_faulty Text text front rest more k parts lines begun other none = record {
 
 -- an item that is no front of a rest is none of a text with the same first line
 pub HasNone-line : {X : Type 0} (spelling body : X → List ℕ) (Fits : X → Type 0) → ((x : X) → spelling x ≡ line (body x)) → ((x : X) → Fits x → Lacks 10 (body x))
-    → (rest front after more : List ℕ) → HasNone spelling Fits rest → IsCut 10 rest front after → HasNone spelling Fits (line front ++ more)
+    → (rest front after more : List ℕ) → HasNone spelling Fits rest → IsSplitAt 10 rest front after → HasNone spelling Fits (line front ++ more)
 HasNone-line spelling body Fits is lacks rest front after more none cut x tail fits e =
     let same = lines_unique front (body x) more tail cut.first (lacks x fits) (e ∙ ap (λ (t : List ℕ). t ++ tail) (is x)) in
     none x after fits (cut.parts ∙ sym (line_front front after) ∙ ap (λ (t : List ℕ). line t ++ after) same.0 ∙ ap (λ (t : List ℕ). t ++ after) (sym (is x)))

@@ -15,7 +15,7 @@ Lacks-cut stop (b ∷ a) x p = Lacks-cut stop a x p.1
 pub head_same : (a b : ℕ) (x y : List ℕ) → a ∷ x ≡ b ∷ y → a ≡ b
 head_same a b x y e = cc
 
-tail_same : (a b : ℕ) (x y : List ℕ) → a ∷ x ≡ b ∷ y → x ≡ y
+pub tail_same : (a b : ℕ) (x y : List ℕ) → a ∷ x ≡ b ∷ y → x ≡ y
 tail_same a b x y e = cc
 
 -- texts whose first bytes differ

@@ -8,7 +8,7 @@ Lacks stop [] = Unit {0}
 Lacks stop (b ∷ bs) = (b ≡ stop → ⊥) × Lacks stop bs
 
 -- the text up to the first such byte, and what follows it
-pub record IsCut (stop : ℕ) (text front rest : List ℕ) : Type 0 where
+pub record IsSplitAt (stop : ℕ) (text front rest : List ℕ) : Type 0 where
   pub parts : text ≡ front ++ stop ∷ rest
   pub first : Lacks stop front
 

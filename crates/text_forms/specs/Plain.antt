@@ -1,4 +1,4 @@
--- Words that may spell a number: not empty, and without a leading zero.
+-- The code's own way, no promise: words that may spell a number are not empty and have no leading zero.
 use Rattle.std.specs.Prelude.{ℕ, List, Bool, not, ◌&&◌, ◌||◌, ◌==◌, length, slice_index}
 
 abbrev pub is_plain : List ℕ → Bool

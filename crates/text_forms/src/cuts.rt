@@ -1,11 +1,11 @@
 //! Cutting a text at a byte or behind a front.
 
 ghost use Rattle.std.specs.Prelude.{◌≡◌, ℕ, List, ◌++◌, IfSome, IfNone};
-ghost use Rattle.text_forms.specs.Fronts.{Lacks, IsCut};
+ghost use Rattle.text_forms.specs.Fronts.{Lacks, IsSplitAt};
 
 /// The bytes before the first such byte, and those after it.
 pub fn cut_at(text: &[u8], stop: u8) -> Option<(&[u8], &[u8])>
-    ensures found { IfSome result (λ parts. IsCut stop text.now parts.0.now parts.1.now) }
+    ensures found { IfSome result (λ parts. IsSplitAt stop text.now parts.0.now parts.1.now) }
     ensures none { IfNone result (Lacks stop text.now) }
 {
     for (place, byte) in text.iter().enumerate() {

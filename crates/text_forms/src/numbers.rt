@@ -1,6 +1,6 @@
 //! Numbers in decimal without a sign and without leading zeros.
 
-ghost use Rattle.std.specs.Prelude.{◌≡◌, ℕ, ◌^◌, ◌<◌, ◌≤◌, List, ◌++◌, IfSome, IfNone, OnOk};
+ghost use Rattle.std.specs.Prelude.{◌≡◌, ℕ, ◌^◌, ◌<◌, ◌≤◌, List, ◌++◌, IfSome, IfNone, OnOk, OnErr, length, take};
 ghost use Rattle.std.specs.Char.{digit_value};
 ghost use Rattle.std.specs.Fmt.{decimal};
 ghost use Rattle.text_forms.specs.Lines.{word};
@@ -53,15 +53,29 @@ pub fn number_word(text: &[u8]) -> Option<(u64, &[u8])>
     Some((value, rest))
 }
 
-/// Adds the decimal digits of a number at the end.
-pub fn push_number(out: &mut Vec<u8>, n: u64) -> Result<(), AllocError>
+// Adds the decimal digits of a number at the end. Behind a refusal what was there before is still at the front.
+fn push_digits(out: &mut Vec<u8>, n: u64) -> Result<(), AllocError>
     ensures ok { OnOk result (out.new.items ≡ out.old.items ++ decimal n) }
+    ensures kept { OnErr result (take (length out.old.items) out.new.items ≡ out.old.items) }
 {
     if n < 10 {
         out.push(b'0' + n as u8)?;
         return Ok(());
     }
-    push_number(out, n / 10)?;
+    push_digits(out, n / 10)?;
     out.push(b'0' + (n % 10) as u8)?;
     Ok(())
+}
+
+/// Adds the decimal digits of a number at the end, all of them or, where memory runs out, none.
+pub fn push_number(out: &mut Vec<u8>, n: u64) -> Result<(), AllocError>
+    ensures ok { OnOk result (out.new.items ≡ out.old.items ++ decimal n) }
+    ensures err { OnErr result (out.new.items ≡ out.old.items) }
+{
+    let before = out.len();
+    let pushed = push_digits(out, n);
+    if pushed.is_err() {
+        out.truncate(before);
+    }
+    pushed
 }

@@ -1,9 +1,7 @@
--- Walks joined and split, over a wider family, and over links of another type.
-use Rattle.std.proofs.Common.{◌≡◌, ℕ, ◌+◌, ◌<◌, ◌≤◌, length, get_or, take, List, [], ◌∷◌, ◌++◌, map, refl, sym, subst, ◌∙◌, arith}
-use Rattle.std.specs.List.{AllByRecursion}
-use Rattle.std.proofs.lemmas.List.{take_more}
+-- Walks joined and split, and over links that stand for others.
+use Rattle.std.proofs.Common.{◌≡◌, ℕ, ◌+◌, ◌≤◌, List, [], ◌∷◌, ◌++◌, map, refl, sym, subst, ◌∙◌, arith}
 use Rattle.std.proofs.lemmas.List.Sums.{sum_by-cons, sum_by-append}
-use Rattle.walk_laws.specs.Views.{LinkView}
+use Rattle.walk_laws.specs.Views.{LinkView, StandsFor}
 use Rattle.walk_laws.specs.Walks.{IsWalk, walk_cost, IsLeast, CostsAtLeast, HasNoWalk}
 
 -- a walk to b and one from there
@@ -15,16 +13,6 @@ IsWalk-append view IsLink a b c (link ∷ front) back walk further = (walk.0, wa
 -- the costs of two parts add up
 pub walk_cost-append : {L : Type 0} (view : LinkView L) (front back : List L) → walk_cost view (front ++ back) ≡ walk_cost view front + walk_cost view back
 walk_cost-append view front back = sum_by-append view.cost front back
-
--- a walk with one more link
-pub IsWalk-push : {L : Type 0} (view : LinkView L) (IsLink : L → Type 0) (a : ℕ) (walk : List L) (link : L)
-    → IsWalk view IsLink a (view.from link) walk → IsLink link → IsWalk view IsLink a (view.to link) (walk ++ link ∷ [])
-IsWalk-push view IsLink a walk link leads is = IsWalk-append view IsLink a (view.from link) (view.to link) walk (link ∷ []) leads (is, refl, refl)
-
--- a walk of a loop over a list of links that is one link further
-pub IsWalk-more : {L : Type 0} (view : LinkView L) (IsLink : L → Type 0) (a : ℕ) (links : List L) (k : ℕ) (d : L) → k < length links
-    → IsWalk view IsLink a (view.from (get_or links k d)) (take k links) → IsLink (get_or links k d) → IsWalk view IsLink a (view.to (get_or links k d)) (take (k + 1) links)
-IsWalk-more view IsLink a links k d within leads is = rw (take_more links k d within) (IsWalk-push view IsLink a (take k links) (get_or links k d) leads is)
 
 -- a walk in two parts leads to some node and on from there
 pub IsWalk-split : {L : Type 0} (view : LinkView L) (IsLink : L → Type 0) (a c : ℕ) (front back : List L)
@@ -40,49 +28,35 @@ pub IsWalk-end : {L : Type 0} (view : LinkView L) (IsLink : L → Type 0) (a b b
 IsWalk-end view IsLink a b b' [] one other = sym one ∙ other
 IsWalk-end view IsLink a b b' (link ∷ rest) one other = IsWalk-end view IsLink (view.to link) b b' rest one.2 other.2
 
--- each link of a walk is of the family
-pub IsWalk-links : {L : Type 0} (view : LinkView L) (IsLink : L → Type 0) (a b : ℕ) (walk : List L) → IsWalk view IsLink a b walk → AllByRecursion IsLink walk
-IsWalk-links view IsLink a b [] walk = tt
-IsWalk-links view IsLink a b (link ∷ rest) walk = (walk.0, IsWalk-links view IsLink (view.to link) b rest walk.2)
+-- a walk as one over the links that its own stand for
+pub IsWalk-map : {L M : Type 0} (view : LinkView L) (view' : LinkView M) (IsLink : L → Type 0) (IsLink' : M → Type 0) (other : L → M) → StandsFor view IsLink view' IsLink' other
+    → (a b : ℕ) (walk : List L) → IsWalk view IsLink a b walk → IsWalk view' IsLink' a b (map other walk)
+IsWalk-map view view' IsLink IsLink' other stands a b [] same = same
+IsWalk-map view view' IsLink IsLink' other stands a b (link ∷ rest) walk =
+    let further = IsWalk-map view view' IsLink IsLink' other stands (view.to link) b rest walk.2 in
+    (stands.is link walk.0, stands.from link walk.0 ∙ walk.1, subst (λ (n : ℕ). IsWalk view' IsLink' n b (map other rest)) (sym (stands.to link walk.0)) further)
 
--- a walk over some of the links of a family
-pub IsWalk-wider : {L : Type 0} (view : LinkView L) (IsLink IsWider : L → Type 0) → ((link : L) → IsLink link → IsWider link)
-    → (a b : ℕ) (walk : List L) → IsWalk view IsLink a b walk → IsWalk view IsWider a b walk
-IsWalk-wider view IsLink IsWider wider a b [] same = same
-IsWalk-wider view IsLink IsWider wider a b (link ∷ rest) walk = (wider link walk.0, walk.1, IsWalk-wider view IsLink IsWider wider (view.to link) b rest walk.2)
-
--- a walk over links of one type as one over links of another, where each link has its ends
-pub IsWalk-map : {L M : Type 0} (view : LinkView L) (view' : LinkView M) (f : L → M) (IsLink : L → Type 0) (IsLink' : M → Type 0)
-    → ((link : L) → IsLink link → IsLink' (f link)) → ((link : L) → view'.from (f link) ≡ view.from link) → ((link : L) → view'.to (f link) ≡ view.to link)
-    → (a b : ℕ) (walk : List L) → IsWalk view IsLink a b walk → IsWalk view' IsLink' a b (map f walk)
-IsWalk-map view view' f IsLink IsLink' is from to a b [] same = same
-IsWalk-map view view' f IsLink IsLink' is from to a b (link ∷ rest) walk =
-    let further = IsWalk-map view view' f IsLink IsLink' is from to (view.to link) b rest walk.2 in
-    (is link walk.0, from link ∙ walk.1, subst (λ (n : ℕ). IsWalk view' IsLink' n b (map f rest)) (sym (to link)) further)
-
--- and its cost, where each link has its cost
-pub walk_cost-map : {L M : Type 0} (view : LinkView L) (view' : LinkView M) (f : L → M) → ((link : L) → view'.cost (f link) ≡ view.cost link)
-    → (walk : List L) → walk_cost view' (map f walk) ≡ walk_cost view walk
-walk_cost-map view view' f cost [] = refl
-walk_cost-map view view' f cost (link ∷ rest) =
+-- and its cost
+pub walk_cost-map : {L M : Type 0} (view : LinkView L) (view' : LinkView M) (IsLink : L → Type 0) (IsLink' : M → Type 0) (other : L → M) → StandsFor view IsLink view' IsLink' other
+    → (a b : ℕ) (walk : List L) → IsWalk view IsLink a b walk → walk_cost view' (map other walk) ≡ walk_cost view walk
+walk_cost-map view view' IsLink IsLink' other stands a b [] walk = refl
+walk_cost-map view view' IsLink IsLink' other stands a b (link ∷ rest) walk =
     let here : walk_cost view (link ∷ rest) ≡ view.cost link + walk_cost view rest = sum_by-cons view.cost link rest in
-    let there : walk_cost view' (f link ∷ map f rest) ≡ view'.cost (f link) + walk_cost view' (map f rest) = sum_by-cons view'.cost (f link) (map f rest) in
-    let same : walk_cost view' (map f rest) ≡ walk_cost view rest = walk_cost-map view view' f cost rest in
-    let one : view'.cost (f link) ≡ view.cost link = cost link in
+    let there : walk_cost view' (other link ∷ map other rest) ≡ view'.cost (other link) + walk_cost view' (map other rest) = sum_by-cons view'.cost (other link) (map other rest) in
+    let same : walk_cost view' (map other rest) ≡ walk_cost view rest = walk_cost-map view view' IsLink IsLink' other stands (view.to link) b rest walk.2 in
+    let one : view'.cost (other link) ≡ view.cost link = stands.cost link walk.0 in
     omega arith
 
 -- what no walk over the other links costs less than, no walk over these does
-pub CostsAtLeast-map : {L M : Type 0} (view : LinkView L) (view' : LinkView M) (f : L → M) (IsLink : L → Type 0) (IsLink' : M → Type 0)
-    → ((link : L) → IsLink link → IsLink' (f link)) → ((link : L) → view'.from (f link) ≡ view.from link) → ((link : L) → view'.to (f link) ≡ view.to link)
-    → ((link : L) → view'.cost (f link) ≡ view.cost link) → (a b cost : ℕ) → CostsAtLeast view' IsLink' a b cost → CostsAtLeast view IsLink a b cost
-CostsAtLeast-map view view' f IsLink IsLink' is from to costs a b cost least walk leads =
-    subst (λ (n : ℕ). cost ≤ n) (walk_cost-map view view' f costs walk) (least (map f walk) (IsWalk-map view view' f IsLink IsLink' is from to a b walk leads))
+pub CostsAtLeast-map : {L M : Type 0} (view : LinkView L) (view' : LinkView M) (IsLink : L → Type 0) (IsLink' : M → Type 0) (other : L → M) → StandsFor view IsLink view' IsLink' other
+    → (a b cost : ℕ) → CostsAtLeast view' IsLink' a b cost → CostsAtLeast view IsLink a b cost
+CostsAtLeast-map view view' IsLink IsLink' other stands a b cost least walk leads =
+    subst (λ (n : ℕ). cost ≤ n) (walk_cost-map view view' IsLink IsLink' other stands a b walk leads) (least (map other walk) (IsWalk-map view view' IsLink IsLink' other stands a b walk leads))
 
 -- where none leads over the other links, none leads over these
-pub HasNoWalk-map : {L M : Type 0} (view : LinkView L) (view' : LinkView M) (f : L → M) (IsLink : L → Type 0) (IsLink' : M → Type 0)
-    → ((link : L) → IsLink link → IsLink' (f link)) → ((link : L) → view'.from (f link) ≡ view.from link) → ((link : L) → view'.to (f link) ≡ view.to link)
+pub HasNoWalk-map : {L M : Type 0} (view : LinkView L) (view' : LinkView M) (IsLink : L → Type 0) (IsLink' : M → Type 0) (other : L → M) → StandsFor view IsLink view' IsLink' other
     → (a b : ℕ) → HasNoWalk view' IsLink' a b → HasNoWalk view IsLink a b
-HasNoWalk-map view view' f IsLink IsLink' is from to a b none walk leads = none (map f walk) (IsWalk-map view view' f IsLink IsLink' is from to a b walk leads)
+HasNoWalk-map view view' IsLink IsLink' other stands a b none walk leads = none (map other walk) (IsWalk-map view view' IsLink IsLink' other stands a b walk leads)
 
 -- the least cost is one number
 pub IsLeast-cost : {L : Type 0} (view : LinkView L) (IsLink : L → Type 0) (a b : ℕ) (walk walk' : List L) (cost cost' : ℕ)

@@ -1,21 +1,80 @@
-//! What a certificate and a cut mean.
+//! What a certificate and a cut mean, for the links of whatever layer.
 
-ghost use Rattle.std.specs.Prelude.{◌≡◌, ℕ, List, Contains};
-ghost use Rattle.walk_laws.specs.Views.{PlainLink, plain};
+ghost use Rattle.std.specs.Prelude.{◌≡◌, ◌≢◌, ℕ, ◌+◌, ◌++◌, List, Contains, Result, MatchResult, length, map, slice_index_or};
+ghost use Rattle.std.specs.List.Sorted.{IsSearchInRange, IsBinarySearchResult};
+ghost use Rattle.std.specs.Ordering.{nat_cmp};
+ghost use Rattle.walk_laws.specs.Views.{LinkView, PotentialView, StandsFor};
 ghost use Rattle.walk_laws.specs.Walks.{IsWalk, walk_cost, CostsAtLeast, HasNoWalk, IsLeast};
-ghost use Rattle.walk_laws.specs.Certificates.{IsCertificate, IsCut};
+ghost use Rattle.walk_laws.specs.Certificates.{potential, Ascends, IsCertificate, IsCut};
+
+/// A family of links: what is read of a link, and which links are those of what they belong to, as a table or a version.
+pub trait LinkFamily {
+    ghost Link: { Type 0 };
+
+    ghost Ground: { Type 0 };
+
+    ghost view: { LinkView Link };
+
+    ghost has: { Ground → Link → Type 0 };
+}
+
+/// A kind of potentials: what is read of one.
+pub trait PotentialKind {
+    ghost Potential: { Type 0 };
+
+    ghost view: { PotentialView Potential };
+}
 
 /// Where there is a certificate, no walk costs less.
-pub fn certificate_law()
-    ensures { (links : List PlainLink) (a b cost : ℕ) (potential_of : ℕ → ℕ) → IsCertificate plain (Contains links) a b cost potential_of → CostsAtLeast plain (Contains links) a b cost }
+pub fn certificate_law<F: LinkFamily>()
+    ensures { (whole : F.Ground) (a b cost : ℕ) (potential_of : ℕ → ℕ)
+        → IsCertificate F.view (F.has whole) a b cost potential_of → CostsAtLeast F.view (F.has whole) a b cost }
+{}
+
+/// A walk of the cost of a certificate is a least one, and all least walks cost the same.
+pub fn least_law<F: LinkFamily>()
+    ensures least { (whole : F.Ground) (a b cost : ℕ) (potential_of : ℕ → ℕ) (walk : List F.Link)
+        → IsCertificate F.view (F.has whole) a b cost potential_of → IsWalk F.view (F.has whole) a b walk → walk_cost F.view walk ≡ cost
+        → IsLeast F.view (F.has whole) a b walk cost }
+    ensures one_cost { (whole : F.Ground) (a b cost cost' : ℕ) (walk walk' : List F.Link)
+        → IsLeast F.view (F.has whole) a b walk cost → IsLeast F.view (F.has whole) a b walk' cost' → cost ≡ cost' }
 {}
 
 /// Where there is a cut, there is no walk.
-pub fn cut_law()
-    ensures { (links : List PlainLink) (a b : ℕ) (reached : List ℕ) → IsCut plain (Contains links) a b reached → HasNoWalk plain (Contains links) a b }
+pub fn cut_law<F: LinkFamily>()
+    ensures { (whole : F.Ground) (a b : ℕ) (reached : List ℕ) → IsCut F.view (F.has whole) a b reached → HasNoWalk F.view (F.has whole) a b }
 {}
 
-/// A walk of the cost of a certificate is a least one.
-pub fn least_law()
-    ensures { (links : List PlainLink) (a b cost : ℕ) (potential_of : ℕ → ℕ) (walk : List PlainLink) → IsCertificate plain (Contains links) a b cost potential_of → IsWalk plain (Contains links) a b walk → walk_cost plain walk ≡ cost → IsLeast plain (Contains links) a b walk cost }
+/// Walks join and part, their costs add up, and links lead from a node to one end at most.
+pub fn walk_law<F: LinkFamily>()
+    ensures joined { (whole : F.Ground) (a b c : ℕ) (front back : List F.Link)
+        → IsWalk F.view (F.has whole) a b front → IsWalk F.view (F.has whole) b c back → IsWalk F.view (F.has whole) a c (front ++ back) }
+    ensures parted { (whole : F.Ground) (a c : ℕ) (front back : List F.Link) → IsWalk F.view (F.has whole) a c (front ++ back)
+        → (b : ℕ) × IsWalk F.view (F.has whole) a b front × IsWalk F.view (F.has whole) b c back }
+    ensures added { (front back : List F.Link) → walk_cost F.view (front ++ back) ≡ walk_cost F.view front + walk_cost F.view back }
+    ensures one_end { (whole : F.Ground) (a b c : ℕ) (walk : List F.Link)
+        → IsWalk F.view (F.has whole) a b walk → IsWalk F.view (F.has whole) a c walk → b ≡ c }
+{}
+
+/// What holds of all walks over the links of one family holds of those over links that stand for them.
+pub fn stand_in_law<F: LinkFamily, G: LinkFamily>()
+    ensures least { (whole : F.Ground) (other_whole : G.Ground) (other : F.Link → G.Link) (a b cost : ℕ)
+        → StandsFor F.view (F.has whole) G.view (G.has other_whole) other
+        → CostsAtLeast G.view (G.has other_whole) a b cost → CostsAtLeast F.view (F.has whole) a b cost }
+    ensures none { (whole : F.Ground) (other_whole : G.Ground) (other : F.Link → G.Link) (a b : ℕ)
+        → StandsFor F.view (F.has whole) G.view (G.has other_whole) other
+        → HasNoWalk G.view (G.has other_whole) a b → HasNoWalk F.view (F.has whole) a b }
+{}
+
+/// Where the nodes of a list ascend, a node has one potential: its own value, or the cost of the answer where it is not
+/// listed. So a binary search by node finds it.
+pub fn potential_law<P: PotentialKind>()
+    ensures listed { (cost : ℕ) (listed : List P.Potential) (p : P.Potential)
+        → Ascends P.view listed → Contains listed p → potential P.view cost listed (P.view.node p) ≡ P.view.value p }
+    ensures unlisted { (cost node : ℕ) (listed : List P.Potential)
+        → ((p : P.Potential) → Contains listed p → P.view.node p ≢ node) → potential P.view cost listed node ≡ cost }
+    ensures searched { (cost node : ℕ) (listed : List P.Potential) (found : Result ℕ ℕ)
+        → Ascends P.view listed → IsSearchInRange found (length listed) → IsBinarySearchResult (λ p. nat_cmp (P.view.node p) node) listed found
+        → MatchResult found (λ place. (d : P.Potential) → potential P.view cost listed node ≡ P.view.value (slice_index_or listed place d))
+        (λ place. potential P.view cost listed node ≡ cost) }
 {}

@@ -9,8 +9,8 @@ returns-in-None c =
 pub loop-place-preserved : goal.loop-place-preserved
 loop-place-preserved c =
     let step = c.in-Some.ensures.found in
-    let bound = row_costs c.args.links.now (get_or c.args.steps.now c.loop-place.place 0) c.in-Some.row c.requires.costs step.link in
+    let bound = row_costs c.args.links.now (get_or c.args.steps.now c.loop-place.place 0) c.in-Some.link c.requires.costs step.is in
     record {
-      chain = chain_more c.args.links.now c.args.from c.args.steps.now c.loop-place.at c.loop-place.cost c.loop-place.place c.in-Some.row c.loop-place-test.true c.loop-place.invariant.chain step;
+      chain = chain_more c.args.links.now c.args.from c.args.steps.now c.loop-place.at c.loop-place.cost c.loop-place.place c.in-Some.link c.loop-place-test.true c.loop-place.invariant.chain step;
       bound = omega (arith, bound, c.loop-place.invariant.bound);
     }

@@ -2,5 +2,5 @@ use Rattle.route_certificate.specs.Verdicts.{IsGentle}
 use Rattle.route_certificate.proofs.VerdictLemmas.{HoldsBefore}
 use Rattle.route_certificate.proofs.verifying.first_steep.Given as goal
 
-abbrev pub invariant-loop-link : goal.invariant-loop-link
-invariant-loop-link l = HoldsBefore (IsGentle l.cost l.at) l.links l.link
+abbrev pub invariant-loop-place : goal.invariant-loop-place
+invariant-loop-place l = HoldsBefore (IsGentle l.cost l.at) l.links l.place

@@ -2,7 +2,6 @@ use Rattle.std.proofs.Common.{◌≡◌, ℕ, List, Result, Ok, Err, MatchResult
 use Rattle.std.proofs.lemmas.List.Sorted.{answers_always}
 use Rattle.venue_types.specs.declared.link.Potential.{Potential}
 use Rattle.walk_laws.specs.Certificates.{potential}
-use Rattle.walk_laws.proofs.Potentials.{potential-searched}
 use Rattle.route_certificate.specs.Answers.{potentials_read}
 use Rattle.route_certificate.proofs.verifying.potential_of.Goals as goal
 
@@ -15,7 +14,7 @@ pub returns-in-Ok : goal.returns-in-Ok
 returns-in-Ok c =
     let facts = c.binary_search_by_key.ensures in
     let by_node = facts.position (λ p. p.node) (answers_always _ _ _ (λ f a r g called. search rules)) in
-    let told = potential-searched potentials_read c.args.cost c.args.at.now c.args.node c.binary_search_by_key.result c.requires facts.bound by_node in
+    let told = c.potential_law.ensures.searched c.args.cost c.args.node c.args.at.now c.binary_search_by_key.result c.requires facts.bound by_node in
     let here : Tells c.args.cost c.args.at.now c.args.node (Ok c.in-Ok.place) = subst (Tells c.args.cost c.args.at.now c.args.node) c.in-Ok.is told in
     sym (here (record { node = 0; value = 0 }))
 
@@ -23,6 +22,6 @@ pub returns-in-Err : goal.returns-in-Err
 returns-in-Err c =
     let facts = c.binary_search_by_key.ensures in
     let by_node = facts.position (λ p. p.node) (answers_always _ _ _ (λ f a r g called. search rules)) in
-    let told = potential-searched potentials_read c.args.cost c.args.at.now c.args.node c.binary_search_by_key.result c.requires facts.bound by_node in
+    let told = c.potential_law.ensures.searched c.args.cost c.args.node c.args.at.now c.binary_search_by_key.result c.requires facts.bound by_node in
     let here : Tells c.args.cost c.args.at.now c.args.node (Err c.in-Err.field-0) = subst (Tells c.args.cost c.args.at.now c.args.node) c.in-Err.is told in
     sym here

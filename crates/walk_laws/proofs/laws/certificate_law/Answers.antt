@@ -1,7 +1,5 @@
-use Rattle.std.specs.Prelude.{Contains}
-use Rattle.walk_laws.specs.Views.{plain}
 use Rattle.walk_laws.proofs.Theorems.{certifies}
 use Rattle.walk_laws.proofs.laws.certificate_law.Goals as goal
 
 pub returns : goal.returns
-returns c links a b cost potential_of holds = certifies plain (Contains links) a b cost potential_of holds
+returns g c whole a b cost potential_of holds = certifies g.F.LinkFamily.view (g.F.LinkFamily.has whole) a b cost potential_of holds
