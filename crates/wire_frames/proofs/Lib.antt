@@ -1,0 +1,5 @@
+pub mod HeadLemmas
+pub mod EndLemmas
+pub mod LineLemmas
+pub mod FrontLemmas
+pub mod LawLemmas

@@ -1,4 +1,5 @@
 pub mod Fields
 pub mod Frames
 pub mod Heads
+pub mod Lines
 pub mod Outcomes

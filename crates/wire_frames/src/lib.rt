@@ -3,6 +3,8 @@
 
 mod framing;
 mod heads;
+mod laws;
 
 pub use framing::{Framed, Framing, Methods, Named, Refusal};
-pub use heads::Extent;
+pub use heads::{Extent, find_head};
+pub use laws::{front_more_law, head_extent_law, one_front_law, short_law};
