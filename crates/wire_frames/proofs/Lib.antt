@@ -3,3 +3,5 @@ pub mod EndLemmas
 pub mod LineLemmas
 pub mod FrontLemmas
 pub mod LawLemmas
+pub mod FieldLemmas
+pub mod PartLemmas

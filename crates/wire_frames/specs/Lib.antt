@@ -3,3 +3,4 @@ pub mod Frames
 pub mod Heads
 pub mod Lines
 pub mod Outcomes
+pub mod Reading

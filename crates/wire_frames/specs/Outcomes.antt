@@ -3,8 +3,8 @@ use Rattle.std.specs.Prelude.{◌≡◌, ℕ, ◌+◌, ◌<◌, List, [], ◌∷
 use Rattle.httparse.specs.Grammar.{RequestHead}
 use Rattle.http1.specs.Fields.{values_named}
 use Rattle.wire_frames.specs.declared.heads.Extent.{Extent}
-use Rattle.wire_frames.specs.declared.framing.Named.{Named}
-use Rattle.wire_frames.specs.declared.framing.Named.TheVariants.{Absent, Once, Several}
+use Rattle.wire_frames.specs.declared.fields.Named.{Named}
+use Rattle.wire_frames.specs.declared.fields.Named.TheVariants.{Absent, Once, Several}
 use Rattle.wire_frames.specs.declared.framing.Framed.{Framed}
 use Rattle.wire_frames.specs.declared.framing.Framing.{Framing}
 use Rattle.wire_frames.specs.declared.framing.Refusal.{Refusal}

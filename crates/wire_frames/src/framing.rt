@@ -1,5 +1,7 @@
 //! What the front of some bytes comes to: more to come, a refusal, or the frame of a message.
 
+use crate::fields::Named;
+
 /// The methods that a path has.
 #[derive(Clone, Copy, Debug, PartialEq, Eq)]
 pub enum Methods {
@@ -25,14 +27,6 @@ pub enum Refusal {
     NotStaff,
     BadBody,
     BadQuery,
-}
-
-/// The values of the fields of one name.
-#[derive(Clone, Copy, Debug)]
-pub enum Named<'b> {
-    Absent,
-    Once(&'b [u8]),
-    Several,
 }
 
 /// The parts of a whole message, which borrow its bytes.
