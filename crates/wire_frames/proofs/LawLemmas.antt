@@ -3,8 +3,8 @@ use Rattle.std.proofs.Common.{◌≡◌, ℕ, ◌+◌, ◌<◌, ◌≤◌, ◌�
 use Rattle.std.proofs.lemmas.List.{take-append-le, drop-append-le}
 use Rattle.httparse.specs.Grammar.{RequestHead}
 use Rattle.wire_frames.specs.declared.heads.Extent.{Extent}
-use Rattle.wire_frames.specs.declared.framing.Refusal.{Refusal}
-use Rattle.wire_frames.specs.declared.framing.Refusal.TheVariants.{HeadTooLarge, BadHead, TransferCoding, BodyTooLarge, NoPath, Method, NotStaff, BadBody, BadQuery}
+use Rattle.wire_frames.specs.declared.refusals.Refusal.{Refusal}
+use Rattle.wire_frames.specs.declared.refusals.Refusal.TheVariants.{HeadTooLarge, BadHead, TransferCoding, BodyTooLarge, NoPath, Method, NotStaff, BadBody, BadQuery}
 use Rattle.wire_frames.specs.Heads.{head_extent}
 use Rattle.wire_frames.specs.Fields.{fields_of, HasCoding, closes}
 use Rattle.wire_frames.specs.Frames.{HasEnd, HasNoEnd, IsGoodHead, IsPlainHead, RefusesHead, HasHead, IsShort, IsRefused, PlainFrame, HasFrame}

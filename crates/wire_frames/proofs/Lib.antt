@@ -5,3 +5,4 @@ pub mod FrontLemmas
 pub mod LawLemmas
 pub mod FieldLemmas
 pub mod PartLemmas
+pub mod FrameLemmas

@@ -5,8 +5,8 @@ use Rattle.httparse.specs.Borrowed.{HoldsSomeRequest, HoldsRequest}
 use Rattle.httparse.specs.Grammar.{RequestHead, ReadsRequest, HasNoRequest}
 use Rattle.httparse.specs.Spans.{RequestOverflows}
 use Rattle.httparse.proofs.GrammarLemmas.{request_unique}
-use Rattle.wire_frames.specs.declared.framing.Refusal.{Refusal}
-use Rattle.wire_frames.specs.declared.framing.Refusal.TheVariants.{HeadTooLarge, BadHead, TransferCoding, BodyTooLarge, NoPath, Method, NotStaff, BadBody, BadQuery}
+use Rattle.wire_frames.specs.declared.refusals.Refusal.{Refusal}
+use Rattle.wire_frames.specs.declared.refusals.Refusal.TheVariants.{HeadTooLarge, BadHead, TransferCoding, BodyTooLarge, NoPath, Method, NotStaff, BadBody, BadQuery}
 use Rattle.wire_frames.specs.declared.parts.Parts.{Parts}
 use Rattle.wire_frames.specs.Fields.{fields_of, HasCoding}
 use Rattle.wire_frames.specs.Frames.{IsGoodHead, IsPlainHead, RefusesHead}

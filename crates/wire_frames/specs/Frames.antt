@@ -2,8 +2,8 @@
 use Rattle.std.specs.Prelude.{◌≡◌, ℕ, ◌+◌, ◌<◌, ◌≤◌, ◌⊎◌, Bool, List, [], length, take, drop, Some, None}
 use Rattle.httparse.specs.Grammar.{RequestHead, ReadsRequest}
 use Rattle.wire_frames.specs.declared.heads.Extent.{Extent}
-use Rattle.wire_frames.specs.declared.framing.Refusal.{Refusal}
-use Rattle.wire_frames.specs.declared.framing.Refusal.TheVariants.{HeadTooLarge, BadHead, TransferCoding, BodyTooLarge, NoPath, Method, NotStaff, BadBody, BadQuery}
+use Rattle.wire_frames.specs.declared.refusals.Refusal.{Refusal}
+use Rattle.wire_frames.specs.declared.refusals.Refusal.TheVariants.{HeadTooLarge, BadHead, TransferCoding, BodyTooLarge, NoPath, Method, NotStaff, BadBody, BadQuery}
 use Rattle.wire_frames.specs.Heads.{head_extent}
 use Rattle.wire_frames.specs.Fields.{fields_of, body_length, HasOneHost, HasCoding, closes}
 

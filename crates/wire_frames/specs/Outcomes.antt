@@ -7,7 +7,7 @@ use Rattle.wire_frames.specs.declared.fields.Named.{Named}
 use Rattle.wire_frames.specs.declared.fields.Named.TheVariants.{Absent, Once, Several}
 use Rattle.wire_frames.specs.declared.framing.Framed.{Framed}
 use Rattle.wire_frames.specs.declared.framing.Framing.{Framing}
-use Rattle.wire_frames.specs.declared.framing.Refusal.{Refusal}
+use Rattle.wire_frames.specs.declared.refusals.Refusal.{Refusal}
 use Rattle.wire_frames.specs.Frames.{IsShort, HasHead, PlainFrame}
 
 -- no value, this one value, or more than one

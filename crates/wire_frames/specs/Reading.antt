@@ -1,11 +1,14 @@
 -- How the code goes about a head that is read: its fields first, then its parts. No definition of the public contract.
-use Rattle.std.specs.Prelude.{◌≡◌, ℕ, ◌+◌, ◌<◌, ◌≤◌, Bool, List, ◌∷◌, length, codes, Option, Some, option_copied}
+use Rattle.std.specs.Prelude.{◌≡◌, ℕ, ◌+◌, ◌<◌, ◌≤◌, List, length, take, drop, codes, Some, option_copied}
 use Rattle.http1.specs.Fields.{values_named}
 use Rattle.httparse.specs.Borrowed.{AreFields}
 use Rattle.httparse.specs.Grammar.{RequestHead}
 use Rattle.httparse.specs.declared.borrowed.Request.{Request}
-use Rattle.wire_frames.specs.declared.framing.Refusal.{Refusal}
-use Rattle.wire_frames.specs.declared.framing.Refusal.TheVariants.{HeadTooLarge, BadHead, TransferCoding, BodyTooLarge, NoPath, Method, NotStaff, BadBody, BadQuery}
+use Rattle.wire_frames.specs.declared.refusals.Refusal.{Refusal}
+use Rattle.wire_frames.specs.declared.refusals.Refusal.TheVariants.{HeadTooLarge, BadHead, TransferCoding, BodyTooLarge, NoPath, Method, NotStaff, BadBody, BadQuery}
+use Rattle.wire_frames.specs.declared.framing.Framed.{Framed}
+use Rattle.wire_frames.specs.declared.framing.Framing.{Framing}
+use Rattle.wire_frames.specs.declared.framing.Framing.TheVariants as Framing
 use Rattle.wire_frames.specs.declared.parts.Parts.{Parts}
 use Rattle.wire_frames.specs.Fields.{body_length, fields_of, closes}
 use Rattle.wire_frames.specs.Frames.{IsPlainHead}
@@ -52,6 +55,22 @@ pub record ArePartsOf (h : RequestHead) (parts : Parts) : Type 0 where
   pub target : parts.target.now ≡ h.target
   pub staff_key : AreValues parts.staff_key (values_named (codes "x-staff-key") (fields_of h))
   pub close : parts.close ≡ closes h
+
+-- the borrowed parts are those of the head, and the body behind it
+pub record IsFramedFrom (bytes : List ℕ) (parts : Parts) (size : ℕ) (framed : Framed) : Type 0 where
+  pub whole : size + parts.body ≤ length bytes
+  pub method : framed.method.now ≡ parts.method.now
+  pub target : framed.target.now ≡ parts.target.now
+  pub staff_key : framed.staff_key ≡ parts.staff_key
+  pub body : framed.body.now ≡ take parts.body (drop size bytes)
+  pub length : framed.length ≡ size + parts.body
+  pub close : framed.close ≡ parts.close
+
+-- the message with these parts of a head of so many bytes: it wants more, or is there with the parts and its body
+abbrev pub FramesBody : List ℕ → Parts → ℕ → Framing → Type 0
+FramesBody bytes parts size (Framing.More least) = (length bytes < least) × (least ≡ size + parts.body)
+FramesBody bytes parts size (Framing.Fault refusal) = ⊥
+FramesBody bytes parts size (Framing.Framed framed) = IsFramedFrom bytes parts size framed
 
 -- the parts are those of the whole head, which isn't refused
 abbrev pub AreParts : List ℕ → ℕ → Parts → Type 0

@@ -2,7 +2,7 @@
 
 ghost use Rattle.std.specs.Prelude.{◌≡◌, ◌+◌, ◌<◌, ℕ, List, ◌++◌, length, Some};
 ghost use Rattle.httparse.specs.Grammar.{RequestHead, IsRequestHead, print_request};
-ghost use Rattle.wire_frames.specs.declared.framing.Refusal.{Refusal};
+ghost use Rattle.wire_frames.specs.declared.refusals.Refusal.{Refusal};
 ghost use Rattle.wire_frames.specs.Frames.{IsShort, IsRefused, PlainFrame, HasFrame};
 ghost use Rattle.wire_frames.specs.Heads.{head_extent};
 

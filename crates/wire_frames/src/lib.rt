@@ -6,8 +6,10 @@ mod framing;
 mod heads;
 mod laws;
 mod parts;
+mod refusals;
 
 pub use fields::Named;
-pub use framing::{Framed, Framing, Methods, Refusal};
+pub use framing::{Framed, Framing, frame};
 pub use heads::{Extent, find_head};
 pub use laws::{front_more_law, head_extent_law, one_front_law, short_law};
+pub use refusals::{Methods, Refusal};

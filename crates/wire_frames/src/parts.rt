@@ -11,7 +11,7 @@ ghost use Rattle.wire_frames.specs.Reading.{AreParts, ArePartsOf, FrameBody, Hol
 use httparse::{EMPTY_HEADER, Header, Request, Status};
 
 use crate::fields::{Named, body_length, find_named, has_coding, has_one_host, lists_close};
-use crate::framing::Refusal;
+use crate::refusals::Refusal;
 
 const MAX_FIELDS: usize = 64;
 const MAX_BODY: u64 = 65_536;
@@ -28,7 +28,7 @@ pub(crate) struct Parts<'b> {
 }
 
 /// The length of the body that a head of this version and these fields frames.
-fn frame_body(minor: u8, headers: &[Header<'_>]) -> Result<usize, Refusal>
+fn body_size(minor: u8, headers: &[Header<'_>]) -> Result<usize, Refusal>
     ensures ok { IfOk result (λ body. FrameBody minor (map header_parts headers.now) body) }
     ensures err { IfErr result (λ refusal. RefuseHead minor (map header_parts headers.now) refusal) }
 {
@@ -61,7 +61,7 @@ fn judge<'b>(request: &Request<'_, 'b>) -> Result<Parts<'b>, Refusal>
     let Some(minor) = request.version else {
         return Err(Refusal::BadHead);
     };
-    let body = frame_body(minor, request.headers)?;
+    let body = body_size(minor, request.headers)?;
     let staff_key = find_named(request.headers, "x-staff-key");
     let close = minor == 0 || lists_close(request.headers);
     Ok(Parts {
