@@ -78,9 +78,9 @@ pub endless_frames : (bytes : List ℕ) (r : Framing) → HasNoEnd bytes
     → (length bytes < 16384 → r ≡ Framing.More (length bytes + 1)) → (16384 ≤ length bytes → r ≡ Framing.Fault HeadTooLarge)
     → FramesAs bytes r
 endless_frames bytes r none short long = elim (cases_lt (length bytes) 16384) [
-    inl few ↦ subst (FramesAs bytes) (sym (short few)) (endless_waits bytes none few)
+  | inl few ↦ subst (FramesAs bytes) (sym (short few)) (endless_waits bytes none few)
   | inr many ↦ subst (FramesAs bytes) (sym (long many)) (inl (none, many, refl))
-  ]
+]
 
 -- ---- a head that isn't refused, and its body
 
@@ -91,9 +91,9 @@ body_waits bytes e h n x lt = record {
   stays = λ behind below. inr (e, h, n, head_more bytes behind e h n x, below);
   more = lt;
   whole = λ f k m y.
-    let same = one_head bytes e f h k n m x y in
-    let length_of = ap (λ (v : Extent). v.length) same.extent in
-    omega (arith, same.size, length_of);
+      let same = one_head bytes e f h k n m x y in
+      let length_of = ap (λ (v : Extent). v.length) same.extent in
+      omega (arith, same.size, length_of);
 }
 
 frame_of : List ℕ → Extent → RequestHead → ℕ → PlainFrame
@@ -110,33 +110,36 @@ pub body_frames : (bytes : List ℕ) (e : Extent) (parts : Parts) (r : Framing) 
     → AreParts (take e.length bytes) e.lines parts → FramesBody bytes parts e.length r → FramesAs bytes r
 unfolding frame_of
 body_frames bytes e parts (Framing.More least) ends are x =
-    let head : HasHead bytes e are.0 parts.body = record { ends = ends; head = are.1; } in
+    let head : HasHead bytes e are.0 parts.body = record { ends = ends; head = are.1 } in
     subst (WaitsFor bytes) (sym x.1) (body_waits bytes e are.0 parts.body head (omega (arith, x.0, x.1)))
 body_frames bytes e parts (Framing.Fault refusal) ends are x = absurd x
 body_frames bytes e parts (Framing.Framed framed) ends are x =
     let h = are.0 in
     let from = are.2 in
-    let fields = values_named (codes "x-staff-key") (fields_of h) in
-    (frame_of bytes e h parts.body, record {
-      extent = e;
-      h = h;
-      size = parts.body;
-      head = record { ends = ends; head = are.1; };
-      whole = x.whole;
-      method = refl;
-      target = refl;
-      fields = refl;
-      body = refl;
-      length = refl;
-      close = refl;
-    }, record {
-      method = x.method ∙ from.method;
-      target = x.target ∙ from.target;
-      staff_key = subst (λ (n : Named). AreValues n fields) (sym x.staff_key) from.staff_key;
-      body = x.body;
-      length = x.length;
-      close = x.close ∙ from.close;
-    })
+    let fields = values_named (codes "x-staff-key") (fields_of h) in (
+      frame_of bytes e h parts.body,
+      record {
+        extent = e;
+        h = h;
+        size = parts.body;
+        head = record { ends = ends; head = are.1 };
+        whole = x.whole;
+        method = refl;
+        target = refl;
+        fields = refl;
+        body = refl;
+        length = refl;
+        close = refl;
+      },
+      record {
+        method = x.method ∙ from.method;
+        target = x.target ∙ from.target;
+        staff_key = subst (λ (n : Named). AreValues n fields) (sym x.staff_key) from.staff_key;
+        body = x.body;
+        length = x.length;
+        close = x.close ∙ from.close;
+      },
+    )
 
 pub refused_frames : (bytes : List ℕ) (e : Extent) (refusal : Refusal) → HasEnd bytes e
     → RefusesHead (take e.length bytes) e.lines refusal → IsRefused bytes refusal

@@ -29,7 +29,7 @@ front_of bytes e ends =
       within = within;
       fits = fits;
       whole = ap head_extent (sym same) ∙ f.cut e.length (omega arith)
-        ∙ ap (λ (v : ℕ). extent_of v e.lines) (sym (length-take-le e.length bytes fits));
+          ∙ ap (λ (v : ℕ). extent_of v e.lines) (sym (length-take-le e.length bytes fits));
     }
 
 pub one_end : (bytes : List ℕ) (e f : Extent) → HasEnd bytes e → HasEnd bytes f → e ≡ f
@@ -57,7 +57,7 @@ one_head bytes e f h k n m x y =
     let extent = one_end bytes e f x.ends y.ends in
     let good = subst (λ (v : Extent). IsGoodHead (take v.length bytes) h n) extent x.head.good in
     let same = one_reading (take f.length bytes) h k n m good y.head.good in
-    record { extent = extent; head = same.0; size = same.1; }
+    record { extent = extent; head = same.0; size = same.1 }
 
 -- ---- with bytes behind
 

@@ -15,7 +15,7 @@ differs : (test : ℕ → Bool) (b stop : ℕ) → test stop ≡ false → test 
 differs test b stop fails passes = ne_eqb b stop (λ e. false≢true (sym fails ∙ ap test (sym e) ∙ passes))
 
 abbrev pub extent_of : ℕ → ℕ → Option Extent
-extent_of n k = Some (record { length = n; lines = k; })
+extent_of n k = Some (record { length = n; lines = k })
 
 some_extent : {n m k j : ℕ} → n ≡ m → k ≡ j
     → extent_of n k ≡ extent_of m j
@@ -80,16 +80,16 @@ pub fresh_field : (f : Field) (rest : List ℕ) (n k m : ℕ) → IsField f → 
     → extent_from fresh n k (print_field f ++ rest) ≡ extent_from fresh m (k + 1) rest
 fresh_field f rest n k m is e =
     let size : length (print_field f) ≡ length f.name + 1 + length f.raw + length (print_end f.end)
-        = field_length f.name f.raw (print_end f.end) in
+    = field_length f.name f.raw (print_end f.end) in
     let word = fresh_word f.name (58 ∷ (f.raw ++ (print_end f.end ++ rest))) n k (n + length f.name) is.name.0 is.name.1 refl in
     let value = line_goes is_value_byte f.raw (print_end f.end ++ rest) (n + length f.name + 1) k
-        (n + length f.name + 1 + length f.raw) refl is.raw refl in
+    (n + length f.name + 1 + length f.raw) refl is.raw refl in
     let end = line_ends f.end rest (n + length f.name + 1 + length f.raw) k m (omega (arith, size)) in
     rw (print_field-append f rest) (word ∙ value ∙ end)
 
 pub fresh_section : (fields : List Field) (last : LineEnd) (rest : List ℕ) (n k m j : ℕ) → All IsField fields
     → m ≡ n + length (print_section fields last) → j ≡ k + length fields
-    → extent_from fresh n k (print_section fields last ++ rest) ≡ Some (record { length = m; lines = j; })
+    → extent_from fresh n k (print_section fields last ++ rest) ≡ Some (record { length = m; lines = j })
 fresh_section [] crlf rest n k m j all e lines = some_extent (omega arith) (omega arith)
 fresh_section [] lf rest n k m j all e lines = some_extent (omega arith) (omega arith)
 fresh_section (f ∷ fields) last rest n k m j all e lines =
@@ -97,10 +97,10 @@ fresh_section (f ∷ fields) last rest n k m j all e lines =
     let b = length-append (print_field f ++ flat_map print_field fields) (print_end last) in
     let c = length-append (flat_map print_field fields) (print_end last) in
     let group : print_section (f ∷ fields) last ++ rest ≡ print_field f ++ (print_section fields last ++ rest)
-        = regroup (print_field f) (flat_map print_field fields) (print_end last) rest in
+    = regroup (print_field f) (flat_map print_field fields) (print_end last) rest in
     let first = fresh_field f (print_section fields last ++ rest) n k (n + length (print_field f)) (All-head IsField f fields all) refl in
     let more = fresh_section fields last rest (n + length (print_field f)) (k + 1) m j (All-tail IsField f fields all)
-        (omega (arith, a, b, c)) (omega arith) in
+    (omega (arith, a, b, c)) (omega arith) in
     rw group (first ∙ more)
 
 -- the name and the number of a version
@@ -112,7 +112,7 @@ version_goes minor rest n k m le e =
 
 request_length : (h : RequestHead) → length (print_request h)
     ≡ length (print_blank h.blank) + length h.method + 1 + length h.target + 1 + 8 + length (print_end h.line_end)
-        + length (print_section h.fields h.last)
+    + length (print_section h.fields h.last)
 request_length h =
     let a = length-append (print_blank h.blank) (h.method ++ 32 ∷ (h.target ++ 32 ∷ (print_version h.minor ++ (print_end h.line_end ++ (print_section h.fields h.last ++ []))))) in
     let b = length-append h.method (32 ∷ (h.target ++ 32 ∷ (print_version h.minor ++ (print_end h.line_end ++ (print_section h.fields h.last ++ []))))) in
@@ -124,7 +124,7 @@ request_length h =
 
 -- the head of the grammar at the front ends there
 pub request_extent : (h : RequestHead) (rest : List ℕ) → IsRequestHead h
-    → head_extent (print_request h ++ rest) ≡ Some (record { length = length (print_request h); lines = length h.fields + 1; })
+    → head_extent (print_request h ++ rest) ≡ Some (record { length = length (print_request h); lines = length h.fields + 1 })
 request_extent h rest is =
     let section = print_section h.fields h.last in
     let end = print_end h.line_end in
@@ -138,10 +138,10 @@ request_extent h rest is =
     let n4 = n3 + length end in
     let size : length (print_request h) ≡ n4 + length section = request_length h in
     rw (print_request-append h rest) (
-      front_blank h.blank (h.method ++ 32 ∷ at_target) 0 0 blank (omega arith)
-      ∙ front_word h.method (32 ∷ at_target) blank 0 n1 is.method.0 is.method.1 refl
-      ∙ line_goes is_uri_byte h.target (32 ∷ at_version) (n1 + 1) 0 n2 refl is.target.1 refl
-      ∙ version_goes h.minor (end ++ (section ++ rest)) (n2 + 1) 0 n3 is.minor refl
-      ∙ line_ends h.line_end (section ++ rest) n3 0 n4 refl
-      ∙ fresh_section h.fields h.last rest n4 (0 + 1) (length (print_request h)) (length h.fields + 1) is.fields size (omega arith)
+    front_blank h.blank (h.method ++ 32 ∷ at_target) 0 0 blank (omega arith)
+    ∙ front_word h.method (32 ∷ at_target) blank 0 n1 is.method.0 is.method.1 refl
+    ∙ line_goes is_uri_byte h.target (32 ∷ at_version) (n1 + 1) 0 n2 refl is.target.1 refl
+    ∙ version_goes h.minor (end ++ (section ++ rest)) (n2 + 1) 0 n3 is.minor refl
+    ∙ line_ends h.line_end (section ++ rest) n3 0 n4 refl
+    ∙ fresh_section h.fields h.last rest n4 (0 + 1) (length (print_request h)) (length h.fields + 1) is.fields size (omega arith)
     )

@@ -55,7 +55,7 @@ head_not_refused bytes e h n r x (inl none) = end_not_none bytes e x.ends none.0
 head_not_refused bytes e h n r x (inr y) =
     let same = one_end bytes e y.0 x.ends y.1 in
     plain_not_refused (take y.0.length bytes) y.0.lines h n r
-        (subst (λ (v : Extent). IsPlainHead (take v.length bytes) v.lines h n) same x.head) y.2
+    (subst (λ (v : Extent). IsPlainHead (take v.length bytes) v.lines h n) same x.head) y.2
 
 pub short_not_refused : (bytes : List ℕ) (r : Refusal) → IsShort bytes → IsRefused bytes r → ⊥
 short_not_refused bytes r (inl none) (inl many) = omega (arith, none.1, many.1)
@@ -76,7 +76,7 @@ one_front_refusal bytes r q (inr x) (inl y) = absurd (end_not_none bytes x.0 x.1
 one_front_refusal bytes r q (inr x) (inr y) =
     let same = one_end bytes x.0 y.0 x.1 y.1 in
     one_refusal (take y.0.length bytes) y.0.lines r q
-        (subst (λ (v : Extent). RefusesHead (take v.length bytes) v.lines r) same x.2) y.2
+    (subst (λ (v : Extent). RefusesHead (take v.length bytes) v.lines r) same x.2) y.2
 
 -- the frame of a head and its body
 plain_frame : List ℕ → Extent → RequestHead → ℕ → PlainFrame
@@ -115,8 +115,11 @@ pub refused_more : (bytes more : List ℕ) (r : Refusal) → IsRefused bytes r �
 refused_more bytes more r (inl x) =
     let longer = length-append bytes more in
     inl (no_end_more bytes more x.0 x.1, omega (arith, longer, x.1), x.2)
-refused_more bytes more r (inr x) = inr (x.0, end_more bytes more x.0 x.1,
-    subst (λ (t : List ℕ). RefusesHead t x.0.lines r) (sym (front_more bytes more x.0 x.1)) x.2)
+refused_more bytes more r (inr x) = inr (
+  x.0,
+  end_more bytes more x.0 x.1,
+  subst (λ (t : List ℕ). RefusesHead t x.0.lines r) (sym (front_more bytes more x.0 x.1)) x.2,
+)
 
 body_more : (n m : ℕ) (bytes more : List ℕ) → n + m ≤ length bytes → take m (drop n (bytes ++ more)) ≡ take m (drop n bytes)
 body_more n m bytes more fits =

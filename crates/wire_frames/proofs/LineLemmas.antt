@@ -83,4 +83,3 @@ full_step rest text behind n k m all cut blank e =
     ap (λ (t : List ℕ). extent_from (place_behind k) n k t) cut
     ∙ full_line text behind n k m all blank e
     ∙ ap (λ (v : ℕ). extent_from (place_behind v) m (k + 1) behind) (sym (add-one k))
-

@@ -29,16 +29,16 @@ read_of head lines len request extent some =
     record {
       h = h;
       reads = subst (ReadsRequest head h) (whole_head head (drop len head) lines h extent x.reads).0 x.reads;
-      holds = record { method = x.method; path = x.path; version = x.version; fields = x.fields; };
+      holds = record { method = x.method; path = x.path; version = x.version; fields = x.fields };
     }
 
 good_of : (head : List ℕ) (h : RequestHead) (n : ℕ) → ReadsRequest head h [] → GiveBody h.minor (fields_of h) n → IsGoodHead head h n
-good_of head h n reads gives = record { reads = reads; host = gives.host; length = gives.length; }
+good_of head h n reads gives = record { reads = reads; host = gives.host; length = gives.length }
 
 gives_of : (head : List ℕ) (h k : RequestHead) (n : ℕ) → ReadsRequest head h [] → IsGoodHead head k n → GiveBody h.minor (fields_of h) n
 gives_of head h k n reads good =
     let same = (request_unique head k h [] [] good.reads reads).0 in
-    subst (λ (g : RequestHead). GiveBody g.minor (fields_of g) n) same (record { host = good.host; length = good.length; })
+    subst (λ (g : RequestHead). GiveBody g.minor (fields_of g) n) same (record { host = good.host; length = good.length })
 
 pub refuses_of : (head : List ℕ) (lines : ℕ) (h : RequestHead) (r : Refusal) → lines ≤ 65 → ReadsRequest head h []
     → RefuseHead h.minor (fields_of h) r → RefusesHead head lines r
@@ -50,12 +50,16 @@ refuses_of head lines h r few reads x = absurd x
 
 pub parts_of : (head : List ℕ) (lines : ℕ) (h : RequestHead) (parts : Parts) → lines ≤ 65 → ReadsRequest head h []
     → ArePartsOf h parts → AreParts head lines parts
-parts_of head lines h parts few reads x = (h, record {
-  few = few;
-  good = good_of head h parts.body reads x.frames.gives;
-  plain = x.frames.plain;
-  small = x.frames.small;
-}, x)
+parts_of head lines h parts few reads x = (
+  h,
+  record {
+    few = few;
+    good = good_of head h parts.body reads x.frames.gives;
+    plain = x.frames.plain;
+    small = x.frames.small;
+  },
+  x,
+)
 
 -- ---- the judgement of what was read, carried over to the head
 
@@ -71,9 +75,9 @@ err_of head lines request (Ok parts) few read x = tt
 err_of head lines request (Err refusal) few read x = refuses_of head lines read.h refusal few read.reads (x read.h read.holds)
 
 -- more fields than there is room for want more lines than there are
-pub overflow_bad : (head : List ℕ) (lines : ℕ) → head_extent head ≡ extent_of (length head) lines → lines ≤ 65
-    → RequestOverflows 64 head → (h : RequestHead) (n : ℕ) → ¬ IsGoodHead head h n
-overflow_bad head lines extent few overflows h n good =
+pub overflow_bad : (head : List ℕ) (lines room : ℕ) → head_extent head ≡ extent_of (length head) lines → lines ≤ room + 1
+    → RequestOverflows room head → (h : RequestHead) (n : ℕ) → ¬ IsGoodHead head h n
+overflow_bad head lines room extent few overflows h n good =
     let count = (whole_head head [] lines h extent good.reads).1 in
     let many = overflows [] h [] (subst (λ (t : List ℕ). ReadsRequest t h []) (sym (append-nil head)) good.reads) in
     omega (arith, count, many)

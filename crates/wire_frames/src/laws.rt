@@ -29,5 +29,5 @@ pub fn short_law()
 /// A head of the grammar ends where its print ends, whatever follows, with a line for its start and one for each field.
 pub fn head_extent_law()
     ensures { (h : RequestHead) (rest : List ℕ) → IsRequestHead h → head_extent (print_request h ++ rest)
-        ≡ Some (record { length = length (print_request h); lines = length h.fields + 1; }) }
+        ≡ Some (record { length = length (print_request h); lines = length h.fields + 1 }) }
 {}

@@ -7,6 +7,8 @@ mod heads;
 mod laws;
 mod parts;
 mod refusals;
+#[cfg(test)]
+mod tests;
 
 pub use fields::Named;
 pub use framing::{Framed, Framing, frame};

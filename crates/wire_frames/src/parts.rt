@@ -1,6 +1,6 @@
 //! A whole head, read and judged.
 
-ghost use Rattle.std.specs.Prelude.{◌≡◌, ℕ, Some, IfErr, IfOk, length, map};
+ghost use Rattle.std.specs.Prelude.{◌≡◌, ◌+◌, ◌≤◌, ℕ, Some, IfErr, IfOk, length, map};
 ghost use Rattle.httparse.specs.Borrowed.{header_parts};
 ghost use Rattle.httparse.specs.Grammar.{RequestHead};
 ghost use Rattle.wire_frames.specs.Fields.{fields_of};
@@ -8,12 +8,14 @@ ghost use Rattle.wire_frames.specs.Frames.{RefusesHead};
 ghost use Rattle.wire_frames.specs.Heads.{head_extent};
 ghost use Rattle.wire_frames.specs.Reading.{AreParts, ArePartsOf, FrameBody, Holds, RefuseHead};
 
-use httparse::{EMPTY_HEADER, Header, Request, Status};
-
 use crate::fields::{Named, body_length, find_named, has_coding, has_one_host, lists_close};
 use crate::refusals::Refusal;
+use httparse::{EMPTY_HEADER, Header, Request, Status};
 
 const MAX_FIELDS: usize = 64;
+
+const FEW_FIELDS: usize = 16;
+
 const MAX_BODY: u64 = 65_536;
 
 /// The parts of a head that isn't refused.
@@ -73,21 +75,39 @@ fn judge<'b>(request: &Request<'_, 'b>) -> Result<Parts<'b>, Refusal>
     })
 }
 
-/// What a whole head of so many lines comes to.
-pub(crate) fn read_head<'b>(head: &'b [u8], lines: usize) -> Result<Parts<'b>, Refusal>
-    requires { head_extent head.now ≡ Some (record { length = length head.now; lines = lines; }) }
+/// What a whole head of so many lines comes to, read into this room.
+fn read_into<'b>(
+    head: &'b [u8],
+    lines: usize,
+    headers: &mut [Header<'b>],
+) -> Result<Parts<'b>, Refusal>
+    requires whole { head_extent head.now ≡ Some (record { length = length head.now; lines = lines }) }
+    requires few { lines ≤ 65 }
+    requires room { lines ≤ length headers.old + 1 }
     ensures ok { IfOk result (AreParts head.now lines) }
     ensures err { IfErr result (RefusesHead head.now lines) }
 {
-    // A line for the request and one for each field: what passes has room in the headers.
-    if lines > MAX_FIELDS + 1 {
-        return Err(Refusal::HeadTooLarge);
-    }
-    let mut headers = [EMPTY_HEADER; MAX_FIELDS];
-    let mut request = Request::new(&mut headers);
+    let mut request = Request::new(headers);
     match request.parse(head) {
         Ok(Status::Complete(_)) => judge(&request),
         Ok(Status::Partial) => Err(Refusal::BadHead),
         Err(_) => Err(Refusal::BadHead),
+    }
+}
+
+/// What a whole head of so many lines comes to. A line is the request's, and each other has one field.
+pub(crate) fn read_head<'b>(head: &'b [u8], lines: usize) -> Result<Parts<'b>, Refusal>
+    requires { head_extent head.now ≡ Some (record { length = length head.now; lines = lines }) }
+    ensures ok { IfOk result (AreParts head.now lines) }
+    ensures err { IfErr result (RefusesHead head.now lines) }
+{
+    if lines > MAX_FIELDS + 1 {
+        return Err(Refusal::HeadTooLarge);
+    }
+    // Most heads have few fields, and to empty the greater room would take longer than to read them.
+    if lines > FEW_FIELDS + 1 {
+        read_into(head, lines, &mut [EMPTY_HEADER; MAX_FIELDS])
+    } else {
+        read_into(head, lines, &mut [EMPTY_HEADER; FEW_FIELDS])
     }
 }

@@ -34,7 +34,7 @@ loop-byte-preserved c =
     let more = digits_value_more 10 c.args.value.now c.loop-byte.byte-index c.loop-byte-test.true in (
       omega (arith, more, digit, c.loop-byte.invariant.0),
       list_all_more is_ascii_digit c.args.value.now c.loop-byte.byte-index 0 c.loop-byte-test.true
-        ∙ grind (arith, c.loop-byte.invariant.1, c.if-not-is_ascii_digit.ensures.value),
+          ∙ grind (arith, c.loop-byte.invariant.1, c.if-not-is_ascii_digit.ensures.value),
       c.loop-byte.invariant.2,
       larger _ _ _ c.loop-byte.invariant.3 nine,
     )

@@ -13,14 +13,14 @@ pub returns-in_default : goal.returns-in_default
 returns-in_default c =
     let none : HasNoEnd c.args.bytes.now = ap head_extent (sym c.first.ensures) ∙ sym c.find_head.ensures ∙ c.in_default.is in
     let k = exact c.args.bytes.now c.frame_endless.result
-        (endless_frames c.args.bytes.now c.frame_endless.result none c.frame_endless.ensures.short c.frame_endless.ensures.long) in
-    record { more = k.more; fault = k.fault; framed = k.framed; short = k.short; refused = k.refused; whole = k.whole; }
+    (endless_frames c.args.bytes.now c.frame_endless.result none c.frame_endless.ensures.short c.frame_endless.ensures.long) in
+    record { more = k.more; fault = k.fault; framed = k.framed; short = k.short; refused = k.refused; whole = k.whole }
 
 pub read_head-requires : goal.read_head-requires
 read_head-requires c =
     let ends : HasEnd c.args.bytes.now c.in-Some.extent = ap head_extent (sym c.first.ensures) ∙ sym c.find_head.ensures ∙ c.in-Some.is in
     subst (λ (t : List ℕ). head_extent t ≡ extent_of (length t) c.in-Some.extent.lines) (sym c.first-2.ensures)
-        (front_of c.args.bytes.now c.in-Some.extent ends).whole
+    (front_of c.args.bytes.now c.in-Some.extent ends).whole
 
 pub frame_body-requires-clause-head : goal.frame_body-requires-clause-head
 frame_body-requires-clause-head c =
@@ -32,13 +32,13 @@ returns-in-Ok c =
     let ends : HasEnd c.args.bytes.now c.in-Some.extent = ap head_extent (sym c.first.ensures) ∙ sym c.find_head.ensures ∙ c.in-Some.is in
     let parts = subst (λ (t : List ℕ). AreParts t c.in-Some.extent.lines c.in-Ok.parts) c.first-2.ensures c.in-Ok.ensures.ok in
     let k = exact c.args.bytes.now c.frame_body.result
-        (body_frames c.args.bytes.now c.in-Some.extent c.in-Ok.parts c.frame_body.result ends parts c.frame_body.ensures) in
-    record { more = k.more; fault = k.fault; framed = k.framed; short = k.short; refused = k.refused; whole = k.whole; }
+    (body_frames c.args.bytes.now c.in-Some.extent c.in-Ok.parts c.frame_body.result ends parts c.frame_body.ensures) in
+    record { more = k.more; fault = k.fault; framed = k.framed; short = k.short; refused = k.refused; whole = k.whole }
 
 pub returns-in-Err : goal.returns-in-Err
 returns-in-Err c =
     let ends : HasEnd c.args.bytes.now c.in-Some.extent = ap head_extent (sym c.first.ensures) ∙ sym c.find_head.ensures ∙ c.in-Some.is in
     let refuses = subst (λ (t : List ℕ). RefusesHead t c.in-Some.extent.lines c.in-Err.refusal) c.first-2.ensures c.in-Err.ensures.err in
     let k = exact c.args.bytes.now (Framing.Fault c.in-Err.refusal)
-        (refused_frames c.args.bytes.now c.in-Some.extent c.in-Err.refusal ends refuses) in
-    record { more = k.more; fault = k.fault; framed = k.framed; short = k.short; refused = k.refused; whole = k.whole; }
+    (refused_frames c.args.bytes.now c.in-Some.extent c.in-Err.refusal ends refuses) in
+    record { more = k.more; fault = k.fault; framed = k.framed; short = k.short; refused = k.refused; whole = k.whole }

@@ -13,8 +13,8 @@ loop-line-preserved-then-not-is_blank_line c =
     record {
       few = omega (arith, size, few);
       same = c.loop-line.invariant.same
-        ∙ full_step c.loop-line.rest.now c.in-Some.line.now c.in-Some.behind.now
-            _ c.loop-line.lines _ cut.0 cut.1 (sym c.is_blank_line.ensures ∙ c.if-not-is_blank_line.true) (omega (arith, size, few));
+          ∙ full_step c.loop-line.rest.now c.in-Some.line.now c.in-Some.behind.now
+          _ c.loop-line.lines _ cut.0 cut.1 (sym c.is_blank_line.ensures ∙ c.if-not-is_blank_line.true) (omega (arith, size, few));
     }
 
 pub returns : goal.returns
