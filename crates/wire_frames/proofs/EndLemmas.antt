@@ -1,14 +1,8 @@
 -- What the end of a head says of the bytes in front of it, and that it stays where it is.
-use Rattle.std.proofs.Common.{◌≡◌, ◌≢◌, ℕ, zero, suc, ◌+◌, ◌<◌, ◌≤◌, Bool, true, false, ◌||◌, ◌==◌, if◌then◌else◌, List, [], ◌∷◌, ◌++◌, length, take, drop, refl, sym, ap, ◌∙◌, subst, arith, append_assoc, append-nil, length-append, Option, Some, None}
-use Rattle.std.proofs.lemmas.List.Elements.{All-head, All-tail}
-use Rattle.std.specs.Prelude.{All}
-use Rattle.std.proofs.lemmas.Bool.{false≢true, ne_eqb}
-use Rattle.std.specs.List.{flat_map}
-use Rattle.httparse.specs.Grammar.{is_token_byte, is_uri_byte, is_value_byte, AllPass, LineEnd, crlf, lf, print_end, print_blank, print_version, Field, print_field, IsField, print_section, RequestHead, IsRequestHead, print_request, ReadsRequest}
-use Rattle.httparse.proofs.PieceLemmas.{print_field-append}
-use Rattle.httparse.proofs.GrammarLemmas.{print_request-append}
+use Rattle.std.proofs.Common.{◌≡◌, ℕ, zero, suc, ◌+◌, ◌<◌, ◌≤◌, Bool, true, false, if◌then◌else◌, List, [], ◌∷◌, ◌++◌, length, take, refl, sym, ap, ◌∙◌, arith, length-append, Option, Some, None}
+use Rattle.httparse.specs.Grammar.{RequestHead, print_request, ReadsRequest}
 use Rattle.wire_frames.specs.declared.heads.Extent.{Extent}
-use Rattle.wire_frames.specs.Heads.{Place, front, front_return, line, fresh, fresh_return, step, ends_head, ends_line, extent_from, head_extent}
+use Rattle.wire_frames.specs.Heads.{Place, step, ends_head, ends_line, extent_from, head_extent}
 use Rattle.wire_frames.proofs.HeadLemmas.{extent_of, request_extent}
 
 -- what an extent that was found says of the bytes

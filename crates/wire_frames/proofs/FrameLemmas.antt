@@ -1,11 +1,9 @@
 -- From what the calls below say of the front to what its answer says, and that each answer comes exactly where its fact holds.
-use Rattle.std.proofs.Common.{◌≡◌, ℕ, ◌+◌, ◌<◌, ◌≤◌, ◌⊎◌, inl, inr, List, [], ◌∷◌, ◌++◌, length, take, drop, refl, sym, ap, ◌∙◌, subst, arith, append-nil, length-append, Some, None}
+use Rattle.std.proofs.Common.{◌≡◌, ℕ, ◌+◌, ◌<◌, ◌≤◌, inl, inr, List, [], ◌∷◌, ◌++◌, length, take, drop, refl, sym, ap, ◌∙◌, subst, arith, append-nil, length-append}
 use Rattle.std.proofs.lemmas.Bool.{cases_lt}
 use Rattle.httparse.specs.Grammar.{RequestHead}
 use Rattle.wire_frames.specs.declared.fields.Named.{Named}
-use Rattle.wire_frames.specs.declared.framing.Framed.{Framed}
 use Rattle.wire_frames.specs.declared.framing.Framing.{Framing}
-use Rattle.wire_frames.specs.declared.framing.Framing.TheVariants as Framing
 use Rattle.wire_frames.specs.declared.heads.Extent.{Extent}
 use Rattle.wire_frames.specs.declared.parts.Parts.{Parts}
 use Rattle.wire_frames.specs.declared.refusals.Refusal.{Refusal}
@@ -13,7 +11,7 @@ use Rattle.wire_frames.specs.declared.refusals.Refusal.TheVariants.{HeadTooLarge
 use Rattle.http1.specs.Fields.{values_named}
 use Rattle.std.specs.Prelude.{codes}
 use Rattle.wire_frames.specs.Fields.{fields_of, closes}
-use Rattle.wire_frames.specs.Frames.{HasEnd, HasNoEnd, IsPlainHead, RefusesHead, HasHead, IsShort, IsRefused, PlainFrame, HasFrame}
+use Rattle.wire_frames.specs.Frames.{HasEnd, HasNoEnd, RefusesHead, HasHead, IsShort, IsRefused, PlainFrame, HasFrame}
 use Rattle.wire_frames.specs.Outcomes.{AreValues, ShowsFrame, WaitsFor, IfMore, IfFault, IfFramed, IsMore, IsFramedAnd}
 use Rattle.wire_frames.specs.Reading.{AreParts, FramesBody}
 use Rattle.wire_frames.proofs.FrontLemmas.{end_not_none, one_head, head_more}

@@ -1,14 +1,13 @@
 -- What stands at a front is one thing alone, and stays so whatever bytes follow.
-use Rattle.std.proofs.Common.{◌≡◌, ℕ, ◌+◌, ◌<◌, ◌≤◌, ◌⊎◌, inl, inr, List, [], ◌∷◌, ◌++◌, length, take, drop, refl, sym, ap, ◌∙◌, subst, arith, length-append, length-drop, Option, Some, None}
+use Rattle.std.proofs.Common.{◌≡◌, ℕ, ◌+◌, ◌<◌, ◌≤◌, inl, inr, List, ◌++◌, length, take, drop, refl, sym, ap, ◌∙◌, subst, arith, length-append, length-drop}
 use Rattle.std.proofs.lemmas.List.{take-append-le, drop-append-le}
 use Rattle.httparse.specs.Grammar.{RequestHead}
 use Rattle.wire_frames.specs.declared.heads.Extent.{Extent}
 use Rattle.wire_frames.specs.declared.refusals.Refusal.{Refusal}
-use Rattle.wire_frames.specs.declared.refusals.Refusal.TheVariants.{HeadTooLarge, BadHead, TransferCoding, BodyTooLarge, NoPath, Method, NotStaff, BadBody, BadQuery}
-use Rattle.wire_frames.specs.Heads.{head_extent}
+use Rattle.wire_frames.specs.declared.refusals.Refusal.TheVariants.{HeadTooLarge, BadHead, TransferCoding, BodyTooLarge}
 use Rattle.wire_frames.specs.Fields.{fields_of, HasCoding, closes}
-use Rattle.wire_frames.specs.Frames.{HasEnd, HasNoEnd, IsGoodHead, IsPlainHead, RefusesHead, HasHead, IsShort, IsRefused, PlainFrame, HasFrame}
-use Rattle.wire_frames.proofs.FrontLemmas.{IsFront, front_of, one_end, end_not_none, one_reading, one_head, end_more, no_end_more, front_more, head_more}
+use Rattle.wire_frames.specs.Frames.{IsGoodHead, IsPlainHead, RefusesHead, HasHead, IsShort, IsRefused, PlainFrame, HasFrame}
+use Rattle.wire_frames.proofs.FrontLemmas.{front_of, one_end, end_not_none, one_reading, one_head, end_more, no_end_more, front_more, head_more}
 
 -- ---- of a head
 

@@ -1,11 +1,9 @@
 -- A line at a time the reading of a head comes to the same as a byte at a time.
-use Rattle.std.proofs.Common.{◌≡◌, ℕ, zero, suc, ◌+◌, ◌<◌, ◌≤◌, Bool, true, false, not, ◌==◌, if◌then◌else◌, List, [], ◌∷◌, ◌++◌, length, take, drop, refl, sym, ap, ◌∙◌, arith, append-nil, length-append, add-one, Option, Some, None}
-use Rattle.std.proofs.lemmas.Bool.Decides.{nat_tests}
+use Rattle.std.proofs.Common.{◌≡◌, ℕ, zero, suc, ◌+◌, Bool, true, false, not, ◌==◌, List, [], ◌∷◌, ◌++◌, length, refl, sym, ap, ◌∙◌, arith, length-append, add-one, None}
 use Rattle.std.proofs.lemmas.List.Elements.{All-head, All-tail}
-use Rattle.httparse.specs.Grammar.{AllPass}
-use Rattle.wire_frames.specs.Heads.{Place, front, front_return, line, fresh, fresh_return, step, ends_head, ends_line, extent_from}
+use Rattle.wire_frames.specs.Heads.{Place, front, front_return, line, fresh, fresh_return, extent_from}
 use Rattle.wire_frames.specs.Lines.{IsUnbroken, is_blank_line, place_behind}
-use Rattle.wire_frames.proofs.HeadLemmas.{extent_of, line_goes}
+use Rattle.wire_frames.proofs.HeadLemmas.{line_goes}
 
 no_feed : (b : ℕ) → not (b == 10) ≡ true → (b == 10) ≡ false
 no_feed b is = by_test (b == 10) is

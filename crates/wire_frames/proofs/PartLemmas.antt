@@ -1,17 +1,17 @@
 -- From what the parser and the fields say of a whole head to what it comes to.
-use Rattle.std.proofs.Common.{◌≡◌, ℕ, ◌+◌, ◌<◌, ◌≤◌, List, [], ◌∷◌, ◌++◌, length, drop, refl, sym, ap, ◌∙◌, subst, arith, append-nil, Option, Some, None, Result, Ok, Err, IfOk, IfErr}
+use Rattle.std.proofs.Common.{◌≡◌, ℕ, ◌+◌, ◌≤◌, List, [], length, drop, sym, subst, arith, append-nil, Result, Ok, Err, IfOk, IfErr}
 use Rattle.httparse.specs.declared.borrowed.Request.{Request}
-use Rattle.httparse.specs.Borrowed.{HoldsSomeRequest, HoldsRequest}
-use Rattle.httparse.specs.Grammar.{RequestHead, ReadsRequest, HasNoRequest}
+use Rattle.httparse.specs.Borrowed.{HoldsSomeRequest}
+use Rattle.httparse.specs.Grammar.{RequestHead, ReadsRequest}
 use Rattle.httparse.specs.Spans.{RequestOverflows}
 use Rattle.httparse.proofs.GrammarLemmas.{request_unique}
 use Rattle.wire_frames.specs.declared.refusals.Refusal.{Refusal}
-use Rattle.wire_frames.specs.declared.refusals.Refusal.TheVariants.{HeadTooLarge, BadHead, TransferCoding, BodyTooLarge, NoPath, Method, NotStaff, BadBody, BadQuery}
+use Rattle.wire_frames.specs.declared.refusals.Refusal.TheVariants.{HeadTooLarge, BadHead, TransferCoding, BodyTooLarge}
 use Rattle.wire_frames.specs.declared.parts.Parts.{Parts}
-use Rattle.wire_frames.specs.Fields.{fields_of, HasCoding}
-use Rattle.wire_frames.specs.Frames.{IsGoodHead, IsPlainHead, RefusesHead}
+use Rattle.wire_frames.specs.Fields.{fields_of}
+use Rattle.wire_frames.specs.Frames.{IsGoodHead, RefusesHead}
 use Rattle.wire_frames.specs.Heads.{head_extent}
-use Rattle.wire_frames.specs.Reading.{GiveBody, RefuseHead, FrameBody, Holds, ArePartsOf, AreParts}
+use Rattle.wire_frames.specs.Reading.{GiveBody, RefuseHead, Holds, ArePartsOf, AreParts}
 use Rattle.wire_frames.proofs.HeadLemmas.{extent_of}
 use Rattle.wire_frames.proofs.EndLemmas.{whole_head}
 

@@ -1,5 +1,5 @@
 -- How the code goes about the end of a head: a line at a time. No definition of the public contract.
-use Rattle.std.specs.Prelude.{◌≡◌, ℕ, zero, suc, ◌+◌, Bool, true, false, not, List, [], ◌∷◌, ◌==◌, take, drop, Option, Some, None}
+use Rattle.std.specs.Prelude.{ℕ, zero, suc, Bool, true, false, not, List, [], ◌∷◌, ◌==◌}
 use Rattle.httparse.specs.Grammar.{AllPass}
 use Rattle.wire_frames.specs.Heads.{Place, front, fresh}
 

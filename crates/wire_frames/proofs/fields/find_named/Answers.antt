@@ -1,7 +1,6 @@
-use Rattle.std.proofs.Common.{◌≡◌, ◌+◌, ◌++◌, List, [], ◌∷◌, ℕ, take, map, get_or, sym, ◌∙◌, ap, subst, if◌then◌else◌}
-use Rattle.std.proofs.lemmas.List.{append-nil}
+use Rattle.std.proofs.Common.{take, map, sym, subst}
 use Rattle.httparse.specs.Borrowed.{header_parts}
-use Rattle.http1.specs.Fields.{values_named, is_named}
+use Rattle.http1.specs.Fields.{values_named}
 use Rattle.wire_frames.specs.Outcomes.{AreValues}
 use Rattle.wire_frames.proofs.FieldLemmas.{values_yes, values_no}
 use Rattle.wire_frames.proofs.fields.find_named.Goals as goal

@@ -1,12 +1,12 @@
 -- Each answer says what its call says of the head, and each comes exactly where its fact holds.
-use Rattle.std.proofs.Common.{◌≡◌, ℕ, ◌+◌, ◌≤◌, length, take, ap, subst, sym, ◌∙◌, arith, List, Some, None}
+use Rattle.std.proofs.Common.{◌≡◌, ℕ, length, ap, subst, sym, ◌∙◌, List}
 use Rattle.wire_frames.specs.Frames.{HasEnd, HasNoEnd, RefusesHead}
 use Rattle.wire_frames.specs.Heads.{head_extent}
 use Rattle.wire_frames.specs.Reading.{AreParts}
 use Rattle.wire_frames.specs.declared.framing.Framing.TheVariants as Framing
 use Rattle.wire_frames.proofs.HeadLemmas.{extent_of}
 use Rattle.wire_frames.proofs.FrontLemmas.{front_of}
-use Rattle.wire_frames.proofs.FrameLemmas.{IsExact, exact, endless_frames, body_frames, refused_frames}
+use Rattle.wire_frames.proofs.FrameLemmas.{exact, endless_frames, body_frames, refused_frames}
 use Rattle.wire_frames.proofs.framing.frame.Goals as goal
 
 pub returns-in_default : goal.returns-in_default

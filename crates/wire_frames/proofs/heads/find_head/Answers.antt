@@ -1,7 +1,5 @@
 -- A line that isn't empty leads from start to start, and without a LF nothing ends.
-use Rattle.std.proofs.Common.{◌≡◌, ◌∙◌, ℕ, length, sym, arith}
-use Rattle.wire_frames.specs.Heads.{extent_from}
-use Rattle.wire_frames.specs.Lines.{place_behind}
+use Rattle.std.proofs.Common.{◌∙◌, sym, arith}
 use Rattle.wire_frames.proofs.LineLemmas.{cut_length, full_step, no_end}
 use Rattle.wire_frames.proofs.heads.find_head.Goals as goal
 

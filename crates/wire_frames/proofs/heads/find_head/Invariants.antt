@@ -1,4 +1,4 @@
-use Rattle.std.proofs.Common.{◌≡◌, ℕ, ◌+◌, ◌-◌, ◌*◌, ◌<◌, ◌≤◌, length, drop}
+use Rattle.std.proofs.Common.{◌≡◌, ◌+◌, ◌-◌, ◌≤◌, length}
 use Rattle.wire_frames.specs.Heads.{head_extent, extent_from}
 use Rattle.wire_frames.specs.Lines.{place_behind}
 use Rattle.wire_frames.proofs.heads.find_head.Given as goal

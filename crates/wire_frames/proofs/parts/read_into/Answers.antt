@@ -1,5 +1,5 @@
 -- A complete answer is the whole head's; an error would want more fields than there are lines.
-use Rattle.std.proofs.Common.{◌≡◌, ℕ, ◌≤◌, length, ap, arith}
+use Rattle.std.proofs.Common.{◌≡◌, length, ap, arith}
 use Rattle.httparse.specs.Borrowed.{HoldsSomeRequest}
 use Rattle.httparse.proofs.HeadLemmas.{at_complete}
 use Rattle.wire_frames.proofs.PartLemmas.{read_of, ok_of, err_of, overflow_bad}
