@@ -1,5 +1,5 @@
 -- How an index keeps its places: the code's own machinery, which no public contract cites.
-use Rattle.std.specs.Prelude.{◌≡◌, ℕ, ◌<◌, ◌==◌, List, [], ◌∷◌, Option, Some, None, if◌then◌else◌, Contains, slice_get}
+use Rattle.std.specs.Prelude.{◌≡◌, ℕ, ◌<◌, ◌≤◌, ◌==◌, List, [], ◌∷◌, Option, Some, None, if◌then◌else◌, Contains, slice_get, slice_index_or, length}
 use Rattle.std.specs.List.Sorted.{IsNonDecreasingBy}
 use Rattle.venue_types.specs.declared.feature_id.FeatureId.{FeatureId}
 use Rattle.sound_rows.specs.declared.index.Entry.{Entry}
@@ -7,6 +7,11 @@ use Rattle.sound_rows.specs.declared.index.Entry.{Entry}
 -- the identifiers rise
 abbrev pub AreRising : List Entry → Type 0
 AreRising entries = IsNonDecreasingBy (λ (e : Entry). e.id.0) entries
+
+-- the identifiers of the first entries, so many, are less than this one, and no others
+pub record IsFront (entries : List Entry) (id : FeatureId) (count : ℕ) : Type 0 where
+  pub less : (k : ℕ) (d : Entry) → k < count → (slice_index_or entries k d).id.0 < id.0
+  pub rest : (k : ℕ) (d : Entry) → count ≤ k → k < length entries → id.0 ≤ (slice_index_or entries k d).id.0
 
 -- the place of the first entry with this identifier
 abbrev pub place_in : List Entry → FeatureId → Option ℕ

@@ -1,7 +1,7 @@
 //! Where rows stand, by identifier.
 
 ghost use Rattle.std.specs.Prelude.{IfOk, length, map};
-ghost use Rattle.sound_rows.specs.Entries.{AreRising, AreEntries};
+ghost use Rattle.sound_rows.specs.Entries.{AreRising, AreEntries, IsFront};
 
 use crate::has_id::HasId;
 use std::alloc::Global;
@@ -28,6 +28,14 @@ fn entries_of<R: HasId>(alloc: Global, rows: &[R]) -> Result<Vec<Entry>, OutOfMe
     Ok(entries)
 }
 
+// How many of the entries have a lesser identifier: those in front.
+fn lesser_count(entries: &[Entry], id: FeatureId) -> usize
+    requires { AreRising entries.now }
+    ensures { IsFront entries.now id result }
+{
+    entries.partition_point(|entry| entry.id.0 < id.0)
+}
+
 /// The places of some rows by their identifiers, in one sorted vector: 32 bytes a row.
 #[derive(Drop)]
 pub struct Index {
@@ -52,10 +60,11 @@ impl Index {
     pub fn place_of(&self, id: FeatureId) -> Option<usize>
         ensures { result ≡ place_of self.now id }
     {
-        let at = self.entries.partition_point(|entry| entry.id.0 < id.0);
-        match self.entries.get(at) {
-            Some(entry) if entry.id == id => Some(entry.place),
-            _ => None,
+        let first = self.entries.get(lesser_count(&self.entries, id))?;
+        if first.id == id {
+            Some(first.place)
+        } else {
+            None
         }
     }
 }
