@@ -7,13 +7,6 @@ use Rattle.plane_exact.proofs.ListLemmas.{drop_at, any_here, any_past, any_left,
 pub at_place : {X : Type 0} (xs : List X) (i : ℕ) (x : X) → i < length xs → x ≡ get_or xs i x → Contains xs x
 at_place xs i x within is = (i, within, sym is)
 
-pub Contains-map : {X Y : Type 0} (f : X → Y) (xs : List X) (x : X) → Contains xs x → Contains (map f xs) (f x)
-Contains-map f [] x h = absurd (Contains-nil x h)
-Contains-map {X} {Y} f (z ∷ zs) x h = elim (Contains-cons_cases z zs x h) [
-  | inl here ↦ subst (λ (w : X). Contains (map f (z ∷ zs)) (f w)) here (Contains-first (f z) (map f zs))
-  | inr there ↦ Contains-later (f z) (map f zs) (f x) (Contains-map f zs x there)
-]
-
 pub Contains-flat_map : {X Y : Type 0} (f : X → List Y) (xs : List X) (x : X) (y : Y) → Contains xs x → Contains (f x) y → Contains (flat_map f xs) y
 Contains-flat_map f [] x y h k = absurd (Contains-nil x h)
 Contains-flat_map {X} {Y} f (z ∷ zs) x y h k = elim (Contains-cons_cases z zs x h) [
