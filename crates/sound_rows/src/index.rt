@@ -36,7 +36,7 @@ fn lesser_count(entries: &[Entry], id: FeatureId) -> usize
     entries.partition_point(|entry| entry.id.0 < id.0)
 }
 
-/// The places of some rows by their identifiers, in one sorted vector: 32 bytes a row.
+/// The places of some rows by their identifiers, in one sorted vector.
 #[derive(Drop)]
 pub struct Index {
     entries: Vec<Entry>,
