@@ -7,13 +7,6 @@ use Rattle.plane_exact.proofs.ListLemmas.{drop_at, any_here, any_past, any_left,
 pub at_place : {X : Type 0} (xs : List X) (i : ℕ) (x : X) → i < length xs → x ≡ get_or xs i x → Contains xs x
 at_place xs i x within is = (i, within, sym is)
 
-pub Contains-flat_map : {X Y : Type 0} (f : X → List Y) (xs : List X) (x : X) (y : Y) → Contains xs x → Contains (f x) y → Contains (flat_map f xs) y
-Contains-flat_map f [] x y h k = absurd (Contains-nil x h)
-Contains-flat_map {X} {Y} f (z ∷ zs) x y h k = elim (Contains-cons_cases z zs x h) [
-  | inl here ↦ Contains-append_left (f z) (flat_map f zs) y (subst (λ (w : X). Contains (f w) y) (sym here) k)
-  | inr there ↦ Contains-append_right (f z) (flat_map f zs) y (Contains-flat_map f zs x y there k)
-]
-
 -- the item with the property, and back
 pub any_item : {X : Type 0} (P : X → Type 0) (xs : List X) → Any P xs → (x : X) × Contains xs x × P x
 any_item P xs (k, x, within, at, h) = (x, (k, within, at), h)
