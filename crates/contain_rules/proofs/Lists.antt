@@ -1,7 +1,5 @@
 -- What stands in lists of lists, and what of a list an item has.
-use Rattle.std.proofs.Common.{◌≡◌, ◌∙◌, ℕ, ◌+◌, ◌<◌, Bool, true, false, IsTrue, List, [], ◌∷◌, length, get_or, drop, map, Any, Contains, ◌↔◌, flat_map, refl, sym, subst, ◌⊎◌, inl, inr}
-use Rattle.std.proofs.lemmas.List.Elements.{Contains-append_left, Contains-append_right}
-use Rattle.report_laws.proofs.Members.{Contains-nil, Contains-first, Contains-later, Contains-cons_cases}
+use Rattle.std.proofs.Common.{◌≡◌, ◌∙◌, ℕ, ◌+◌, ◌<◌, Bool, true, false, IsTrue, List, length, get_or, drop, Any, Contains, ◌↔◌, flat_map, refl, sym, ◌⊎◌, inl, inr}
 use Rattle.plane_exact.proofs.ListLemmas.{drop_at, any_here, any_past, any_left, any_past_all}
 
 pub at_place : {X : Type 0} (xs : List X) (i : ℕ) (x : X) → i < length xs → x ≡ get_or xs i x → Contains xs x

@@ -1,6 +1,6 @@
 //! What holds what in a folder.
 
-ghost use Rattle.std.specs.Prelude.{◌≡◌, OnOk, ◌≤◌, length};
+ghost use Rattle.std.specs.Prelude.{OnOk, ◌≤◌, length};
 ghost use Rattle.report_laws.specs.Passes.{Adds};
 ghost use Rattle.sound_rows.specs.Rows.{HaveOwnIds};
 ghost use Rattle.sound_rows.specs.Sound.{AreSound};
@@ -11,28 +11,24 @@ ghost use Rattle.contain_rules.specs.Judging.{BreaksIn, CanJudge};
 
 use crate::holders::Holders;
 use crate::rows::HasHolder;
-use crate::rules::HoldRule;
 use report_laws::add;
 use std::alloc::Global;
-use venue_types::{Features, Finding, List, OutOfMemory};
+use venue_types::{AmenityRow, AnchorRow, Features, Finding, OpeningRow, OutOfMemory, UnitRow};
 
-/// Adds which rows of a file leave what is to hold them.
+/// Adds which rows of a file aren't held by what is to hold them.
 fn judge<R: HasHolder>(
     features: &Features,
     holders: &Holders,
     tolerance: u32,
-    rule: HoldRule,
-    rows: &List<R>,
     findings: &mut Vec<Finding>,
 ) -> Result<(), OutOfMemory>
     requires ready { CanJudge features.now tolerance holders.now }
-    requires own { R.rows_of features.now ≡ rows.now }
-    requires few { length rows.now ≤ 100000 }
-    ensures { OnOk result (Adds (BreaksIn (R.leaves features.now tolerance) rows.now rule) findings.old.items findings.new.items) }
+    requires few { length (R.rows features.now) ≤ 100000 }
+    ensures { OnOk result (Adds (BreaksIn (R.leaves features.now tolerance) (R.rows features.now) R.rule) findings.old.items findings.new.items) }
 {
-    for (k, row) in rows.as_slice().iter().enumerate() {
+    for (k, row) in R::rows(features).as_slice().iter().enumerate() {
         let leaves = row.leaves(features, holders, tolerance);
-        add(findings, leaves, rule.finding(k))?;
+        add(findings, leaves, R::rule().finding(k))?;
     }
     Ok(())
 }
@@ -55,36 +51,8 @@ pub fn add_hold_findings(
     ensures { OnOk result (Adds (BreaksHold features.now tolerance) findings.old.items findings.new.items) }
 {
     let holders = Holders::of(alloc, features)?;
-    judge(
-        features,
-        &holders,
-        tolerance,
-        HoldRule::K1,
-        &features.units,
-        findings,
-    )?;
-    judge(
-        features,
-        &holders,
-        tolerance,
-        HoldRule::K2,
-        &features.anchors,
-        findings,
-    )?;
-    judge(
-        features,
-        &holders,
-        tolerance,
-        HoldRule::K3,
-        &features.amenities,
-        findings,
-    )?;
-    judge(
-        features,
-        &holders,
-        tolerance,
-        HoldRule::K4,
-        &features.openings,
-        findings,
-    )
+    judge::<UnitRow>(features, &holders, tolerance, findings)?;
+    judge::<AnchorRow>(features, &holders, tolerance, findings)?;
+    judge::<AmenityRow>(features, &holders, tolerance, findings)?;
+    judge::<OpeningRow>(features, &holders, tolerance, findings)
 }

@@ -2,35 +2,59 @@
 
 ghost use Rattle.std.specs.Prelude.{◌≡◌, ◌↔◌, ℕ, List, IsTrue, Contains};
 ghost use Rattle.venue_types.specs.declared.features.Features.{Features};
+ghost use Rattle.contain_rules.specs.declared.rules.HoldRule.{HoldRule};
 ghost use Rattle.contain_rules.specs.Judging.{CanJudge, UnitHolds, OneHolds};
 
 use crate::holders::Holders;
 use crate::leaving::{figure_leaves, is_held, some_leaves};
+use crate::rules::HoldRule;
 use sound_rows::{amenity_point_law, anchor_point_law, opening_point_law, unit_vertex_law};
-use venue_types::{AmenityRow, AnchorRow, FeatureId, Features, OpeningRow, UnitRow};
+use venue_types::{AmenityRow, AnchorRow, FeatureId, Features, List, OpeningRow, UnitRow};
 
 /// A row of a feature that another is to hold.
 pub(crate) trait HasHolder {
+    /// The rule that it breaks where it isn't held.
+    ghost rule: { HoldRule };
+
     /// The rows of its file.
-    ghost rows_of: { Features → List Self };
+    ghost rows: { Features → List Self };
 
     /// Whether it isn't held, within the tolerance.
     ghost leaves: { Features → ℕ → Self → Type 0 };
 
+    /// The rule that it breaks.
+    fn rule() -> HoldRule
+        ensures { result ≡ rule };
+
+    /// The rows of its file.
+    fn rows(features: &Features) -> &List<Self>
+        ensures { result.now ≡ rows features.now };
+
     /// Whether it isn't held.
     fn leaves(&self, features: &Features, holders: &Holders, tolerance: u32) -> bool
         requires ready { CanJudge features.now tolerance holders.now }
-        requires own { Contains (rows_of features.now) self.now }
+        requires own { Contains (rows features.now) self.now }
         ensures { IsTrue result ↔ leaves features.now tolerance self.now };
 }
 
 /// A unit, whose vertices its level is to hold.
 impl HasHolder for UnitRow {
+    ghost use Rattle.contain_rules.specs.declared.rules.HoldRule.TheVariants.{K1};
     ghost use Rattle.contain_rules.specs.Rules.{UnitLeaves};
 
-    ghost rows_of = { λ features. features.units };
+    ghost rule = { K1 };
+
+    ghost rows = { λ features. features.units };
 
     ghost leaves = { UnitLeaves };
+
+    fn rule() -> HoldRule {
+        HoldRule::K1
+    }
+
+    fn rows(features: &Features) -> &List<UnitRow> {
+        &features.units
+    }
 
     fn leaves(&self, features: &Features, holders: &Holders, tolerance: u32) -> bool {
         unit_vertex_law();
@@ -43,11 +67,22 @@ impl HasHolder for UnitRow {
 
 /// An anchor, whose point its unit is to hold.
 impl HasHolder for AnchorRow {
+    ghost use Rattle.contain_rules.specs.declared.rules.HoldRule.TheVariants.{K2};
     ghost use Rattle.contain_rules.specs.Rules.{AnchorLeaves};
 
-    ghost rows_of = { λ features. features.anchors };
+    ghost rule = { K2 };
+
+    ghost rows = { λ features. features.anchors };
 
     ghost leaves = { AnchorLeaves };
+
+    fn rule() -> HoldRule {
+        HoldRule::K2
+    }
+
+    fn rows(features: &Features) -> &List<AnchorRow> {
+        &features.anchors
+    }
 
     fn leaves(&self, features: &Features, holders: &Holders, tolerance: u32) -> bool {
         anchor_point_law();
@@ -98,11 +133,22 @@ fn one_holds(
 
 /// An amenity, whose point one of its units is to hold.
 impl HasHolder for AmenityRow {
+    ghost use Rattle.contain_rules.specs.declared.rules.HoldRule.TheVariants.{K3};
     ghost use Rattle.contain_rules.specs.Rules.{AmenityLeaves};
 
-    ghost rows_of = { λ features. features.amenities };
+    ghost rule = { K3 };
+
+    ghost rows = { λ features. features.amenities };
 
     ghost leaves = { AmenityLeaves };
+
+    fn rule() -> HoldRule {
+        HoldRule::K3
+    }
+
+    fn rows(features: &Features) -> &List<AmenityRow> {
+        &features.amenities
+    }
 
     fn leaves(&self, features: &Features, holders: &Holders, tolerance: u32) -> bool {
         !one_holds(features, holders, tolerance, self, self.units.as_slice())
@@ -111,11 +157,22 @@ impl HasHolder for AmenityRow {
 
 /// An opening, whose points its level is to hold.
 impl HasHolder for OpeningRow {
+    ghost use Rattle.contain_rules.specs.declared.rules.HoldRule.TheVariants.{K4};
     ghost use Rattle.contain_rules.specs.Rules.{OpeningLeaves};
 
-    ghost rows_of = { λ features. features.openings };
+    ghost rule = { K4 };
+
+    ghost rows = { λ features. features.openings };
 
     ghost leaves = { OpeningLeaves };
+
+    fn rule() -> HoldRule {
+        HoldRule::K4
+    }
+
+    fn rows(features: &Features) -> &List<OpeningRow> {
+        &features.openings
+    }
 
     fn leaves(&self, features: &Features, holders: &Holders, tolerance: u32) -> bool {
         opening_point_law();

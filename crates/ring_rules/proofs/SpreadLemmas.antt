@@ -1,5 +1,5 @@
 -- That two positions are close can be told, so it holds where it can't fail.
-use Rattle.std.proofs.Common.{ℕ, ℤ, pos, ◌+ℤ◌, ◌≤ℤ◌, arith}
+use Rattle.std.proofs.Common.{ℕ, ℤ, pos, ◌+ℤ◌, arith}
 use Rattle.std.proofs.lemmas.Int.{ints}
 use Rattle.venue_types.specs.declared.features.Features.{Features}
 use Rattle.venue_types.specs.declared.point.Point.{Point}

@@ -1,16 +1,10 @@
-use Rattle.std.proofs.Common.{List, flat_map, subst, sym}
+use Rattle.std.proofs.Common.{List, flat_map, subst}
 use Rattle.std.proofs.lemmas.List.Concat.{flat_map_single}
-use Rattle.std.proofs.lemmas.List.Folds.{flat_map-map}
 use Rattle.venue_types.specs.declared.features.AmenityRow.{AmenityRow}
 use Rattle.venue_types.specs.declared.features.AnchorRow.{AnchorRow}
-use Rattle.venue_types.specs.declared.features.FixtureRow.{FixtureRow}
-use Rattle.venue_types.specs.declared.features.FootprintRow.{FootprintRow}
-use Rattle.venue_types.specs.declared.features.LevelRow.{LevelRow}
 use Rattle.venue_types.specs.declared.features.UnitRow.{UnitRow}
-use Rattle.venue_types.specs.declared.features.VenueRow.{VenueRow}
 use Rattle.venue_types.specs.declared.point.Point.{Point}
 use Rattle.imdf_forms.specs.declared.files.File.TheVariants as file
-use Rattle.plane_exact.specs.Figure.{vertices}
 use Rattle.sound_rows.specs.Figures.{positions_of, display_of}
 use Rattle.ring_rules.specs.Bounds.{AreBounds}
 use Rattle.ring_rules.proofs.BoundsLemmas.{regroup}

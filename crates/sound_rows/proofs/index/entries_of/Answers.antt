@@ -1,7 +1,6 @@
-use Rattle.std.proofs.Common.{◌<◌, length, map, refl, arith, ◌∙◌, ap, List, ◌++◌, ◌∷◌, []}
+use Rattle.std.proofs.Common.{◌<◌, length, map, refl, arith, ◌∙◌, ap, ◌++◌, ◌∷◌, []}
 use Rattle.std.proofs.lemmas.Option.{slice_get_read}
 use Rattle.venue_types.specs.declared.feature_id.FeatureId.{FeatureId}
-use Rattle.sound_rows.specs.declared.index.Entry.{Entry}
 use Rattle.sound_rows.proofs.Entries.{entry, none_yet, one_more, enough}
 use Rattle.sound_rows.proofs.Lists.{at_map}
 use Rattle.sound_rows.proofs.index.entries_of.Goals as goal
