@@ -1,10 +1,10 @@
 -- A position beyond a side of a shape's frame is neither inside the shape nor near it.
-use Rattle.std.proofs.Common.{◌≡◌, ◌∙◌, ℕ, ◌+◌, ◌*◌, ◌%◌, ◌<◌, ◌≤◌, zero, suc, ℤ, pos, ◌+ℤ◌, ◌≤ℤ◌, ◌<ℤ◌, List, [], ◌∷◌, ◌++◌, length, get_or, take, Bool, true, false, cond, refl, sym, ap, subst, arith, ◌⊎◌, inl, inr, flat_map, map, Option, Some, None}
+use Rattle.std.proofs.Common.{◌≡◌, ◌∙◌, ℕ, ◌+◌, ◌*◌, ◌%◌, ◌<◌, ◌≤◌, zero, suc, ℤ, pos, ◌+ℤ◌, ◌≤ℤ◌, ◌<ℤ◌, List, [], ◌∷◌, ◌++◌, length, get_or, take, Bool, true, false, cond, refl, sym, ap, subst, arith, ◌⊎◌, inl, inr, flat_map, map, Some, None}
 use Rattle.std.specs.Prelude.{Contains, count_by, slice_get}
 use Rattle.std.specs.List.{AllZip}
 use Rattle.std.proofs.lemmas.Int.{ints, by_lt_z}
-use Rattle.std.proofs.lemmas.List.{take_more}
-use Rattle.std.proofs.lemmas.Option.{slice_get_within, slice_get_read}
+use Rattle.std.proofs.lemmas.List.{take_more, take_all, map-append}
+use Rattle.std.proofs.lemmas.Option.{slice_get_within, slice_get_read, same_Some}
 use Rattle.std.proofs.lemmas.List.Concat.{flat_map-append}
 use Rattle.std.proofs.lemmas.List.Sums.{sum_by-le}
 use Rattle.std.proofs.lemmas.List.Elements.{Contains-append_left, Contains-append_right, Contains-append_cases, All-contains_itself}
@@ -159,17 +159,11 @@ pub grows_point : (xs : List Point) (i : ℕ) (d : Point) (a b c : Frame) → i 
 grows_point xs i d a b c within before here = grows_more a b c (take i xs) (get_or xs i d ∷ []) (take (i + 1) xs) before here
     (λ p h. Contains-append_cases (take i xs) (get_or xs i d ∷ []) p (subst (λ (ps : List Point). Contains ps p) (take_more xs i d within) h))
 
-pub take_past : {X : Type 0} (xs : List X) (k : ℕ) → length xs ≤ k → take k xs ≡ xs
-take_past [] zero h = refl
-take_past [] (suc k) h = refl
-take_past (x ∷ xs) zero h = absurd (omega arith)
-take_past (x ∷ xs) (suc k) h = ap (λ ys. x ∷ ys) (take_past xs k (omega arith))
-
 pub grows_all : {X : Type 0} (f : X → List Point) (xs : List X) (k : ℕ) (a b : Frame) → length xs ≤ k → Grows a b (flat_map f (take k xs)) → Grows a b (flat_map f xs)
-grows_all {X} f xs k a b past h = subst (λ (ys : List X). Grows a b (flat_map f ys)) (take_past xs k past) h
+grows_all {X} f xs k a b past h = subst (λ (ys : List X). Grows a b (flat_map f ys)) (take_all k xs past) h
 
 pub grows_points : (xs : List Point) (k : ℕ) (a b : Frame) → length xs ≤ k → Grows a b (take k xs) → Grows a b xs
-grows_points xs k a b past h = subst (λ (ys : List Point). Grows a b ys) (take_past xs k past) h
+grows_points xs k a b past h = subst (λ (ys : List Point). Grows a b ys) (take_all k xs past) h
 
 -- ---- frames of shapes, place by place
 
@@ -183,21 +177,15 @@ pub zip_at : {A B : Type 0} (R : A → B → Type 0) (xs : List A) (ys : List B)
 zip_at R [] [] k x all e = absurd (let c : None ≡ Some x = e in cc)
 zip_at R [] (z ∷ ys) k x all e = absurd all
 zip_at R (w ∷ xs) [] k x all e = absurd all
-zip_at {A} {B} R (w ∷ xs) (z ∷ ys) zero x all e = let same : w ≡ x = some_same w x e in (z, refl, subst (λ (v : A). R v z) same all.0) where
-  some_same : (x y : A) → Some x ≡ Some y → x ≡ y
-  some_same x y e = cc
+zip_at {A} {B} R (w ∷ xs) (z ∷ ys) zero x all e = let same : w ≡ x = same_Some w x e in (z, refl, subst (λ (v : A). R v z) same all.0)
 zip_at R (w ∷ xs) (z ∷ ys) (suc k) x all e = zip_at R xs ys k x all.1 e
-
-map_push : {X Y : Type 0} (f : X → Y) (xs : List X) (x : X) → map f (xs ++ x ∷ []) ≡ map f xs ++ f x ∷ []
-map_push f [] x = refl
-map_push f (y ∷ ys) x = ap (λ zs. f y ∷ zs) (map_push f ys x)
 
 -- one row more
 pub framed_more : {R : Type 0} (shape_of : R → Shape) (rows : List R) (i : ℕ) (row : R) (frames new : List Frame) (frame : Frame) → i < length rows → row ≡ get_or rows i row → new ≡ frames ++ frame ∷ []
     → IsFramed (shape_of row) frame → AreFramed (map shape_of (take i rows)) frames → AreFramed (map shape_of (take (i + 1) rows)) new
 framed_more {R} shape_of rows i row frames new frame within is more framed before =
     let rows_more : take (i + 1) rows ≡ take i rows ++ row ∷ [] = take_more rows i row within ∙ ap (λ (y : R). take i rows ++ y ∷ []) (sym is) in
-    let shapes_more : map shape_of (take (i + 1) rows) ≡ map shape_of (take i rows) ++ shape_of row ∷ [] = ap (map shape_of) rows_more ∙ map_push shape_of (take i rows) row in
+    let shapes_more : map shape_of (take (i + 1) rows) ≡ map shape_of (take i rows) ++ shape_of row ∷ [] = ap (map shape_of) rows_more ∙ map-append shape_of (take i rows) (row ∷ []) in
     let joined : AreFramed (map shape_of (take i rows) ++ shape_of row ∷ []) (frames ++ frame ∷ []) = zip_push IsFramed (map shape_of (take i rows)) frames (shape_of row) frame before framed in
     subst (λ (shapes : List Shape). AreFramed shapes new) (sym shapes_more) (subst (λ (fs : List Frame). AreFramed (map shape_of (take i rows) ++ shape_of row ∷ []) fs) (sym more) joined)
 
@@ -208,14 +196,11 @@ framed_at shape_of rows frames k row all at = zip_at IsFramed (map shape_of rows
 pub frame_within : {R : Type 0} (shape_of : R → Shape) (rows : List R) (frames : List Frame) (k : ℕ) (row : R) → AreFramed (map shape_of rows) frames → slice_get rows k ≡ Some row → k < length frames
 frame_within shape_of rows frames k row all at = let f = framed_at shape_of rows frames k row all at in slice_get_within frames k f.0 f.1
 
-some_frame : (o : Option Frame) (x y : Frame) → o ≡ Some x → o ≡ Some y → x ≡ y
-some_frame o x y a b = cc
-
 pub the_frame : {R : Type 0} (shape_of : R → Shape) (rows : List R) (frames : List Frame) (k : ℕ) (row : R) (frame : Frame) → AreFramed (map shape_of rows) frames → slice_get rows k ≡ Some row → frame ≡ get_or frames k frame → IsFramed (shape_of row) frame
 the_frame shape_of rows frames k row frame all at is =
     let f = framed_at shape_of rows frames k row all at in
     let there : slice_get frames k ≡ Some frame = slice_get_read frames (length frames) k frame refl (slice_get_within frames k f.0 f.1) is in
-    subst (λ (g : Frame). IsFramed (shape_of row) g) (some_frame (slice_get frames k) f.0 frame f.1 there) f.2
+    subst (λ (g : Frame). IsFramed (shape_of row) g) (same_Some f.0 frame (sym f.1 ∙ there)) f.2
 
 -- a frame with one position more
 pub with_one : (a b : Frame) (p : Point) → b.south ≤ℤ a.south → b.south ≤ℤ p.y → a.north ≤ℤ b.north → p.y ≤ℤ b.north → a.east ≤ℤ b.east → p.x ≤ℤ b.east → Grows a b (p ∷ [])

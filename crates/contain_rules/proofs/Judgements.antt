@@ -9,8 +9,8 @@ use Rattle.report_laws.specs.Passes.{Adds}
 use Rattle.report_laws.proofs.Adding.{Adds-same, Adds-then, Among}
 use Rattle.contain_rules.specs.declared.rules.HoldRule.{HoldRule}
 use Rattle.contain_rules.specs.declared.rules.HoldRule.TheVariants.{K1, K2, K3, K4}
-use Rattle.contain_rules.specs.Rules.{BreaksHold, HoldBreaks, hold_rule_number, file_judged}
-use Rattle.contain_rules.specs.Judging.{BreaksBy, hold_finding}
+use Rattle.contain_rules.specs.Rules.{BreaksHold, HoldBreaks, UnitLeaves, AnchorLeaves, AmenityLeaves, OpeningLeaves, hold_rule_number, file_judged}
+use Rattle.contain_rules.specs.Judging.{BreaksIn, hold_finding}
 
 -- the row at hand, of a list that is seen as a slice
 pub row_there : {R : Type 0} (xs rows : List R) (k : ℕ) (row : R) → xs ≡ rows → k < length xs → row ≡ get_or xs k row → slice_get rows k ≡ Some row
@@ -33,19 +33,18 @@ pub adds_row : {R : Type 0} (Leaves : R → Type 0) (rule : HoldRule) (k : ℕ) 
 adds_row Leaves rule k row leaves place old new decides is adds =
     adds (LeavesAt Leaves rule k row) (λ h. (decides.0 h, is)) (λ x h. (decides.1 h.0, h.1 ∙ sym is))
 
--- a rule, from what its features add
-pub adds_rule : {R : Type 0} (Leaves : R → Type 0) (rows : List R) (rule : HoldRule) (features : Features) (t : ℕ) (a b : List Finding)
-    → ((k : ℕ) → ((row : R) × (slice_get rows k ≡ Some row) × Leaves row) → HoldBreaks rule features t k)
-    → ((k : ℕ) → HoldBreaks rule features t k → (row : R) × (slice_get rows k ≡ Some row) × Leaves row)
-    → Adds (Among (λ k row. LeavesAt Leaves rule k row) rows) a b → Adds (BreaksBy rule features t) a b
-adds_rule {R} Leaves rows rule features t a b into back adds = Adds-same (BreaksBy rule features t) adds
+-- a rule, from what its rows add
+pub adds_rule : {R : Type 0} (Leaves : R → Type 0) (rows : List R) (rule : HoldRule) (a b : List Finding) → Adds (Among (λ k row. LeavesAt Leaves rule k row) rows) a b → Adds (BreaksIn Leaves rows rule) a b
+adds_rule {R} Leaves rows rule a b adds = Adds-same (BreaksIn Leaves rows rule) adds
     (λ x h.
     let at : h.place ≡ x.index = sym (ap (λ (z : Finding). z.index) h.holds.1) in
     record {
-      breaks = subst (λ (k : ℕ). HoldBreaks rule features t k) at (into h.place (h.item, h.there, h.holds.0));
+      row = h.item;
+      there = subst (λ (k : ℕ). slice_get rows k ≡ Some h.item) at h.there;
+      leaves = h.holds.0;
       is = h.holds.1 ∙ ap (hold_finding rule) at;
     })
-    (λ x h. let row = back x.index h.breaks in record { place = x.index; item = row.0; there = row.1; holds = (row.2, h.is) })
+    (λ x h. record { place = x.index; item = h.row; there = h.there; holds = (h.leaves, h.is) })
 
 abbrev finding : ℕ → ℕ → ℕ → ℕ → Finding
 finding rule file index member = record { rule = rule; file = file; index = index; member = member }
@@ -54,39 +53,49 @@ finding_is : (x : Finding) (r f m : ℕ) → x.rule ≡ r → x.file ≡ f → x
 finding_is x r f m rule file member =
     ap (λ (n : ℕ). finding n x.file x.index x.member) rule ∙ ap (λ (n : ℕ). finding r n x.index x.member) file ∙ ap (λ (n : ℕ). finding r f x.index n) member
 
-into_hold : (rule : HoldRule) (features : Features) (t : ℕ) (x : Finding) → BreaksBy rule features t x → BreaksHold features t x
-into_hold rule features t x h = record {
+into_hold : (rule : HoldRule) (features : Features) (t : ℕ) (x : Finding) → HoldBreaks rule features t x.index → x ≡ hold_finding rule x.index → BreaksHold features t x
+into_hold rule features t x breaks is = record {
   rule = rule;
-  number = ap (λ (z : Finding). z.rule) h.is;
-  breaks = h.breaks;
-  in_file = ap (λ (z : Finding). z.file) h.is;
-  at_member = ap (λ (z : Finding). z.member) h.is;
+  number = ap (λ (z : Finding). z.rule) is;
+  breaks = breaks;
+  in_file = ap (λ (z : Finding). z.file) is;
+  at_member = ap (λ (z : Finding). z.member) is;
 }
 
-by_rule : (rule : HoldRule) (features : Features) (t : ℕ) (x : Finding) → x.rule ≡ hold_rule_number rule → HoldBreaks rule features t x.index → x.file ≡ file_number (file_judged rule) → x.member ≡ 0 → BreaksBy rule features t x
-by_rule rule features t x number breaks in_file at_member = record {
-  breaks = breaks;
-  is = finding_is x (hold_rule_number rule) (file_number (file_judged rule)) 0 number in_file at_member;
-}
+-- the rule on units, on anchors, on amenities and on openings
+abbrev Units : Features → ℕ → Finding → Type 0
+Units features t x = BreaksIn (UnitLeaves features t) features.units K1 x
+
+abbrev Anchors : Features → ℕ → Finding → Type 0
+Anchors features t x = BreaksIn (AnchorLeaves features t) features.anchors K2 x
+
+abbrev Amenities : Features → ℕ → Finding → Type 0
+Amenities features t x = BreaksIn (AmenityLeaves features t) features.amenities K3 x
+
+abbrev Openings : Features → ℕ → Finding → Type 0
+Openings features t x = BreaksIn (OpeningLeaves features t) features.openings K4 x
 
 abbrev Parts : Features → ℕ → Finding → Type 0
-Parts features t x = BreaksBy K1 features t x ⊎ (BreaksBy K2 features t x ⊎ (BreaksBy K3 features t x ⊎ BreaksBy K4 features t x))
+Parts features t x = Units features t x ⊎ (Anchors features t x ⊎ (Amenities features t x ⊎ Openings features t x))
 
-part : (rule : HoldRule) (features : Features) (t : ℕ) (x : Finding) → BreaksBy rule features t x → Parts features t x
-part K1 features t x h = inl h
-part K2 features t x h = inr (inl h)
-part K3 features t x h = inr (inr (inl h))
-part K4 features t x h = inr (inr (inr h))
+part : (rule : HoldRule) (features : Features) (t : ℕ) (x : Finding) → HoldBreaks rule features t x.index → x ≡ hold_finding rule x.index → Parts features t x
+part K1 features t x h e = inl (record { row = h.0; there = h.1; leaves = h.2; is = e })
+part K2 features t x h e = inr (inl (record { row = h.0; there = h.1; leaves = h.2; is = e }))
+part K3 features t x h e = inr (inr (inl (record { row = h.0; there = h.1; leaves = h.2; is = e })))
+part K4 features t x h e = inr (inr (inr (record { row = h.0; there = h.1; leaves = h.2; is = e })))
 
-pub four_rules : (features : Features) (t : ℕ) (a b c d e : List Finding) → Adds (BreaksBy K1 features t) a b → Adds (BreaksBy K2 features t) b c → Adds (BreaksBy K3 features t) c d → Adds (BreaksBy K4 features t) d e
+pub four_rules : (features : Features) (t : ℕ) (a b c d e : List Finding) → Adds (Units features t) a b → Adds (Anchors features t) b c → Adds (Amenities features t) c d → Adds (Openings features t) d e
     → Adds (BreaksHold features t) a e
 four_rules features t a b c d e one two three four = Adds-then (BreaksHold features t) one
-    (Adds-then (λ x. BreaksBy K2 features t x ⊎ (BreaksBy K3 features t x ⊎ BreaksBy K4 features t x)) two
-    (Adds-then (λ x. BreaksBy K3 features t x ⊎ BreaksBy K4 features t x) three four (λ x h. inl h) (λ x h. inr h) (λ x h. h))
+    (Adds-then (λ x. Anchors features t x ⊎ (Amenities features t x ⊎ Openings features t x)) two
+    (Adds-then (λ x. Amenities features t x ⊎ Openings features t x) three four (λ x h. inl h) (λ x h. inr h) (λ x h. h))
     (λ x h. inl h) (λ x h. inr h) (λ x h. h))
-    (λ x h. into_hold K1 features t x h)
+    (λ x h. into_hold K1 features t x (h.row, h.there, h.leaves) h.is)
     (λ x h. elim h [
-      | inl second ↦ into_hold K2 features t x second
-      | inr rest ↦ elim rest [ inl third ↦ into_hold K3 features t x third | inr fourth ↦ into_hold K4 features t x fourth ]
+      | inl second ↦ into_hold K2 features t x (second.row, second.there, second.leaves) second.is
+      | inr rest ↦ elim rest [
+        | inl third ↦ into_hold K3 features t x (third.row, third.there, third.leaves) third.is
+        | inr fourth ↦ into_hold K4 features t x (fourth.row, fourth.there, fourth.leaves) fourth.is
+      ]
     ])
-    (λ x h. part h.rule features t x (by_rule h.rule features t x h.number h.breaks h.in_file h.at_member))
+    (λ x h. part h.rule features t x h.breaks (finding_is x (hold_rule_number h.rule) (file_number (file_judged h.rule)) 0 h.number h.in_file h.at_member))

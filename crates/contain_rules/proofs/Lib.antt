@@ -2,7 +2,6 @@ mod Planes
 mod Boxes
 mod Closeness
 mod Framing
-mod Indexing
 mod Judgements
 mod Lists
 mod Numbers

@@ -1,25 +1,9 @@
 -- What stands in lists of lists, and what of a list an item has.
-use Rattle.std.proofs.Common.{◌≡◌, ◌∙◌, ℕ, ◌+◌, ◌<◌, Bool, true, false, IsTrue, List, [], ◌∷◌, length, get_or, drop, map, Any, Contains, ◌↔◌, flat_map, refl, sym, subst, ◌⊎◌, inl, inr}
-use Rattle.std.proofs.lemmas.List.Elements.{Contains-append_left, Contains-append_right}
-use Rattle.report_laws.proofs.Members.{Contains-nil, Contains-first, Contains-later, Contains-cons_cases}
+use Rattle.std.proofs.Common.{◌≡◌, ◌∙◌, ℕ, ◌+◌, ◌<◌, Bool, true, false, IsTrue, List, length, get_or, drop, Any, Contains, ◌↔◌, flat_map, refl, sym, ◌⊎◌, inl, inr}
 use Rattle.plane_exact.proofs.ListLemmas.{drop_at, any_here, any_past, any_left, any_past_all}
 
 pub at_place : {X : Type 0} (xs : List X) (i : ℕ) (x : X) → i < length xs → x ≡ get_or xs i x → Contains xs x
 at_place xs i x within is = (i, within, sym is)
-
-pub Contains-map : {X Y : Type 0} (f : X → Y) (xs : List X) (x : X) → Contains xs x → Contains (map f xs) (f x)
-Contains-map f [] x h = absurd (Contains-nil x h)
-Contains-map {X} {Y} f (z ∷ zs) x h = elim (Contains-cons_cases z zs x h) [
-  | inl here ↦ subst (λ (w : X). Contains (map f (z ∷ zs)) (f w)) here (Contains-first (f z) (map f zs))
-  | inr there ↦ Contains-later (f z) (map f zs) (f x) (Contains-map f zs x there)
-]
-
-pub Contains-flat_map : {X Y : Type 0} (f : X → List Y) (xs : List X) (x : X) (y : Y) → Contains xs x → Contains (f x) y → Contains (flat_map f xs) y
-Contains-flat_map f [] x y h k = absurd (Contains-nil x h)
-Contains-flat_map {X} {Y} f (z ∷ zs) x y h k = elim (Contains-cons_cases z zs x h) [
-  | inl here ↦ Contains-append_left (f z) (flat_map f zs) y (subst (λ (w : X). Contains (f w) y) (sym here) k)
-  | inr there ↦ Contains-append_right (f z) (flat_map f zs) y (Contains-flat_map f zs x y there k)
-]
 
 -- the item with the property, and back
 pub any_item : {X : Type 0} (P : X → Type 0) (xs : List X) → Any P xs → (x : X) × Contains xs x × P x

@@ -1,8 +1,7 @@
 -- What the parts of the pass judge.
-use Rattle.std.specs.Prelude.{◌≡◌, ℕ, ◌≤◌, ◌∷◌, List, Any, Contains}
+use Rattle.std.specs.Prelude.{◌≡◌, ℕ, ◌≤◌, ◌∷◌, List, Some, Any, Contains, slice_get}
 use Rattle.venue_types.specs.declared.feature_id.FeatureId.{FeatureId}
 use Rattle.venue_types.specs.declared.features.Features.{Features}
-use Rattle.venue_types.specs.declared.features.LevelRow.{LevelRow}
 use Rattle.venue_types.specs.declared.features.UnitRow.{UnitRow}
 use Rattle.venue_types.specs.declared.finding.Finding.{Finding}
 use Rattle.venue_types.specs.declared.point.Point.{Point}
@@ -11,10 +10,10 @@ use Rattle.imdf_forms.specs.Files.{file_number}
 use Rattle.sound_rows.specs.Figures.{judged_positions}
 use Rattle.plane_exact.specs.Figure.{AllClose, vertices}
 use Rattle.contain_rules.specs.declared.rules.HoldRule.{HoldRule}
-use Rattle.contain_rules.specs.declared.index.Holders.{Holders}
-use Rattle.contain_rules.specs.Indexes.{AreHolders}
-use Rattle.sound_rows.specs.Named.{IsLevel, IsUnit}
-use Rattle.contain_rules.specs.Rules.{IsHeld, HoldBreaks, hold_rule_number, file_judged}
+use Rattle.contain_rules.specs.declared.holders.Holders.{Holders}
+use Rattle.contain_rules.specs.Holders.{AreHolders}
+use Rattle.sound_rows.specs.Named.{IsUnit}
+use Rattle.contain_rules.specs.Rules.{IsHeld, hold_rule_number, file_judged}
 
 -- each of the positions is close to the shape
 pub record AreBeside (shape : Shape) (points : List Point) : Type 0 where
@@ -23,16 +22,6 @@ pub record AreBeside (shape : Shape) (points : List Point) : Type 0 where
 -- one of the positions is not held by the shape
 abbrev pub SomeLeaves : ℕ → Shape → List Point → Type 0
 SomeLeaves tolerance shape points = Any (λ p. ¬ IsHeld tolerance shape p) points
-
--- the only level of this identifier
-pub record IsTheLevel (features : Features) (id : FeatureId) (level : LevelRow) : Type 0 where
-  pub is : IsLevel features id level
-  pub only : (other : LevelRow) → IsLevel features id other → other ≡ level
-
--- the only unit of this identifier
-pub record IsTheUnit (features : Features) (id : FeatureId) (unit : UnitRow) : Type 0 where
-  pub is : IsUnit features id unit
-  pub only : (other : UnitRow) → IsUnit features id other → other ≡ unit
 
 -- some unit of this identifier holds the position
 abbrev pub UnitHolds : Features → ℕ → Point → FeatureId → Type 0
@@ -52,7 +41,9 @@ pub record CanJudge (features : Features) (tolerance : ℕ) (holders : Holders) 
 abbrev pub hold_finding : HoldRule → ℕ → Finding
 hold_finding rule index = record { rule = hold_rule_number rule; file = file_number (file_judged rule); index = index; member = 0 }
 
--- this rule is broken, which is told of the feature
-pub record BreaksBy (rule : HoldRule) (features : Features) (tolerance : ℕ) (x : Finding) : Type 0 where
-  pub breaks : HoldBreaks rule features tolerance x.index
+-- one of the rows leaves what is to hold it, which is told of it as this rule's break
+pub record BreaksIn {R : Type 0} (Leaves : R → Type 0) (rows : List R) (rule : HoldRule) (x : Finding) : Type 0 where
+  pub row : R
+  pub there : slice_get rows x.index ≡ Some row
+  pub leaves : Leaves row
   pub is : x ≡ hold_finding rule x.index

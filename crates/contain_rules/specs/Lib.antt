@@ -1,5 +1,5 @@
 pub mod Rules
 pub mod Phases
 pub mod Frames
-pub mod Indexes
+pub mod Holders
 pub mod Judging

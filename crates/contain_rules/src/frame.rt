@@ -1,13 +1,12 @@
 //! Where the vertices of a shape lie, by the sides of a frame.
 
 ghost use Rattle.std.specs.Prelude.{◌≡◌, ◌↔◌, pos, ◌+ℤ◌, ◌<ℤ◌, IsTrue, IfOk, [], ◌∷◌, map};
-ghost use Rattle.venue_types.specs.declared.features.LevelRow.{LevelRow as ALevelRow};
-ghost use Rattle.venue_types.specs.declared.features.UnitRow.{UnitRow as AUnitRow};
 ghost use Rattle.plane_exact.specs.Figure.{ring_points, part_points};
 ghost use Rattle.contain_rules.specs.Frames.{IsBeyond, IsPast, Grows, IsFramed, AreFramed};
 
+use sound_rows::HasShape;
 use std::alloc::Global;
-use venue_types::{LevelRow, OutOfMemory, Part, Point, Ring, Shape, UnitRow};
+use venue_types::{OutOfMemory, Part, Point, Ring, Shape};
 
 /// How far south, north and east the vertices of a shape lie, in nanodegrees.
 ///
@@ -98,24 +97,13 @@ pub(crate) fn frame_of(shape: &Shape) -> Frame
     grown
 }
 
-/// The frames of the levels.
-pub(crate) fn level_frames(alloc: Global, levels: &[LevelRow]) -> Result<Vec<Frame>, OutOfMemory>
-    ensures { IfOk result (λ frames. AreFramed (map (λ (row : ALevelRow). row.shape) levels.now) frames.items) }
+/// The frames of the rows' shapes, in their order.
+pub(crate) fn frames_of<R: HasShape>(alloc: Global, rows: &[R]) -> Result<Vec<Frame>, OutOfMemory>
+    ensures { IfOk result (λ frames. AreFramed (map R.shape_of rows.now) frames.items) }
 {
     let mut frames = Vec::new(alloc);
-    for level in levels {
-        frames.push(frame_of(&level.shape))?;
-    }
-    Ok(frames)
-}
-
-/// The frames of the units.
-pub(crate) fn unit_frames(alloc: Global, units: &[UnitRow]) -> Result<Vec<Frame>, OutOfMemory>
-    ensures { IfOk result (λ frames. AreFramed (map (λ (row : AUnitRow). row.shape) units.now) frames.items) }
-{
-    let mut frames = Vec::new(alloc);
-    for unit in units {
-        frames.push(frame_of(&unit.shape))?;
+    for row in rows {
+        frames.push(frame_of(row.shape()))?;
     }
     Ok(frames)
 }

@@ -7,83 +7,28 @@ ghost use Rattle.sound_rows.specs.Sound.{AreSound};
 ghost use Rattle.sound_rows.specs.Figures.{judged_positions};
 ghost use Rattle.plane_exact.specs.Figure.{AllClose};
 ghost use Rattle.contain_rules.specs.Rules.{BreaksHold};
-ghost use Rattle.contain_rules.specs.Judging.{BreaksBy, CanJudge};
+ghost use Rattle.contain_rules.specs.Judging.{BreaksIn, CanJudge};
 
-use crate::index::Holders;
-use crate::rows::{amenity_leaves, anchor_leaves, opening_leaves, unit_leaves};
-use crate::rules::HoldRule;
+use crate::holders::Holders;
+use crate::rows::HasHolder;
 use report_laws::add;
 use std::alloc::Global;
-use venue_types::{Features, Finding, OutOfMemory};
+use venue_types::{AmenityRow, AnchorRow, Features, Finding, OpeningRow, OutOfMemory, UnitRow};
 
-/// The units.
-fn judge_units(
+/// Adds which rows of a file aren't held by what is to hold them.
+fn judge<R: HasHolder>(
     features: &Features,
     holders: &Holders,
     tolerance: u32,
     findings: &mut Vec<Finding>,
 ) -> Result<(), OutOfMemory>
     requires ready { CanJudge features.now tolerance holders.now }
-    requires few { length features.now.units ≤ 100000 }
-    ensures { OnOk result (Adds (BreaksBy HoldRule.K1 features.now tolerance) findings.old.items findings.new.items) }
+    requires few { length (R.rows features.now) ≤ 100000 }
+    ensures { OnOk result (Adds (BreaksIn (R.leaves features.now tolerance) (R.rows features.now) R.rule) findings.old.items findings.new.items) }
 {
-    for (k, unit) in features.units.as_slice().iter().enumerate() {
-        let leaves = unit_leaves(features, holders, tolerance, unit);
-        add(findings, leaves, HoldRule::K1.finding(k))?;
-    }
-    Ok(())
-}
-
-/// The anchors.
-fn judge_anchors(
-    features: &Features,
-    holders: &Holders,
-    tolerance: u32,
-    findings: &mut Vec<Finding>,
-) -> Result<(), OutOfMemory>
-    requires ready { CanJudge features.now tolerance holders.now }
-    requires few { length features.now.anchors ≤ 100000 }
-    ensures { OnOk result (Adds (BreaksBy HoldRule.K2 features.now tolerance) findings.old.items findings.new.items) }
-{
-    for (k, anchor) in features.anchors.as_slice().iter().enumerate() {
-        let leaves = anchor_leaves(features, holders, tolerance, anchor);
-        add(findings, leaves, HoldRule::K2.finding(k))?;
-    }
-    Ok(())
-}
-
-/// The amenities.
-fn judge_amenities(
-    features: &Features,
-    holders: &Holders,
-    tolerance: u32,
-    findings: &mut Vec<Finding>,
-) -> Result<(), OutOfMemory>
-    requires ready { CanJudge features.now tolerance holders.now }
-    requires few { length features.now.amenities ≤ 100000 }
-    ensures { OnOk result (Adds (BreaksBy HoldRule.K3 features.now tolerance) findings.old.items findings.new.items) }
-{
-    for (k, amenity) in features.amenities.as_slice().iter().enumerate() {
-        let leaves = amenity_leaves(features, holders, tolerance, amenity);
-        add(findings, leaves, HoldRule::K3.finding(k))?;
-    }
-    Ok(())
-}
-
-/// The openings.
-fn judge_openings(
-    features: &Features,
-    holders: &Holders,
-    tolerance: u32,
-    findings: &mut Vec<Finding>,
-) -> Result<(), OutOfMemory>
-    requires ready { CanJudge features.now tolerance holders.now }
-    requires few { length features.now.openings ≤ 100000 }
-    ensures { OnOk result (Adds (BreaksBy HoldRule.K4 features.now tolerance) findings.old.items findings.new.items) }
-{
-    for (k, opening) in features.openings.as_slice().iter().enumerate() {
-        let leaves = opening_leaves(features, holders, tolerance, opening);
-        add(findings, leaves, HoldRule::K4.finding(k))?;
+    for (k, row) in R::rows(features).as_slice().iter().enumerate() {
+        let leaves = row.leaves(features, holders, tolerance);
+        add(findings, leaves, R::rule().finding(k))?;
     }
     Ok(())
 }
@@ -106,8 +51,8 @@ pub fn add_hold_findings(
     ensures { OnOk result (Adds (BreaksHold features.now tolerance) findings.old.items findings.new.items) }
 {
     let holders = Holders::of(alloc, features)?;
-    judge_units(features, &holders, tolerance, findings)?;
-    judge_anchors(features, &holders, tolerance, findings)?;
-    judge_amenities(features, &holders, tolerance, findings)?;
-    judge_openings(features, &holders, tolerance, findings)
+    judge::<UnitRow>(features, &holders, tolerance, findings)?;
+    judge::<AnchorRow>(features, &holders, tolerance, findings)?;
+    judge::<AmenityRow>(features, &holders, tolerance, findings)?;
+    judge::<OpeningRow>(features, &holders, tolerance, findings)
 }

@@ -2,8 +2,8 @@
 #![tactic(auto)]
 
 mod frame;
+mod holders;
 mod holding;
-mod index;
 mod leaving;
 mod plane;
 mod rows;

@@ -8,13 +8,13 @@ ghost use Rattle.contain_rules.specs.Phases.{IsPlaneBroken};
 
 use crate::holding::add_hold_findings;
 use report_laws::in_order;
-use ring_rules::{add_ring_findings, is_spread};
+use ring_rules::{SPREAD_RULE, add_ring_findings, is_spread};
 use std::alloc::Global;
 use venue_types::{Features, Finding, List, OutOfMemory, Settings};
 
 // That the positions of a folder lie too far apart, which is told of the folder.
 const SPREAD: Finding = Finding {
-    rule: 26,
+    rule: SPREAD_RULE,
     file: 0,
     index: 0,
     member: 0,

@@ -1,88 +1,95 @@
 //! Which features aren't held by what is to hold them.
 
-ghost use Rattle.std.specs.Prelude.{◌≡◌, ◌↔◌, IsTrue, MatchOption, Any, Contains};
-ghost use Rattle.venue_types.specs.declared.features.LevelRow.{LevelRow as ALevelRow};
-ghost use Rattle.venue_types.specs.declared.features.UnitRow.{UnitRow as AUnitRow};
-ghost use Rattle.sound_rows.specs.Named.{IsLevel, IsUnit};
-ghost use Rattle.contain_rules.specs.Rules.{UnitLeaves, AnchorLeaves, AmenityLeaves, OpeningLeaves};
-ghost use Rattle.contain_rules.specs.Frames.{IsFramed};
-ghost use Rattle.contain_rules.specs.Indexes.{AreHolders};
-ghost use Rattle.contain_rules.specs.Judging.{CanJudge, IsTheLevel, IsTheUnit, UnitHolds, OneHolds};
+ghost use Rattle.std.specs.Prelude.{◌≡◌, ◌↔◌, ℕ, List, IsTrue, Contains};
+ghost use Rattle.venue_types.specs.declared.features.Features.{Features};
+ghost use Rattle.contain_rules.specs.declared.rules.HoldRule.{HoldRule};
+ghost use Rattle.contain_rules.specs.Judging.{CanJudge, UnitHolds, OneHolds};
 
-use crate::frame::Frame;
-use crate::index::Holders;
+use crate::holders::Holders;
 use crate::leaving::{figure_leaves, is_held, some_leaves};
-use venue_types::{
-    AmenityRow, AnchorRow, FeatureId, Features, LevelRow, OpeningRow, Point, UnitRow,
-};
+use crate::rules::HoldRule;
+use sound_rows::{amenity_point_law, anchor_point_law, opening_point_law, unit_vertex_law};
+use venue_types::{AmenityRow, AnchorRow, FeatureId, Features, List, OpeningRow, UnitRow};
 
-/// The level of this identifier, and the frame of its shape.
-fn level_of<'a>(
-    features: &'a Features,
-    holders: &Holders,
-    id: FeatureId,
-) -> Option<(&'a LevelRow, Frame)>
-    requires { AreHolders features.now holders.now }
-    ensures { MatchOption result ((level : ALevelRow) → ¬ IsLevel features.now id level) (λ found. IsTheLevel features.now id found.0.now × IsFramed found.0.now.shape found.1) }
-{
-    match holders.levels.place(id) {
-        Some(place) => match features.levels.as_slice().get(place) {
-            Some(level) => Some((level, holders.level_frames[place])),
-            None => None,
-        },
-        None => None,
+/// A row of a feature that another is to hold.
+pub(crate) trait HasHolder {
+    /// The rule that it breaks where it isn't held.
+    ghost rule: { HoldRule };
+
+    /// The rows of its file.
+    ghost rows: { Features → List Self };
+
+    /// Whether it isn't held, within the tolerance.
+    ghost leaves: { Features → ℕ → Self → Type 0 };
+
+    /// The rule that it breaks.
+    fn rule() -> HoldRule
+        ensures { result ≡ rule };
+
+    /// The rows of its file.
+    fn rows(features: &Features) -> &List<Self>
+        ensures { result.now ≡ rows features.now };
+
+    /// Whether it isn't held.
+    fn leaves(&self, features: &Features, holders: &Holders, tolerance: u32) -> bool
+        requires ready { CanJudge features.now tolerance holders.now }
+        requires own { Contains (rows features.now) self.now }
+        ensures { IsTrue result ↔ leaves features.now tolerance self.now };
+}
+
+/// A unit, whose vertices its level is to hold.
+impl HasHolder for UnitRow {
+    ghost use Rattle.contain_rules.specs.declared.rules.HoldRule.TheVariants.{K1};
+    ghost use Rattle.contain_rules.specs.Rules.{UnitLeaves};
+
+    ghost rule = { K1 };
+
+    ghost rows = { λ features. features.units };
+
+    ghost leaves = { UnitLeaves };
+
+    fn rule() -> HoldRule {
+        HoldRule::K1
+    }
+
+    fn rows(features: &Features) -> &List<UnitRow> {
+        &features.units
+    }
+
+    fn leaves(&self, features: &Features, holders: &Holders, tolerance: u32) -> bool {
+        unit_vertex_law();
+        match holders.levels.find(&features.levels, self.level) {
+            Some((level, frame)) => figure_leaves(&level.shape, frame, tolerance, &self.shape),
+            None => false,
+        }
     }
 }
 
-/// The unit of this identifier, and the frame of its shape.
-fn unit_of<'a>(
-    features: &'a Features,
-    holders: &Holders,
-    id: FeatureId,
-) -> Option<(&'a UnitRow, Frame)>
-    requires { AreHolders features.now holders.now }
-    ensures { MatchOption result ((unit : AUnitRow) → ¬ IsUnit features.now id unit) (λ found. IsTheUnit features.now id found.0.now × IsFramed found.0.now.shape found.1) }
-{
-    match holders.units.place(id) {
-        Some(place) => match features.units.as_slice().get(place) {
-            Some(unit) => Some((unit, holders.unit_frames[place])),
-            None => None,
-        },
-        None => None,
-    }
-}
+/// An anchor, whose point its unit is to hold.
+impl HasHolder for AnchorRow {
+    ghost use Rattle.contain_rules.specs.declared.rules.HoldRule.TheVariants.{K2};
+    ghost use Rattle.contain_rules.specs.Rules.{AnchorLeaves};
 
-/// Whether there is a vertex of the unit that its level doesn't hold.
-pub(crate) fn unit_leaves(
-    features: &Features,
-    holders: &Holders,
-    tolerance: u32,
-    unit: &UnitRow,
-) -> bool
-    requires ready { CanJudge features.now tolerance holders.now }
-    requires own { Contains features.now.units unit.now }
-    ensures { IsTrue result ↔ UnitLeaves features.now tolerance unit.now }
-{
-    match level_of(features, holders, unit.level) {
-        Some((level, frame)) => figure_leaves(&level.shape, frame, tolerance, &unit.shape),
-        None => false,
-    }
-}
+    ghost rule = { K2 };
 
-/// Whether the anchor's unit doesn't hold its point.
-pub(crate) fn anchor_leaves(
-    features: &Features,
-    holders: &Holders,
-    tolerance: u32,
-    anchor: &AnchorRow,
-) -> bool
-    requires ready { CanJudge features.now tolerance holders.now }
-    requires own { Contains features.now.anchors anchor.now }
-    ensures { IsTrue result ↔ AnchorLeaves features.now tolerance anchor.now }
-{
-    match unit_of(features, holders, anchor.unit) {
-        Some((unit, frame)) => !is_held(&unit.shape, frame, tolerance, anchor.point),
-        None => false,
+    ghost rows = { λ features. features.anchors };
+
+    ghost leaves = { AnchorLeaves };
+
+    fn rule() -> HoldRule {
+        HoldRule::K2
+    }
+
+    fn rows(features: &Features) -> &List<AnchorRow> {
+        &features.anchors
+    }
+
+    fn leaves(&self, features: &Features, holders: &Holders, tolerance: u32) -> bool {
+        anchor_point_law();
+        match holders.units.find(&features.units, self.unit) {
+            Some((unit, frame)) => !is_held(&unit.shape, frame, tolerance, self.point),
+            None => false,
+        }
     }
 }
 
@@ -98,7 +105,8 @@ fn unit_holds(
     requires own { Contains features.now.amenities amenity.now }
     ensures { IsTrue result ↔ UnitHolds features.now tolerance amenity.now.point id }
 {
-    match unit_of(features, holders, id) {
+    amenity_point_law();
+    match holders.units.find(&features.units, id) {
         Some((unit, frame)) => is_held(&unit.shape, frame, tolerance, amenity.point),
         None => false,
     }
@@ -123,44 +131,56 @@ fn one_holds(
     held
 }
 
-/// Whether none of the amenity's units holds its point.
-pub(crate) fn amenity_leaves(
-    features: &Features,
-    holders: &Holders,
-    tolerance: u32,
-    amenity: &AmenityRow,
-) -> bool
-    requires ready { CanJudge features.now tolerance holders.now }
-    requires own { Contains features.now.amenities amenity.now }
-    ensures { IsTrue result ↔ AmenityLeaves features.now tolerance amenity.now }
-{
-    !one_holds(
-        features,
-        holders,
-        tolerance,
-        amenity,
-        amenity.units.as_slice(),
-    )
+/// An amenity, whose point one of its units is to hold.
+impl HasHolder for AmenityRow {
+    ghost use Rattle.contain_rules.specs.declared.rules.HoldRule.TheVariants.{K3};
+    ghost use Rattle.contain_rules.specs.Rules.{AmenityLeaves};
+
+    ghost rule = { K3 };
+
+    ghost rows = { λ features. features.amenities };
+
+    ghost leaves = { AmenityLeaves };
+
+    fn rule() -> HoldRule {
+        HoldRule::K3
+    }
+
+    fn rows(features: &Features) -> &List<AmenityRow> {
+        &features.amenities
+    }
+
+    fn leaves(&self, features: &Features, holders: &Holders, tolerance: u32) -> bool {
+        !one_holds(features, holders, tolerance, self, self.units.as_slice())
+    }
 }
 
-/// Whether there is a vertex of the opening that its level doesn't hold.
-pub(crate) fn opening_leaves(
-    features: &Features,
-    holders: &Holders,
-    tolerance: u32,
-    opening: &OpeningRow,
-) -> bool
-    requires ready { CanJudge features.now tolerance holders.now }
-    requires own { Contains features.now.openings opening.now }
-    ensures { IsTrue result ↔ OpeningLeaves features.now tolerance opening.now }
-{
-    match level_of(features, holders, opening.level) {
-        Some((level, frame)) => some_leaves(
-            &level.shape,
-            frame,
-            tolerance,
-            opening.line.points.as_slice(),
-        ),
-        None => false,
+/// An opening, whose points its level is to hold.
+impl HasHolder for OpeningRow {
+    ghost use Rattle.contain_rules.specs.declared.rules.HoldRule.TheVariants.{K4};
+    ghost use Rattle.contain_rules.specs.Rules.{OpeningLeaves};
+
+    ghost rule = { K4 };
+
+    ghost rows = { λ features. features.openings };
+
+    ghost leaves = { OpeningLeaves };
+
+    fn rule() -> HoldRule {
+        HoldRule::K4
+    }
+
+    fn rows(features: &Features) -> &List<OpeningRow> {
+        &features.openings
+    }
+
+    fn leaves(&self, features: &Features, holders: &Holders, tolerance: u32) -> bool {
+        opening_point_law();
+        match holders.levels.find(&features.levels, self.level) {
+            Some((level, frame)) => {
+                some_leaves(&level.shape, frame, tolerance, self.line.points.as_slice())
+            }
+            None => false,
+        }
     }
 }

@@ -13,7 +13,7 @@ use Rattle.plane_exact.specs.Figure.{AllClose}
 use Rattle.plane_exact.proofs.SegmentLemmas.{lt_decides}
 use Rattle.ring_rules.specs.declared.bounds.Extent.{Extent}
 use Rattle.ring_rules.specs.declared.bounds.Bounds.{Bounds}
-use Rattle.ring_rules.specs.Bounds.{IsReached, IsExtent, AreBounds, IsWide, AreSpread}
+use Rattle.ring_rules.specs.Bounds.{IsReached, IsExtent, AreBounds, IsWide, HaveFarPair}
 
 -- a choice is one of the two
 pub one_of : (first : Bool) (x y : ℤ) → (cond first x y ≡ x) ⊎ (cond first x y ≡ y)
@@ -76,12 +76,12 @@ pub record AreInRange (e : Extent) : Type 0 where
   pub most : e.greatest ≤ℤ pos (2 ^ 63 - 1)
   pub fewest : neg_ℤ (pos (2 ^ 63)) ≤ℤ e.least
 
-pub spread_by_x : (points : List Point) (b : Bounds) → AreInRange b.x → AreBounds points b → IsWide b.x → AreSpread points
+pub spread_by_x : (points : List Point) (b : Bounds) → AreInRange b.x → AreBounds points b → IsWide b.x → HaveFarPair points
 spread_by_x points b range h wide =
     let two = apart (λ (p : Point). p.x) points b.x range.most range.fewest h.x wide in
     record { one = two.low; other = two.high; has_one = two.has_low; has_other = two.has_high; apart = λ close. omega (arith, ints, two.far, close.x.below) }
 
-pub spread_by_y : (points : List Point) (b : Bounds) → AreInRange b.y → AreBounds points b → IsWide b.y → AreSpread points
+pub spread_by_y : (points : List Point) (b : Bounds) → AreInRange b.y → AreBounds points b → IsWide b.y → HaveFarPair points
 spread_by_y points b range h wide =
     let two = apart (λ (p : Point). p.y) points b.y range.most range.fewest h.y wide in
     record { one = two.low; other = two.high; has_one = two.has_low; has_other = two.has_high; apart = λ close. omega (arith, ints, two.far, close.y.below) }
@@ -90,7 +90,7 @@ not_above_by : (a b : ℤ) (test : Bool) → lt_z a b ≡ test → ¬ (a <ℤ b)
 not_above_by a b true e h = absurd (h ((lt_decides a b).0 e))
 not_above_by a b false e h = grind (arith, ints)
 
-not_above : (a b : ℤ) → ¬ (a <ℤ b) → b ≤ℤ a
+pub not_above : (a b : ℤ) → ¬ (a <ℤ b) → b ≤ℤ a
 not_above a b h = not_above_by a b (lt_z a b) refl h
 
 within : (axis : Point → ℤ) (points : List Point) (e : Extent) → IsExtent axis points e → ¬ IsWide e → (p q : Point) → Contains points p → Contains points q → IsWithin 200000000 (axis p) (axis q)
@@ -107,7 +107,7 @@ all_close points b h narrow_x narrow_y = record {
   };
 }
 
-pub not_spread : (points : List Point) → AllClose points → ¬ AreSpread points
+pub not_spread : (points : List Point) → AllClose points → ¬ HaveFarPair points
 not_spread points all s = s.apart (all.close s.one s.other s.has_one s.has_other)
 
 -- one item's positions more

@@ -2,6 +2,7 @@
 use Rattle.std.proofs.Common.{◌≡◌, ℕ, zero, suc, ◌+◌, ◌<◌, ◌≤◌, Bool, IsTrue, ◌↔◌, ◌⊎◌, inl, inr, List, [], ◌∷◌, ◌++◌, length, get_or, take, map, flat_map, Some, None, refl, sym, subst, ap, ◌∙◌, arith}
 use Rattle.std.specs.Prelude.{slice_get}
 use Rattle.std.proofs.lemmas.List.{length-append, length-map, length-take-le, map-append, take_more}
+use Rattle.std.proofs.lemmas.Option.{same_Some}
 use Rattle.venue_types.specs.declared.finding.Finding.{Finding}
 use Rattle.venue_types.specs.declared.point.Ring.{Ring}
 use Rattle.venue_types.specs.declared.point.Part.{Part}
@@ -61,9 +62,6 @@ adds_hole source i n border ring a b c one other = Adds-then (FindsInRing source
 
 -- ---- items of joined lists
 
-some_same : {X : Type 0} (x y : X) → Some x ≡ Some y → x ≡ y
-some_same x y e = cc
-
 at_left : {X : Type 0} (xs ys : List X) (k : ℕ) (x : X) → slice_get xs k ≡ Some x → slice_get (xs ++ ys) k ≡ Some x
 at_left [] ys k x e = absurd cc
 at_left (z ∷ zs) ys zero x e = e
@@ -96,7 +94,7 @@ record IsOnly {X : Type 0} (y x : X) (k : ℕ) : Type 0 where
   same : y ≡ x
 
 only_item : {X : Type 0} (y x : X) (k : ℕ) → slice_get (y ∷ []) k ≡ Some x → IsOnly y x k
-only_item y x zero e = record { first = refl; same = some_same y x e }
+only_item y x zero e = record { first = refl; same = same_Some y x e }
 only_item y x (suc k) e = absurd cc
 
 one_back : (source : File) (i n : ℕ) (placed other : Placed) (place : ℕ) (x : Finding) → IsOnly placed other place → FindsInRing source i (n + place) other x → FindsInRing source i n placed x

@@ -5,3 +5,4 @@ pub mod FitLemmas
 pub mod FindingLemmas
 pub mod FolderLemmas
 pub mod SmallLemmas
+mod SpreadLemmas

@@ -26,7 +26,7 @@ abbrev pub IsWide : Extent → Type 0
 IsWide extent = (extent.least +ℤ pos 200000000) <ℤ extent.greatest
 
 -- two of the positions are not close
-pub record AreSpread (points : List Point) : Type 0 where
+pub record HaveFarPair (points : List Point) : Type 0 where
   pub one : Point
   pub other : Point
   pub has_one : Contains points one

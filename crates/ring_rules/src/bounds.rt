@@ -3,7 +3,7 @@
 ghost use Rattle.std.specs.Prelude.{◌≡◌, ℤ, ◌↔◌, IsTrue, false, List, [], ◌∷◌, ◌++◌};
 ghost use Rattle.plane_exact.specs.Figure.{AllClose};
 ghost use Rattle.venue_types.specs.declared.point.Point.{Point};
-ghost use Rattle.ring_rules.specs.Bounds.{IsExtent, AreBounds, IsWide, AreSpread};
+ghost use Rattle.ring_rules.specs.Bounds.{IsExtent, AreBounds, IsWide, HaveFarPair};
 
 use venue_types::Point;
 
@@ -85,7 +85,7 @@ impl Bounds {
 
     /// Whether two of the positions lie far apart on an axis.
     pub(crate) fn are_wide(self) -> bool
-        ensures spread { (xs : List Point) → AreBounds xs self → IsTrue result ↔ AreSpread xs }
+        ensures spread { (xs : List Point) → AreBounds xs self → IsTrue result ↔ HaveFarPair xs }
         ensures close { (xs : List Point) → AreBounds xs self → result ≡ false → AllClose xs }
     {
         self.x.is_wide() || self.y.is_wide()

@@ -5,16 +5,17 @@ mod area;
 mod bounds;
 mod crossings;
 mod holes;
+mod laws;
 mod place;
 mod positioned;
 mod ring_findings;
 mod rules;
 mod shape_findings;
-mod shaped;
 mod spread;
 #[cfg(test)]
 mod tests;
 
+pub use laws::no_spread_law;
 pub use ring_findings::add_ring_findings;
-pub use rules::RingRule;
+pub use rules::{RingRule, SPREAD_RULE};
 pub use spread::is_spread;

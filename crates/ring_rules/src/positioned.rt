@@ -1,14 +1,13 @@
 //! What has positions.
 
-ghost use Rattle.std.specs.Prelude.{List, flat_map};
+ghost use Rattle.std.specs.Prelude.{List, flat_map, map};
 ghost use Rattle.venue_types.specs.declared.point.Point.{Point};
+ghost use Rattle.plane_exact.specs.Figure.{vertices};
 ghost use Rattle.ring_rules.specs.Bounds.{AreBounds};
 
 use crate::bounds::Bounds;
-use venue_types::{
-    AmenityRow, AnchorRow, FixtureRow, FootprintRow, LevelRow, List, OpeningRow, Part, Point, Ring,
-    Shape, UnitRow, VenueRow,
-};
+use sound_rows::HasShape;
+use venue_types::{AmenityRow, AnchorRow, List, OpeningRow, Part, Point, Ring, Shape};
 
 /// What has positions.
 pub(crate) trait Positioned {
@@ -34,6 +33,17 @@ fn bounds_in<T: Positioned>(items: &[T]) -> Bounds
     let mut bounds = Bounds::none();
     for item in items {
         bounds = bounds.join(item.bounds());
+    }
+    bounds
+}
+
+/// The bounds of the vertices of the rows' shapes.
+pub(crate) fn bounds_of_shapes<R: HasShape>(rows: &List<R>) -> Bounds
+    ensures { AreBounds (flat_map vertices (map R.shape_of rows.now)) result }
+{
+    let mut bounds = Bounds::none();
+    for row in rows.as_slice() {
+        bounds = bounds.join(row.shape().bounds());
     }
     bounds
 }
@@ -101,55 +111,5 @@ impl Positioned for OpeningRow {
 
     fn bounds(&self) -> Bounds {
         bounds_of(&self.line.points)
-    }
-}
-
-impl Positioned for FixtureRow {
-    ghost use Rattle.plane_exact.specs.Figure.{vertices};
-
-    ghost positions = { λ row. vertices row.shape };
-
-    fn bounds(&self) -> Bounds {
-        self.shape.bounds()
-    }
-}
-
-impl Positioned for FootprintRow {
-    ghost use Rattle.plane_exact.specs.Figure.{vertices};
-
-    ghost positions = { λ row. vertices row.shape };
-
-    fn bounds(&self) -> Bounds {
-        self.shape.bounds()
-    }
-}
-
-impl Positioned for LevelRow {
-    ghost use Rattle.plane_exact.specs.Figure.{vertices};
-
-    ghost positions = { λ row. vertices row.shape };
-
-    fn bounds(&self) -> Bounds {
-        self.shape.bounds()
-    }
-}
-
-impl Positioned for UnitRow {
-    ghost use Rattle.plane_exact.specs.Figure.{vertices};
-
-    ghost positions = { λ row. vertices row.shape };
-
-    fn bounds(&self) -> Bounds {
-        self.shape.bounds()
-    }
-}
-
-impl Positioned for VenueRow {
-    ghost use Rattle.plane_exact.specs.Figure.{vertices};
-
-    ghost positions = { λ row. vertices row.shape };
-
-    fn bounds(&self) -> Bounds {
-        self.shape.bounds()
     }
 }

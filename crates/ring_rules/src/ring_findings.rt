@@ -11,12 +11,12 @@ ghost use Rattle.ring_rules.specs.Rules.{BreaksInRing};
 
 use crate::place::Place;
 use crate::shape_findings::add_shape;
-use crate::shaped::Shaped;
 use imdf_forms::File;
+use sound_rows::HasShape;
 use venue_types::{Features, Finding, List, OutOfMemory};
 
 // What is wrong with the rings of some rows of a file.
-fn add_rows<R: Shaped>(
+fn add_rows<R: HasShape>(
     findings: &mut Vec<Finding>,
     file: File,
     rows: &[R],
@@ -33,7 +33,7 @@ fn add_rows<R: Shaped>(
 }
 
 // What is wrong with the rings of a file.
-fn add_file<R: Shaped>(
+fn add_file<R: HasShape>(
     findings: &mut Vec<Finding>,
     file: File,
     rows: &List<R>,

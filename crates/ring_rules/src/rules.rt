@@ -3,6 +3,9 @@
 ghost use Rattle.std.specs.Prelude.{◌≡◌};
 ghost use Rattle.ring_rules.specs.Rules.{ring_rule_number};
 
+/// The number of the rule on the spread of a folder, G6: two judged positions lie too far apart.
+pub const SPREAD_RULE: u8 = 26;
+
 /// A rule on a ring.
 #[derive(Clone, Copy, Debug, PartialEq, Eq)]
 pub enum RingRule {

@@ -7,7 +7,7 @@ ghost use Rattle.ring_rules.specs.Bounds.{AreBounds};
 ghost use Rattle.ring_rules.specs.Rules.{IsSpread};
 
 use crate::bounds::Bounds;
-use crate::positioned::bounds_of;
+use crate::positioned::{bounds_of, bounds_of_shapes};
 use venue_types::{Features, UnitRow};
 
 // The bounds of the units' display points.
@@ -37,12 +37,12 @@ fn bounds_of_judged(features: &Features) -> Bounds
 {
     bounds_of(&features.amenities)
         .join(bounds_of(&features.anchors))
-        .join(bounds_of(&features.fixtures))
-        .join(bounds_of(&features.footprints))
-        .join(bounds_of(&features.levels))
+        .join(bounds_of_shapes(&features.fixtures))
+        .join(bounds_of_shapes(&features.footprints))
+        .join(bounds_of_shapes(&features.levels))
         .join(bounds_of(&features.openings))
-        .join(bounds_of(&features.units))
-        .join(bounds_of(&features.venues))
+        .join(bounds_of_shapes(&features.units))
+        .join(bounds_of_shapes(&features.venues))
         .join(bounds_of_displays(features.units.as_slice()))
 }
 

@@ -5,5 +5,18 @@
 #![tactic(auto)]
 
 mod count;
+mod has_id;
+mod has_shape;
+mod index;
+mod laws;
+#[cfg(test)]
+mod tests;
 
 pub use count::feature_count;
+pub use has_id::HasId;
+pub use has_shape::HasShape;
+pub use index::Index;
+pub use laws::{
+    amenity_point_law, anchor_point_law, index_law, once_law, opening_point_law, row_law,
+    unit_vertex_law,
+};

@@ -3,5 +3,5 @@ use Rattle.contain_rules.proofs.Judgements.{four_rules}
 use Rattle.contain_rules.proofs.holding.add_hold_findings.Goals as goal
 
 pub returns : goal.returns
-returns c = on_ok c.judge_openings.result _ _ c.judge_openings.ensures (λ four.
-    four_rules c.args.features.now c.args.tolerance _ _ _ _ _ c.in_ok-judge_units.ensures c.in_ok-judge_anchors.ensures c.in_ok-judge_amenities.ensures four)
+returns c = on_ok c.judge-4.result _ _ c.judge-4.ensures (λ four.
+    four_rules c.args.features.now c.args.tolerance _ _ _ _ _ c.in_ok-judge.ensures c.in_ok-judge-2.ensures c.in_ok-judge-3.ensures four)

@@ -3,9 +3,10 @@ use Rattle.std.proofs.lemmas.Bool.{false≢true}
 use Rattle.plane_exact.specs.Figure.{part_points}
 use Rattle.std.proofs.Common.{flat_map}
 use Rattle.plane_exact.proofs.SegmentLemmas.{iff_along}
+use Rattle.report_laws.proofs.Passes.{Contains-flat_map}
 use Rattle.contain_rules.specs.Rules.{IsHeld}
 use Rattle.contain_rules.proofs.Closeness.{beside_fewer}
-use Rattle.contain_rules.proofs.Lists.{at_place, Contains-flat_map, all_here, all_past}
+use Rattle.contain_rules.proofs.Lists.{at_place, all_here, all_past}
 use Rattle.contain_rules.proofs.leaving.parts_leave.Goals as goal
 
 pub part_leaves-requires-clause-close : goal.part_leaves-requires-clause-close
@@ -13,7 +14,7 @@ part_leaves-requires-clause-close c =
     let part = c.part-item.result in
     let parts = c.args.parts.now in
     beside_fewer c.args.shape.now (part_points part) (flat_map part_points parts) c.requires.close
-    (λ p h. Contains-flat_map part_points parts part p (at_place parts c.loop-part.part-index part c.loop-part-test.true c.part-item.is) h)
+    (λ p h. (Contains-flat_map part_points parts p).1 (part, (at_place parts c.loop-part.part-index part c.loop-part-test.true c.part-item.is), h))
 
 pub returns-then-part_leaves : goal.returns-then-part_leaves
 returns-then-part_leaves c =

@@ -4,10 +4,11 @@ use Rattle.venue_types.specs.declared.point.Point.{Point}
 use Rattle.venue_types.specs.declared.point.Ring.{Ring}
 use Rattle.plane_exact.specs.Figure.{ring_points}
 use Rattle.plane_exact.proofs.SegmentLemmas.{iff_along}
+use Rattle.report_laws.proofs.Passes.{Contains-flat_map}
 use Rattle.contain_rules.specs.Rules.{IsHeld}
 use Rattle.contain_rules.specs.Judging.{AreBeside, SomeLeaves}
 use Rattle.contain_rules.proofs.Closeness.{beside_fewer}
-use Rattle.contain_rules.proofs.Lists.{at_place, Contains-flat_map, all_here, all_past}
+use Rattle.contain_rules.proofs.Lists.{at_place, all_here, all_past}
 use Rattle.contain_rules.proofs.leaving.rings_leave.Goals as goal
 
 pub some_leaves-requires-clause-close : goal.some_leaves-requires-clause-close
@@ -16,7 +17,7 @@ some_leaves-requires-clause-close c =
     let rings = c.args.rings.now in
     subst (λ (points : List Point). AreBeside c.args.shape.now points) (sym c.as_slice.ensures)
     (beside_fewer c.args.shape.now ring.points (ring_points rings) c.requires.close
-    (λ p h. Contains-flat_map (λ (r : Ring). r.points) rings ring p (at_place rings c.loop-ring.ring-index ring c.loop-ring-test.true c.ring-item.is) h))
+    (λ p h. (Contains-flat_map (λ (r : Ring). r.points) rings p).1 (ring, (at_place rings c.loop-ring.ring-index ring c.loop-ring-test.true c.ring-item.is), h)))
 
 pub returns-then-some_leaves : goal.returns-then-some_leaves
 returns-then-some_leaves c =

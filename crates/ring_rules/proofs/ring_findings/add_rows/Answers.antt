@@ -11,7 +11,7 @@ use Rattle.ring_rules.proofs.ring_findings.add_rows.Goals as goal
 
 pub returns : goal.returns
 returns g c =
-    let shapes = map g.R.Shaped.shape_of c.args.rows.now in
+    let shapes = map g.R.HasShape.shape_of c.args.rows.now in
     in_shapes c.args.file shapes c.args.findings.now.items c.loop-k.findings.items
     (Adds-end (λ k shape. FindsFrom c.args.file k 0 (placed_rings shape)) shapes c.loop-k.k (rw length-map c.loop-k-test.false) c.loop-k.invariant)
 
@@ -21,6 +21,6 @@ loop-k-preserved g c =
     let k = c.loop-k.k in
     let row = c.index-rows-k.result in
     let within : k < length rows = omega arith in
-    let at = at_map g.R.Shaped.shape_of rows k row (slice_get_read rows (length rows) k row refl within c.index-rows-k.is) in
-    Adds-step (λ n shape. FindsFrom c.args.file n 0 (placed_rings shape)) (map g.R.Shaped.shape_of rows) k (g.R.Shaped.shape_of row) at c.loop-k.invariant
+    let at = at_map g.R.HasShape.shape_of rows k row (slice_get_read rows (length rows) k row refl within c.index-rows-k.is) in
+    Adds-step (λ n shape. FindsFrom c.args.file n 0 (placed_rings shape)) (map g.R.HasShape.shape_of rows) k (g.R.HasShape.shape_of row) at c.loop-k.invariant
     (subst (λ (shape : Shape). Adds (FindsFrom c.args.file k 0 (placed_rings shape)) c.loop-k.findings.items c.add_shape.new.findings.items) c.shape.ensures c.in_ok-add_shape.ensures)

@@ -7,4 +7,4 @@ use Rattle.ring_rules.proofs.ring_findings.add_rows.Given as goal
 
 -- what the rows before add
 abbrev pub invariant-loop-k : goal.invariant-loop-k
-invariant-loop-k g l = Adds (Below (λ k shape. FindsFrom l.file k 0 (placed_rings shape)) (map g.R.Shaped.shape_of l.rows) l.k) l.initial.findings.items l.findings.items
+invariant-loop-k g l = Adds (Below (λ k shape. FindsFrom l.file k 0 (placed_rings shape)) (map g.R.HasShape.shape_of l.rows) l.k) l.initial.findings.items l.findings.items

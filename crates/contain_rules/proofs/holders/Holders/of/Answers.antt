@@ -1,0 +1,19 @@
+use Rattle.std.proofs.Common.{List, map, subst, sym}
+use Rattle.venue_types.specs.declared.features.LevelRow.{LevelRow}
+use Rattle.venue_types.specs.declared.features.UnitRow.{UnitRow}
+use Rattle.imdf_forms.specs.declared.files.File.TheVariants as file
+use Rattle.sound_rows.specs.Indexes.{AreOnce}
+use Rattle.contain_rules.specs.Holders.{IsShapeIndex}
+use Rattle.contain_rules.proofs.holders.Holders.of.Goals as goal
+
+pub of-requires : goal.of-requires
+of-requires c = subst (λ (rows : List LevelRow). AreOnce (map (λ (row : LevelRow). row.id) rows)) (sym c.as_slice.ensures) (c.once_law.ensures c.args.features.now file.Level c.requires)
+
+pub of-requires-2 : goal.of-requires-2
+of-requires-2 c = subst (λ (rows : List UnitRow). AreOnce (map (λ (row : UnitRow). row.id) rows)) (sym c.as_slice-2.ensures) (c.once_law.ensures c.args.features.now file.Unit c.requires)
+
+pub returns : goal.returns
+returns c = record {
+  levels = subst (λ (rows : List LevelRow). IsShapeIndex (map (λ (row : LevelRow). row.id) rows) (map (λ (row : LevelRow). row.shape) rows) c.in_ok-of.field-0) c.as_slice.ensures c.in_ok-of.ensures;
+  units = subst (λ (rows : List UnitRow). IsShapeIndex (map (λ (row : UnitRow). row.id) rows) (map (λ (row : UnitRow). row.shape) rows) c.in_ok-of-2.field-0) c.as_slice-2.ensures c.in_ok-of-2.ensures;
+}

@@ -1,0 +1,4 @@
+mod Lists
+mod Entries
+mod Closeness
+mod Indexing
