@@ -1,4 +1,6 @@
 mod OwnIds
+mod Typed
+mod Clean
 pub mod Loops
 pub mod FileOrder
 pub mod Indexing

@@ -27,12 +27,12 @@ abbrev pub place_of : File → ℕ → ℕ → Place
 place_of f k member = record { file = f; index = k; member = member }
 
 -- the references as a list
-abbrev pub listed : References → List Reference
-listed references.Nothing = []
-listed (references.Id id) = by_id id ∷ []
-listed (references.Ids ids) = map by_id ids.now
-listed (references.Object object) = by_object object ∷ []
-listed (references.Objects objects) = map by_object objects.now
+abbrev pub reference_list : References → List Reference
+reference_list references.Nothing = []
+reference_list (references.Id id) = by_id id ∷ []
+reference_list (references.Ids ids) = map by_id ids.now
+reference_list (references.Object object) = by_object object ∷ []
+reference_list (references.Objects objects) = map by_object objects.now
 
 -- what names a feature by this identifier, and tells this type or none
 abbrev pub reference : FeatureId → Option ℕ → Reference

@@ -6,11 +6,11 @@ ghost use Rattle.report_laws.specs.Passes.{over};
 ghost use Rattle.sound_rows.specs.Rows.{feature_count};
 ghost use Rattle.venue_types.specs.declared.feature_id.FeatureId.{FeatureId as FeatureIdOf};
 ghost use Rattle.imdf_refs.specs.References.{by_id, by_object, file_named};
-ghost use Rattle.imdf_refs.specs.Gathering.{reference, listed, dangles, at_feature, in_property};
+ghost use Rattle.imdf_refs.specs.Gathering.{reference, reference_list, dangles, at_feature, in_property};
 
 use crate::known::Known;
 use crate::place::{Place, item_place};
-use crate::row::{References, Row};
+use crate::row::{HasReferences, References};
 use crate::rules::Rule;
 use imdf_forms::{File, Named, PropertyRow};
 use report_laws::add;
@@ -89,7 +89,7 @@ fn judge_references(
     index: u32,
     references: References<'_>,
 ) -> Result<(), OutOfMemory>
-    ensures { OnOk result (findings.new.items ≡ findings.old.items ++ at_feature known.now row.now index (listed references.entry)) }
+    ensures { OnOk result (findings.new.items ≡ findings.old.items ++ at_feature known.now row.now index (reference_list references.entry)) }
 {
     match references {
         References::Nothing => Ok(()),
@@ -101,7 +101,7 @@ fn judge_references(
 }
 
 // At each feature of a file.
-fn judge_rows<R: Row>(
+fn judge_rows<R: HasReferences>(
     findings: &mut Vec<Finding>,
     known: &Known,
     row: &PropertyRow,
