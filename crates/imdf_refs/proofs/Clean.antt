@@ -17,7 +17,7 @@ use Rattle.imdf_forms.specs.Properties.{properties}
 use Rattle.sound_rows.specs.Rows.{ids_of, IsFeature, HaveOwnIds}
 use Rattle.sound_rows.specs.Named.{IsLevel, IsUnit, IsAnchor}
 use Rattle.report_laws.proofs.Adding.{at_map, at_member, member_at}
-use Rattle.imdf_refs.specs.References.{Reference, Refers, by_id, references_in, opening_references, unit_references, anchor_references, amenity_references, occupant_references}
+use Rattle.imdf_refs.specs.References.{Refers, by_id, opening_references, unit_references, anchor_references, amenity_references, occupant_references}
 use Rattle.imdf_refs.specs.Rules.{IsTyped}
 use Rattle.imdf_refs.specs.Laws.{FindsNothing, HasOne, OpeningsHaveLevels, UnitsHaveLevels, AnchorsHaveUnits, AmenitiesHaveUnits, OccupantsHaveAnchors}
 use Rattle.imdf_refs.proofs.FileOrder.{same_number}

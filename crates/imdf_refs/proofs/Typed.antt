@@ -4,7 +4,6 @@ use Rattle.std.specs.Prelude.{slice_get}
 use Rattle.std.proofs.lemmas.Bool.{eqb-true, eq-eqb, false≢true}
 use Rattle.venue_types.specs.declared.feature_id.FeatureId.{FeatureId}
 use Rattle.venue_types.specs.declared.features.Features.{Features}
-use Rattle.venue_types.specs.declared.finding.Finding.{Finding}
 use Rattle.imdf_forms.specs.declared.files.File.{File}
 use Rattle.imdf_forms.specs.declared.table.PropertyRow.{PropertyRow}
 use Rattle.imdf_forms.specs.Files.{file_number}
@@ -12,8 +11,8 @@ use Rattle.imdf_forms.specs.Properties.{property_number}
 use Rattle.sound_rows.specs.Rows.{ids_of}
 use Rattle.imdf_refs.specs.declared.rules.Rule.{Rule}
 use Rattle.imdf_refs.specs.declared.rules.Rule.TheVariants.{X1, X2}
-use Rattle.imdf_refs.specs.References.{Reference, Refers, file_named}
-use Rattle.imdf_refs.specs.Rules.{rule_number, IsNamed, IsTyped, IsOfOtherType, ReferenceBreaks}
+use Rattle.imdf_refs.specs.References.{Reference, Refers}
+use Rattle.imdf_refs.specs.Rules.{rule_number, IsTyped, IsOfOtherType, ReferenceBreaks}
 use Rattle.imdf_refs.specs.Laws.{FindsNothing, NameTheirTypes}
 use Rattle.imdf_refs.proofs.FileOrder.{file_at, at_number, same_number}
 

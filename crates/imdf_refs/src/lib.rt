@@ -14,8 +14,8 @@ mod rules;
 mod tests;
 
 pub use laws::{
-    amenity_unit_law, anchor_unit_law, occupant_anchor_law, opening_level_law, own_ids_law, types_law,
-    unit_level_law,
+    amenity_unit_law, anchor_unit_law, occupant_anchor_law, opening_level_law, own_ids_law,
+    types_law, unit_level_law,
 };
 pub use references::reference_findings;
 pub use rules::Rule;
