@@ -17,7 +17,7 @@ use Rattle.imdf_forms.specs.Properties.{properties}
 use Rattle.sound_rows.specs.Rows.{ids_of, IsFeature, HaveOwnIds}
 use Rattle.sound_rows.specs.Named.{IsLevel, IsUnit, IsAnchor}
 use Rattle.report_laws.proofs.Adding.{at_map, at_member, member_at}
-use Rattle.imdf_refs.specs.References.{Refers, by_id, opening_references, unit_references, anchor_references, amenity_references, occupant_references}
+use Rattle.imdf_refs.specs.References.{Refers, by_id, file_named, references_in, opening_references, unit_references, anchor_references, amenity_references, occupant_references}
 use Rattle.imdf_refs.specs.Rules.{IsTyped}
 use Rattle.imdf_refs.specs.Laws.{FindsNothing, HasOne, OpeningsHaveLevels, UnitsHaveLevels, AnchorsHaveUnits, AmenitiesHaveUnits, OccupantsHaveAnchors}
 use Rattle.imdf_refs.proofs.FileOrder.{same_number}
@@ -78,39 +78,43 @@ module _ (features : Features) (nothing : FindsNothing features) where
       let one = one_named features own file.Anchor features.anchors (λ (row : AnchorRow). row.id) refl id t in
       record { one = one.row; is = record { has = one.has; named = one.named }; only = λ other h. one.only other h.has h.named }
 
+  -- what the one reference of a property names
+  typed : (row : PropertyRow) (k : ℕ) (id : FeatureId) (f : ℕ) → Contains properties row → slice_get (references_in features row.file row.property) k ≡ Some (by_id id ∷ []) → file_named row.names (by_id id) ≡ Some f → IsTyped features id f
+  typed row k id f listed feature asked = name_their_types features nothing row k 0 (by_id id) f (record { listed = listed; all = by_id id ∷ []; feature = feature; there = refl }) asked
+
   pub openings_have_levels : OpeningsHaveLevels features
   openings_have_levels opening h =
       let k = at_member features.openings opening h in
       let row : PropertyRow = record { property = property.LevelId; file = file.Opening; form = form.Id; names = named.Level } in
-      let there : Refers features row k.0 0 (by_id opening.level) = record { listed = member_at properties 8 row refl; all = by_id opening.level ∷ []; feature = at_map (opening_references property.LevelId) features.openings k.0 opening k.1; there = refl } in
-      level opening.level (name_their_types features nothing row k.0 0 (by_id opening.level) 10 there refl)
+      level opening.level (typed row k.0 opening.level 10 (member_at properties 8 row refl) (at_map (opening_references property.LevelId) features.openings k.0 opening k.1) refl)
 
   pub units_have_levels : UnitsHaveLevels features
   units_have_levels unit h =
       let k = at_member features.units unit h in
       let row : PropertyRow = record { property = property.LevelId; file = file.Unit; form = form.Id; names = named.Level } in
-      let there : Refers features row k.0 0 (by_id unit.level) = record { listed = member_at properties 7 row refl; all = by_id unit.level ∷ []; feature = at_map (unit_references property.LevelId) features.units k.0 unit k.1; there = refl } in
-      level unit.level (name_their_types features nothing row k.0 0 (by_id unit.level) 10 there refl)
+      level unit.level (typed row k.0 unit.level 10 (member_at properties 7 row refl) (at_map (unit_references property.LevelId) features.units k.0 unit k.1) refl)
 
   pub anchors_have_units : AnchorsHaveUnits features
   anchors_have_units a h =
       let k = at_member features.anchors a h in
       let row : PropertyRow = record { property = property.UnitId; file = file.Anchor; form = form.Id; names = named.Unit } in
-      let there : Refers features row k.0 0 (by_id a.unit) = record { listed = member_at properties 12 row refl; all = by_id a.unit ∷ []; feature = at_map (anchor_references property.UnitId) features.anchors k.0 a k.1; there = refl } in
-      unit a.unit (name_their_types features nothing row k.0 0 (by_id a.unit) 15 there refl)
+      unit a.unit (typed row k.0 a.unit 15 (member_at properties 12 row refl) (at_map (anchor_references property.UnitId) features.anchors k.0 a k.1) refl)
 
   pub amenities_have_units : AmenitiesHaveUnits features
   amenities_have_units amenity id h g =
       let k = at_member features.amenities amenity h in
       let p = at_member amenity.units id g in
       let row : PropertyRow = record { property = property.UnitIds; file = file.Amenity; form = form.Ids; names = named.Unit } in
-      let there : Refers features row k.0 p.0 (by_id id) =
-      record { listed = member_at properties 13 row refl; all = map by_id amenity.units; feature = at_map (amenity_references property.UnitIds) features.amenities k.0 amenity k.1; there = at_map by_id amenity.units p.0 id p.1 } in
+      let there : Refers features row k.0 p.0 (by_id id) = record {
+        listed = member_at properties 13 row refl;
+        all = map by_id amenity.units;
+        feature = at_map (amenity_references property.UnitIds) features.amenities k.0 amenity k.1;
+        there = at_map by_id amenity.units p.0 id p.1;
+      } in
       unit id (name_their_types features nothing row k.0 p.0 (by_id id) 15 there refl)
 
   pub occupants_have_anchors : OccupantsHaveAnchors features
   occupants_have_anchors occupant h =
       let k = at_member features.occupants occupant h in
       let row : PropertyRow = record { property = property.AnchorId; file = file.Occupant; form = form.Id; names = named.Anchor } in
-      let there : Refers features row k.0 0 (by_id occupant.anchor) = record { listed = member_at properties 14 row refl; all = by_id occupant.anchor ∷ []; feature = at_map (occupant_references property.AnchorId) features.occupants k.0 occupant k.1; there = refl } in
-      anchor occupant.anchor (name_their_types features nothing row k.0 0 (by_id occupant.anchor) 3 there refl)
+      anchor occupant.anchor (typed row k.0 occupant.anchor 3 (member_at properties 14 row refl) (at_map (occupant_references property.AnchorId) features.occupants k.0 occupant k.1) refl)

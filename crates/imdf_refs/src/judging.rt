@@ -43,7 +43,7 @@ fn judge(
     let named = known.has(id);
     let right = known.has_typed(id, file);
     add(findings, !named, place.finding(Rule::X1))?;
-    add(findings, named && !right, place.finding(Rule::X2))
+    add(findings, named & !right, place.finding(Rule::X2))
 }
 
 // At each identifier of a list.
