@@ -10,13 +10,13 @@ use Rattle.sound_rows.specs.Rows.{ids_of, IsFeature, feature_count}
 use Rattle.report_laws.proofs.Adding.{at_map}
 
 -- the files in the order of their numbers
-abbrev all_files : List File
+abbrev pub all_files : List File
 all_files = file.Manifest ∷ feature_files
 
-abbrev file_at : ℕ → File
+abbrev pub file_at : ℕ → File
 file_at n = unwrap_or (slice_get all_files n) file.Manifest
 
-at_number : (f : File) → file_at (file_number f) ≡ f
+pub at_number : (f : File) → file_at (file_number f) ≡ f
 at_number file.Manifest = refl
 at_number file.Address = refl
 at_number file.Amenity = refl

@@ -1,6 +1,8 @@
 mod OwnIds
-pub mod Loops
+mod Typed
+mod Clean
 pub mod FileOrder
 pub mod Indexing
 pub mod Naming
+pub mod Dangling
 pub mod Misnaming

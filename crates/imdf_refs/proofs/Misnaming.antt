@@ -1,26 +1,22 @@
 -- What is found at references, and the report of all.
-use Rattle.std.proofs.Common.{◌≡◌, ◌≢◌, ◌∙◌, ℕ, ◌+◌, ◌*◌, List, [], ◌++◌, Option, Some, None, Bool, true, false, not, ◌&&◌, refl, sym, ap, subst, ◌⊎◌, inl, inr, ◌↔◌}
+use Rattle.std.proofs.Common.{◌≡◌, ◌≢◌, ◌∙◌, ℕ, ◌+◌, ◌*◌, List, [], Option, Some, None, Bool, true, false, not, ◌&&◌, refl, sym, ap, subst, ◌⊎◌, inl, inr, ◌↔◌}
 use Rattle.std.specs.Prelude.{Contains, slice_get}
-use Rattle.std.specs.List.{flat_map}
-use Rattle.std.proofs.lemmas.List.Elements.{Contains-append_left, Contains-append_right, Contains-append_cases}
 use Rattle.venue_types.specs.declared.feature_id.FeatureId.{FeatureId}
 use Rattle.venue_types.specs.declared.features.Features.{Features}
 use Rattle.venue_types.specs.declared.finding.Finding.{Finding}
 use Rattle.imdf_forms.specs.declared.files.File.{File}
-use Rattle.imdf_forms.specs.declared.table.PropertyRow.{PropertyRow}
 use Rattle.imdf_forms.specs.Files.{file_number}
 use Rattle.imdf_forms.specs.Properties.{property_number, properties}
 use Rattle.sound_rows.specs.Rows.{IsFeature}
-use Rattle.report_laws.specs.Passes.{Adds, found}
+use Rattle.report_laws.specs.Passes.{Adds}
 use Rattle.report_laws.proofs.Members.{Contains-nil}
-use Rattle.report_laws.proofs.Finds.{Finds, Finds-found, Finds-append, Finds-over, Finds-flat_map}
 use Rattle.imdf_refs.specs.declared.known.Known.{Known}
 use Rattle.imdf_refs.specs.declared.rules.Rule.{Rule}
 use Rattle.imdf_refs.specs.declared.rules.Rule.TheVariants.{C7, X1, X2}
-use Rattle.imdf_refs.specs.References.{Reference, references_in, file_named}
-use Rattle.imdf_refs.specs.Rules.{rule_number, IsNamed, IsOfOtherType, ReferenceBreaks, BreaksInId, BreaksInReference, IsMisnamed}
+use Rattle.imdf_refs.specs.References.{references_in, file_named}
+use Rattle.imdf_refs.specs.Rules.{rule_number, ReferenceBreaks, BreaksInId, BreaksInReference, IsMisnamed}
 use Rattle.imdf_refs.specs.Index.{has_id, has_typed, HasAll}
-use Rattle.imdf_refs.specs.Gathering.{finding_at, place_of, at_reference, at_feature, in_property, Repeats}
+use Rattle.imdf_refs.specs.Gathering.{Dangles, DanglesInTable, Repeats}
 
 true_or_false : (b : Bool) → (b ≡ true) ⊎ (b ≡ false)
 true_or_false true = inl refl
@@ -60,49 +56,6 @@ is_none_of features known id (Some f) has none = is_not (has_typed known id (Som
     let at = (has.typed id f).0 h in
     none at.source at.place at.there (ap (λ (n : ℕ). Some n) (sym at.of_file)))
 
--- the rule on a reference is broken, which is told of this place
-abbrev DanglesBy : Rule → Features → PropertyRow → ℕ → ℕ → Reference → Finding → Type 0
-DanglesBy rule features row k place r x = ReferenceBreaks rule features row r × (x ≡ finding_at rule (place_of row.file k (property_number row.property + 64 * place)))
-
-abbrev Dangles : Features → PropertyRow → ℕ → ℕ → Reference → Finding → Type 0
-Dangles features row k place r x = DanglesBy X1 features row k place r x ⊎ DanglesBy X2 features row k place r x
-
-finds_reference : (features : Features) (known : Known) (row : PropertyRow) (k place : ℕ) (r : Reference) → HasAll features known → Finds (Dangles features row k place r) (at_reference known row k place r)
-finds_reference features known row k place r has =
-    let at = place_of row.file k (property_number row.property + 64 * place) in
-    let named = has_id known r.id in
-    let right = has_typed known r.id (file_named row.names r) in
-    let one : Finds (DanglesBy X1 features row k place r) (found (not named) (finding_at X1 at)) =
-    Finds-found (¬ IsNamed features r.id) (not named) (finding_at X1 at)
-    (λ h n. not_true named h ((has.ids r.id).1 n))
-    (λ no. is_not named (λ h. no ((has.ids r.id).0 h))) in
-    let other : Finds (DanglesBy X2 features row k place r) (found (named && not right) (finding_at X2 at)) =
-    Finds-found (IsNamed features r.id × IsOfOtherType features row r) (named && not right) (finding_at X2 at)
-    (λ h. let two = both named (not right) h in ((has.ids r.id).0 two.0, none_of features known r.id (file_named row.names r) has two.1))
-    (λ h. of_both named (not right) ((has.ids r.id).1 h.0) (is_none_of features known r.id (file_named row.names r) has h.1)) in
-    Finds-append (found (not named) (finding_at X1 at)) (found (named && not right) (finding_at X2 at)) one other
-
-abbrev DanglesInFeature : Features → PropertyRow → ℕ → List Reference → Finding → Type 0
-DanglesInFeature features row k rs x = (place : ℕ) × (r : Reference) × (slice_get rs place ≡ Some r) × Dangles features row k place r x
-
-finds_feature : (features : Features) (known : Known) (row : PropertyRow) (k : ℕ) (rs : List Reference) → HasAll features known → Finds (DanglesInFeature features row k rs) (at_feature known row k rs)
-finds_feature features known row k rs has =
-    Finds-over (at_reference known row k) (λ place r. Dangles features row k place r) rs (λ place r at. finds_reference features known row k place r has)
-
-abbrev DanglesInProperty : Features → PropertyRow → Finding → Type 0
-DanglesInProperty features row x = (k : ℕ) × (rs : List Reference) × (slice_get (references_in features row.file row.property) k ≡ Some rs) × DanglesInFeature features row k rs x
-
-finds_property : (features : Features) (known : Known) (row : PropertyRow) → HasAll features known → Finds (DanglesInProperty features row) (in_property known features row)
-finds_property features known row has =
-    Finds-over (at_feature known row) (λ k rs. DanglesInFeature features row k rs) (references_in features row.file row.property) (λ k rs at. finds_feature features known row k rs has)
-
-abbrev DanglesIn : Features → List PropertyRow → Finding → Type 0
-DanglesIn features table x = (row : PropertyRow) × Contains table row × DanglesInProperty features row x
-
-finds_table : (features : Features) (known : Known) (table : List PropertyRow) → HasAll features known → Finds (DanglesIn features table) (flat_map (in_property known features) table)
-finds_table features known table has =
-    Finds-flat_map (in_property known features) (λ row. DanglesInProperty features row) table (λ row at. finds_property features known row has)
-
 abbrev finding : ℕ → ℕ → ℕ → ℕ → Finding
 finding rule f k member = record { rule = rule; file = f; index = k; member = member }
 
@@ -112,34 +65,54 @@ finding_of x r f m rule file member =
     let whole : x ≡ finding x.rule x.file x.index x.member = refl in
     whole ∙ ap (λ (n : ℕ). finding n x.file x.index x.member) rule ∙ ap (λ (n : ℕ). finding r n x.index x.member) file ∙ ap (λ (n : ℕ). finding r f x.index n) member
 
--- what is found at a reference breaks its rule
-breaks_by : (features : Features) (rule : Rule) (row : PropertyRow) (k place : ℕ) (rs : List Reference) (r : Reference) (x : Finding)
-    → Contains properties row → slice_get (references_in features row.file row.property) k ≡ Some rs → slice_get rs place ≡ Some r → DanglesBy rule features row k place r x → IsMisnamed features x
-breaks_by features rule row k place rs r x listed feature there d =
-    let at : k ≡ x.index = sym (ap (λ (z : Finding). z.index) d.1) in
-    record {
-      rule = rule;
-      number = ap (λ (z : Finding). z.rule) d.1;
-      breaks = inr (record {
-        row = row;
-        place = place;
-        reference = r;
-        there = record { listed = listed; all = rs; feature = subst (λ (n : ℕ). slice_get (references_in features row.file row.property) n ≡ Some rs) at feature; there = there };
-        breaks = d.0;
-        in_file = ap (λ (z : Finding). z.file) d.1;
-        at_member = ap (λ (z : Finding). z.member) d.1;
-      });
-    }
+-- what dangles by the index breaks a rule on references
+module _ (features : Features) (known : Known) (has : HasAll features known) where
+  from_dangling : (x : Finding) → DanglesInTable known features properties x → IsMisnamed features x
+  from_dangling x h =
+      let row = h.row in
+      let k = h.dangles.index in
+      let all = h.dangles.references in
+      let at = h.dangles.dangles in
+      let r = at.reference in
+      let broken = λ (rule : Rule) (breaks : ReferenceBreaks rule features row r) (is : x ≡ finding (rule_number rule) (file_number row.file) k (property_number row.property + 64 * at.place)).
+      let same : k ≡ x.index = sym (ap (λ (z : Finding). z.index) is) in
+      let misnamed : IsMisnamed features x = record {
+        rule = rule;
+        number = ap (λ (z : Finding). z.rule) is;
+        breaks = inr (record {
+          row = row;
+          place = at.place;
+          reference = r;
+          there = record { listed = h.listed; all = all; feature = subst (λ (n : ℕ). slice_get (references_in features row.file row.property) n ≡ Some all) same h.dangles.there; there = at.there };
+          breaks = breaks;
+          in_file = ap (λ (z : Finding). z.file) is;
+          at_member = ap (λ (z : Finding). z.member) is;
+        });
+      } in
+      misnamed in
+      elim at.dangles [
+        | inl d ↦ broken X1 (λ named. not_true (has_id known r.id) d.0 ((has.ids r.id).1 named)) d.1
+        | inr d ↦
+            let two = both (has_id known r.id) (not (has_typed known r.id (file_named row.names r))) d.0 in
+            broken X2 ((has.ids r.id).0 two.0, none_of features known r.id (file_named row.names r) has two.1) d.1
+      ]
 
-from_dangling : (features : Features) (x : Finding) → DanglesIn features properties x → IsMisnamed features x
-from_dangling features x h =
-    let row = h.0 in
-    let in_property = h.2 in
-    let in_feature = in_property.3 in
-    elim in_feature.3 [
-      | inl d ↦ breaks_by features X1 row in_property.0 in_feature.0 in_property.1 in_feature.1 x h.1 in_property.2 in_feature.2 d
-      | inr d ↦ breaks_by features X2 row in_property.0 in_feature.0 in_property.1 in_feature.1 x h.1 in_property.2 in_feature.2 d
-    ]
+  -- where a rule on references is broken, it dangles by the index
+  into_dangling : (rule : Rule) (x : Finding) → x.rule ≡ rule_number rule → BreaksInReference features rule x → DanglesInTable known features properties x
+  into_dangling rule x number b = record {
+    row = b.row;
+    listed = b.there.listed;
+    dangles = record { index = x.index; references = b.there.all; there = b.there.feature; dangles = record { place = b.place; reference = b.reference; there = b.there.there; dangles = by_rule rule number b.breaks } };
+  }
+    where
+      by_rule : (q : Rule) → x.rule ≡ rule_number q → ReferenceBreaks q features b.row b.reference → Dangles known (record { file = b.row.file; index = x.index; member = property_number b.row.property + 64 * b.place }) b.reference.id (file_named b.row.names b.reference) x
+      by_rule C7 n breaks = absurd breaks
+      by_rule X1 n breaks = inl (is_not (has_id known b.reference.id) (λ h. breaks ((has.ids b.reference.id).0 h)), finding_of x 24 (file_number b.row.file) (property_number b.row.property + 64 * b.place) n b.in_file b.at_member)
+      by_rule X2 n breaks =
+          inr (
+            of_both (has_id known b.reference.id) (not (has_typed known b.reference.id (file_named b.row.names b.reference))) ((has.ids b.reference.id).1 breaks.0) (is_none_of features known b.reference.id (file_named b.row.names b.reference) has breaks.1),
+            finding_of x 25 (file_number b.row.file) (property_number b.row.property + 64 * b.place) n b.in_file b.at_member,
+          )
 
 from_repeats : (features : Features) (x : Finding) → Repeats features x → IsMisnamed features x
 from_repeats features x h = record {
@@ -156,40 +129,28 @@ from_repeats features x h = record {
   );
 }
 
--- where a rule on references is broken, it is found
-into_dangling : (features : Features) (rule : Rule) (x : Finding) → x.rule ≡ rule_number rule → BreaksInReference features rule x → DanglesIn features properties x
-into_dangling features C7 x number b = absurd b.breaks
-into_dangling features X1 x number b =
-    let is = finding_of x 24 (file_number b.row.file) (property_number b.row.property + 64 * b.place) number b.in_file b.at_member in
-    (b.row, b.there.listed, (x.index, b.there.all, b.there.feature, (b.place, b.reference, b.there.there, inl (b.breaks, is))))
-into_dangling features X2 x number b =
-    let is = finding_of x 25 (file_number b.row.file) (property_number b.row.property + 64 * b.place) number b.in_file b.at_member in
-    (b.row, b.there.listed, (x.index, b.there.all, b.there.feature, (b.place, b.reference, b.there.there, inr (b.breaks, is))))
-
 into_repeats : (features : Features) (rule : Rule) (x : Finding) → rule ≡ C7 → x.rule ≡ rule_number rule → BreaksInId features x → Repeats features x
 into_repeats features rule x is_c7 number b = record {
   source = b.source;
   repeats = record { repeats = b.repeats; is = finding_of x 23 (file_number b.source) 0 (number ∙ ap rule_number is_c7) b.in_file b.at_member };
 }
 
-into : (features : Features) (x : Finding) → IsMisnamed features x → Repeats features x ⊎ DanglesIn features properties x
-into features x h = elim h.breaks [
+into : (features : Features) (known : Known) → HasAll features known → (x : Finding) → IsMisnamed features x → Repeats features x ⊎ DanglesInTable known features properties x
+into features known has x h = elim h.breaks [
   | inl b ↦ inl (into_repeats features h.rule x b.0 h.number b.1)
-  | inr b ↦ inr (into_dangling features h.rule x h.number b)
+  | inr b ↦ inr (into_dangling features known has h.rule x h.number b)
 ]
 
 -- what was gathered is what is misnamed
 pub misnamed : (features : Features) (known : Known) (first gathered : List Finding) → HasAll features known → Adds (Repeats features) [] first
-    → gathered ≡ first ++ flat_map (in_property known features) properties → (x : Finding) → Contains gathered x ↔ IsMisnamed features x
-misnamed features known first gathered has repeats is x =
-    let dangling = flat_map (in_property known features) properties in
-    let finds = finds_table features known properties has in (
-      (λ h. elim (Contains-append_cases first dangling x (subst (λ (xs : List Finding). Contains xs x) is h)) [
-        | inl front ↦ elim (repeats.only x front) [ inl none ↦ absurd (Contains-nil x none) | inr r ↦ from_repeats features x r ]
-        | inr back ↦ from_dangling features x (finds.only x back)
-      ]),
-      (λ h. subst (λ (xs : List Finding). Contains xs x) (sym is) (elim (into features x h) [
-        | inl r ↦ Contains-append_left first dangling x (repeats.whole x r)
-        | inr d ↦ Contains-append_right first dangling x (finds.whole x d)
-      ])),
-    )
+    → Adds (DanglesInTable known features properties) first gathered → (x : Finding) → Contains gathered x ↔ IsMisnamed features x
+misnamed features known first gathered has repeats dangling x = (
+  (λ h. elim (dangling.only x h) [
+    | inl front ↦ elim (repeats.only x front) [ inl none ↦ absurd (Contains-nil x none) | inr r ↦ from_repeats features x r ]
+    | inr d ↦ from_dangling features known has x d
+  ]),
+  (λ h. elim (into features known has x h) [
+    | inl r ↦ dangling.kept x (repeats.whole x r)
+    | inr d ↦ dangling.whole x d
+  ]),
+)

@@ -1,6 +1,5 @@
--- What the passes find, given the index of identifiers.
-use Rattle.std.specs.Prelude.{◌≡◌, ℕ, ◌+◌, ◌*◌, List, [], ◌∷◌, ◌++◌, map, Option, ◌&&◌, not}
-use Rattle.report_laws.specs.Passes.{found, over}
+-- The code's own way, and no promise: what the passes find, given the index of identifiers.
+use Rattle.std.specs.Prelude.{◌≡◌, ℕ, ◌+◌, ◌*◌, List, [], ◌∷◌, map, slice_get, Option, Some, Contains, true, ◌&&◌, not, ◌⊎◌}
 use Rattle.venue_types.specs.declared.feature_id.FeatureId.{FeatureId}
 use Rattle.venue_types.specs.declared.features.Features.{Features}
 use Rattle.venue_types.specs.declared.finding.Finding.{Finding}
@@ -27,34 +26,49 @@ abbrev pub place_of : File → ℕ → ℕ → Place
 place_of f k member = record { file = f; index = k; member = member }
 
 -- the references as a list
-abbrev pub listed : References → List Reference
-listed references.Nothing = []
-listed (references.Id id) = by_id id ∷ []
-listed (references.Ids ids) = map by_id ids.now
-listed (references.Object object) = by_object object ∷ []
-listed (references.Objects objects) = map by_object objects.now
+abbrev pub reference_list : References → List Reference
+reference_list references.Nothing = []
+reference_list (references.Id id) = by_id id ∷ []
+reference_list (references.Ids ids) = map by_id ids.now
+reference_list (references.Object object) = by_object object ∷ []
+reference_list (references.Objects objects) = map by_object objects.now
 
 -- what names a feature by this identifier, and tells this type or none
 abbrev pub reference : FeatureId → Option ℕ → Reference
 reference id told = record { id = id; told = told }
 
--- at a reference that has to name a feature of this file
-abbrev pub dangles : Known → Place → FeatureId → Option ℕ → List Finding
-dangles known place id f =
-    found (not (has_id known id)) (finding_at X1 place)
-    ++ found (has_id known id && not (has_typed known id f)) (finding_at X2 place)
+-- at a reference that has to name a feature of this file: by the index nothing has the identifier, or nothing of the file
+abbrev pub Dangles : Known → Place → FeatureId → Option ℕ → Finding → Type 0
+Dangles known place id f x =
+    ((not (has_id known id) ≡ true) × (x ≡ finding_at X1 place)) ⊎ (((has_id known id && not (has_typed known id f)) ≡ true) × (x ≡ finding_at X2 place))
 
 -- at the reference at this place of the property's list in the k-th feature
-abbrev pub at_reference : Known → PropertyRow → ℕ → ℕ → Reference → List Finding
-at_reference known row k place r = dangles known (place_of row.file k (property_number row.property + 64 * place)) r.id (file_named row.names r)
+abbrev pub DanglesAt : Known → PropertyRow → ℕ → ℕ → Reference → Finding → Type 0
+DanglesAt known row k place r x = Dangles known (place_of row.file k (property_number row.property + 64 * place)) r.id (file_named row.names r) x
 
--- at the references of the property in the k-th feature
-abbrev pub at_feature : Known → PropertyRow → ℕ → List Reference → List Finding
-at_feature known row k rs = over (at_reference known row k) 0 rs
+-- at one of the references of the property in the k-th feature
+pub record DanglesAmong (known : Known) (row : PropertyRow) (k : ℕ) (rs : List Reference) (x : Finding) : Type 0 where
+  pub place : ℕ
+  pub reference : Reference
+  pub there : slice_get rs place ≡ Some reference
+  pub dangles : DanglesAt known row k place reference x
 
--- at the features of the property's file
-abbrev pub in_property : Known → Features → PropertyRow → List Finding
-in_property known features row = over (at_feature known row) 0 (references_in features row.file row.property)
+-- at one of the features whose references of the property these are
+pub record DanglesInRows (known : Known) (row : PropertyRow) (rows : List (List Reference)) (x : Finding) : Type 0 where
+  pub index : ℕ
+  pub references : List Reference
+  pub there : slice_get rows index ≡ Some references
+  pub dangles : DanglesAmong known row index references x
+
+-- at one of the features of the property's file
+abbrev pub DanglesInProperty : Known → Features → PropertyRow → Finding → Type 0
+DanglesInProperty known features row x = DanglesInRows known row (references_in features row.file row.property) x
+
+-- in one of the properties
+pub record DanglesInTable (known : Known) (features : Features) (table : List PropertyRow) (x : Finding) : Type 0 where
+  pub row : PropertyRow
+  pub listed : Contains table row
+  pub dangles : DanglesInProperty known features row x
 
 -- a feature of the file has the identifier of an earlier one
 pub record RepeatsIn (features : Features) (f : File) (x : Finding) : Type 0 where

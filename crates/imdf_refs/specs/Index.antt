@@ -1,4 +1,4 @@
--- The index of identifiers: what it answers, and the features of which it has the identifiers.
+-- The code's own way, and no promise: the index of identifiers, what it answers, and the features of which it has the identifiers.
 use Rattle.std.specs.Prelude.{◌≡◌, ℕ, ◌<◌, ◌⊎◌, ◌↔◌, Bool, true, false, Option, Some, None}
 use Rattle.std.specs.Ordering.{nat_cmp, ordering_then}
 use Rattle.std.specs.declared.cmp.Ordering.{Ordering}
@@ -9,7 +9,7 @@ use Rattle.imdf_forms.specs.declared.files.File.{File}
 use Rattle.imdf_forms.specs.Files.{file_number}
 use Rattle.sound_rows.specs.Rows.{IsFeature}
 use Rattle.imdf_refs.specs.declared.known.Known.{Known}
-use Rattle.imdf_refs.specs.Rules.{IsNamed}
+use Rattle.imdf_refs.specs.Rules.{IsNamed, IsTyped}
 
 -- by identifier, then by file
 abbrev pub pair_cmp : ℕ × ℕ → ℕ × ℕ → Ordering
@@ -43,13 +43,6 @@ pub record IsTypedBefore (features : Features) (n k : ℕ) (id : FeatureId) (f :
 pub record HasBefore (features : Features) (n k : ℕ) (known : Known) : Type 0 where
   pub ids : (id : FeatureId) → (has_id known id ≡ true) ↔ IsNamedBefore features n k id
   pub typed : (id : FeatureId) (f : ℕ) → (has_typed known id (Some f) ≡ true) ↔ IsTypedBefore features n k id f
-
--- a feature of this file has the identifier
-pub record IsTyped (features : Features) (id : FeatureId) (f : ℕ) : Type 0 where
-  pub source : File
-  pub place : ℕ
-  pub there : IsFeature features source place id
-  pub of_file : file_number source ≡ f
 
 -- the identifiers of all features are in the index
 pub record HasAll (features : Features) (known : Known) : Type 0 where

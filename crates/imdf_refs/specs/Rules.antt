@@ -36,6 +36,13 @@ pub record IsNamed (features : Features) (id : FeatureId) : Type 0 where
   pub place : ℕ
   pub there : IsFeature features source place id
 
+-- some feature of the file of this number has it
+pub record IsTyped (features : Features) (id : FeatureId) (f : ℕ) : Type 0 where
+  pub source : File
+  pub place : ℕ
+  pub there : IsFeature features source place id
+  pub of_file : file_number source ≡ f
+
 -- no feature of this identifier is of the type that the reference has to name
 abbrev pub IsOfOtherType : Features → PropertyRow → Reference → Type 0
 IsOfOtherType features row r = (g : File) (j : ℕ) → IsFeature features g j r.id → file_named row.names r ≢ Some (file_number g)

@@ -9,7 +9,7 @@ ghost use Rattle.imdf_refs.specs.Gathering.{RepeatsIn, Repeats};
 
 use crate::known::Known;
 use crate::place::Place;
-use crate::row::Row;
+use crate::row::HasReferences;
 use crate::rules::Rule;
 use imdf_forms::{FEATURE_FILES, File};
 use report_laws::add;
@@ -17,7 +17,7 @@ use std::alloc::Global;
 use venue_types::{FeatureId, Features, Finding, OutOfMemory};
 
 // The identifiers of features, in their order.
-fn ids<R: Row>(alloc: Global, features: &[R]) -> Result<Vec<FeatureId>, OutOfMemory>
+fn ids<R: HasReferences>(alloc: Global, features: &[R]) -> Result<Vec<FeatureId>, OutOfMemory>
     ensures { IfOk result (λ ids. ids.items ≡ map R.id_of features.now) }
 {
     let mut ids = Vec::new(alloc);

@@ -1,16 +1,15 @@
 //! The rules on references: each names a feature, of the type that the table of properties asks for.
 
-ghost use Rattle.std.specs.Prelude.{◌≡◌, ◌≤◌, ◌++◌, OnOk, map, length};
-ghost use Rattle.std.specs.List.{flat_map};
-ghost use Rattle.report_laws.specs.Passes.{over};
+ghost use Rattle.std.specs.Prelude.{◌≡◌, ◌≤◌, OnOk, map, length};
+ghost use Rattle.report_laws.specs.Passes.{Adds};
 ghost use Rattle.sound_rows.specs.Rows.{feature_count};
 ghost use Rattle.venue_types.specs.declared.feature_id.FeatureId.{FeatureId as FeatureIdOf};
 ghost use Rattle.imdf_refs.specs.References.{by_id, by_object, file_named};
-ghost use Rattle.imdf_refs.specs.Gathering.{reference, listed, dangles, at_feature, in_property};
+ghost use Rattle.imdf_refs.specs.Gathering.{reference, reference_list, Dangles, DanglesAmong, DanglesInRows, DanglesInProperty, DanglesInTable};
 
 use crate::known::Known;
 use crate::place::{Place, item_place};
-use crate::row::{References, Row};
+use crate::row::{HasReferences, References};
 use crate::rules::Rule;
 use imdf_forms::{File, Named, PropertyRow};
 use report_laws::add;
@@ -39,12 +38,12 @@ fn judge(
     id: FeatureId,
     file: Option<u8>,
 ) -> Result<(), OutOfMemory>
-    ensures { OnOk result (findings.new.items ≡ findings.old.items ++ dangles known.now place id file) }
+    ensures { OnOk result (Adds (Dangles known.now place id file) findings.old.items findings.new.items) }
 {
     let named = known.has(id);
     let right = known.has_typed(id, file);
     add(findings, !named, place.finding(Rule::X1))?;
-    add(findings, named && !right, place.finding(Rule::X2))
+    add(findings, named & !right, place.finding(Rule::X2))
 }
 
 // At each identifier of a list.
@@ -55,7 +54,7 @@ fn judge_ids(
     index: u32,
     ids: &[FeatureId],
 ) -> Result<(), OutOfMemory>
-    ensures { OnOk result (findings.new.items ≡ findings.old.items ++ at_feature known.now row.now index (map by_id ids.now)) }
+    ensures { OnOk result (Adds (DanglesAmong known.now row.now index (map by_id ids.now)) findings.old.items findings.new.items) }
 {
     let file = named_file(row.names, None);
     for (k, id) in ids.iter().enumerate() {
@@ -72,7 +71,7 @@ fn judge_objects(
     index: u32,
     objects: &[Ref],
 ) -> Result<(), OutOfMemory>
-    ensures { OnOk result (findings.new.items ≡ findings.old.items ++ at_feature known.now row.now index (map by_object objects.now)) }
+    ensures { OnOk result (Adds (DanglesAmong known.now row.now index (map by_object objects.now)) findings.old.items findings.new.items) }
 {
     for (k, object) in objects.iter().enumerate() {
         let file = named_file(row.names, Some(object.feature_type));
@@ -89,7 +88,7 @@ fn judge_references(
     index: u32,
     references: References<'_>,
 ) -> Result<(), OutOfMemory>
-    ensures { OnOk result (findings.new.items ≡ findings.old.items ++ at_feature known.now row.now index (listed references.entry)) }
+    ensures { OnOk result (Adds (DanglesAmong known.now row.now index (reference_list references.entry)) findings.old.items findings.new.items) }
 {
     match references {
         References::Nothing => Ok(()),
@@ -101,14 +100,14 @@ fn judge_references(
 }
 
 // At each feature of a file.
-fn judge_rows<R: Row>(
+fn judge_rows<R: HasReferences>(
     findings: &mut Vec<Finding>,
     known: &Known,
     row: &PropertyRow,
     features: &[R],
 ) -> Result<(), OutOfMemory>
     requires { length features.now ≤ 100000 }
-    ensures { OnOk result (findings.new.items ≡ findings.old.items ++ over (at_feature known.now row.now) 0 (map (R.references_of row.now.property) features.now)) }
+    ensures { OnOk result (Adds (DanglesInRows known.now row.now (map (R.references_of row.now.property) features.now)) findings.old.items findings.new.items) }
 {
     for (k, feature) in features.iter().enumerate() {
         let references = feature.references(row.property);
@@ -125,7 +124,7 @@ fn judge_property(
     features: &Features,
 ) -> Result<(), OutOfMemory>
     requires { feature_count features.now ≤ 100000 }
-    ensures { OnOk result (findings.new.items ≡ findings.old.items ++ in_property known.now features.now row.now) }
+    ensures { OnOk result (Adds (DanglesInProperty known.now features.now row.now) findings.old.items findings.new.items) }
 {
     match row.file {
         File::Amenity => judge_rows(findings, known, row, features.amenities.as_slice()),
@@ -156,7 +155,7 @@ pub(crate) fn judge_properties(
     features: &Features,
 ) -> Result<(), OutOfMemory>
     requires { feature_count features.now ≤ 100000 }
-    ensures { OnOk result (findings.new.items ≡ findings.old.items ++ flat_map (in_property known.now features.now) table.now) }
+    ensures { OnOk result (Adds (DanglesInTable known.now features.now table.now) findings.old.items findings.new.items) }
 {
     for row in table {
         judge_property(findings, known, row, features)?;

@@ -4,7 +4,7 @@
 mod identifiers;
 mod judging;
 mod known;
-mod law;
+mod laws;
 mod place;
 mod references;
 mod row;
@@ -13,6 +13,9 @@ mod rules;
 #[cfg(test)]
 mod tests;
 
-pub use law::own_ids;
+pub use laws::{
+    amenity_unit_law, anchor_unit_law, occupant_anchor_law, opening_level_law, own_ids_law,
+    types_law, unit_level_law,
+};
 pub use references::reference_findings;
 pub use rules::Rule;

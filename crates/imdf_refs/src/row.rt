@@ -4,7 +4,7 @@ ghost use Rattle.std.specs.Prelude.{◌≡◌, List};
 ghost use Rattle.venue_types.specs.declared.feature_id.FeatureId.{FeatureId as FeatureIdOf};
 ghost use Rattle.imdf_forms.specs.declared.table.Property.{Property as PropertyOf};
 ghost use Rattle.imdf_refs.specs.References.{Reference, id_or_null, object_or_null};
-ghost use Rattle.imdf_refs.specs.Gathering.{listed};
+ghost use Rattle.imdf_refs.specs.Gathering.{reference_list};
 
 use imdf_forms::Property;
 use venue_types::{FeatureId, Ref};
@@ -20,7 +20,7 @@ pub(crate) enum References<'a> {
 }
 
 /// Features of a type.
-pub(crate) trait Row {
+pub(crate) trait HasReferences {
     /// Its identifier.
     ghost id_of: { Self → FeatureIdOf };
 
@@ -31,12 +31,12 @@ pub(crate) trait Row {
         ensures { result ≡ id_of self.now };
 
     fn references(&self, property: Property) -> References<'_>
-        ensures { listed result ≡ references_of property self.now };
+        ensures { reference_list result ≡ references_of property self.now };
 }
 
 /// The reference of an identifier that may be null.
 pub(crate) fn id_or_null<'a>(id: Option<FeatureId>) -> References<'a>
-    ensures { listed result ≡ id_or_null id }
+    ensures { reference_list result ≡ id_or_null id }
 {
     match id {
         Some(id) => References::Id(id),
@@ -46,7 +46,7 @@ pub(crate) fn id_or_null<'a>(id: Option<FeatureId>) -> References<'a>
 
 /// The reference of a reference object that may be null.
 pub(crate) fn object_or_null<'a>(object: Option<Ref>) -> References<'a>
-    ensures { listed result ≡ object_or_null object }
+    ensures { reference_list result ≡ object_or_null object }
 {
     if let Some(object) = object {
         References::Object(object)

@@ -1,13 +1,13 @@
 //! The rows of each type: which property refers to what.
 
-use crate::row::{References, Row, id_or_null, object_or_null};
+use crate::row::{HasReferences, References, id_or_null, object_or_null};
 use imdf_forms::Property;
 use venue_types::{
     AmenityRow, AnchorRow, BuildingRow, DetailRow, FeatureId, FixtureRow, FootprintRow, KioskRow,
     LevelRow, OccupantRow, OpeningRow, PlainRow, RelationshipRow, UnitRow, VenueRow,
 };
 
-impl Row for AmenityRow {
+impl HasReferences for AmenityRow {
     ghost use Rattle.imdf_refs.specs.References.{amenity_references};
 
     ghost id_of = { λ row. row.id };
@@ -27,7 +27,7 @@ impl Row for AmenityRow {
     }
 }
 
-impl Row for AnchorRow {
+impl HasReferences for AnchorRow {
     ghost use Rattle.imdf_refs.specs.References.{anchor_references};
 
     ghost id_of = { λ row. row.id };
@@ -47,7 +47,7 @@ impl Row for AnchorRow {
     }
 }
 
-impl Row for BuildingRow {
+impl HasReferences for BuildingRow {
     ghost use Rattle.imdf_refs.specs.References.{building_references};
 
     ghost id_of = { λ row. row.id };
@@ -66,7 +66,7 @@ impl Row for BuildingRow {
     }
 }
 
-impl Row for DetailRow {
+impl HasReferences for DetailRow {
     ghost use Rattle.imdf_refs.specs.References.{detail_references};
 
     ghost id_of = { λ row. row.id };
@@ -85,7 +85,7 @@ impl Row for DetailRow {
     }
 }
 
-impl Row for FixtureRow {
+impl HasReferences for FixtureRow {
     ghost use Rattle.imdf_refs.specs.References.{fixture_references};
 
     ghost id_of = { λ row. row.id };
@@ -105,7 +105,7 @@ impl Row for FixtureRow {
     }
 }
 
-impl Row for FootprintRow {
+impl HasReferences for FootprintRow {
     ghost use Rattle.imdf_refs.specs.References.{footprint_references};
 
     ghost id_of = { λ row. row.id };
@@ -124,7 +124,7 @@ impl Row for FootprintRow {
     }
 }
 
-impl Row for KioskRow {
+impl HasReferences for KioskRow {
     ghost use Rattle.imdf_refs.specs.References.{kiosk_references};
 
     ghost id_of = { λ row. row.id };
@@ -144,7 +144,7 @@ impl Row for KioskRow {
     }
 }
 
-impl Row for LevelRow {
+impl HasReferences for LevelRow {
     ghost use Rattle.imdf_refs.specs.References.{level_references};
 
     ghost id_of = { λ row. row.id };
@@ -164,7 +164,7 @@ impl Row for LevelRow {
     }
 }
 
-impl Row for OccupantRow {
+impl HasReferences for OccupantRow {
     ghost use Rattle.imdf_refs.specs.References.{occupant_references};
 
     ghost id_of = { λ row. row.id };
@@ -183,7 +183,7 @@ impl Row for OccupantRow {
     }
 }
 
-impl Row for OpeningRow {
+impl HasReferences for OpeningRow {
     ghost use Rattle.imdf_refs.specs.References.{opening_references};
 
     ghost id_of = { λ row. row.id };
@@ -202,7 +202,7 @@ impl Row for OpeningRow {
     }
 }
 
-impl Row for RelationshipRow {
+impl HasReferences for RelationshipRow {
     ghost use Rattle.imdf_refs.specs.References.{relationship_references};
 
     ghost id_of = { λ row. row.id };
@@ -223,7 +223,7 @@ impl Row for RelationshipRow {
     }
 }
 
-impl Row for UnitRow {
+impl HasReferences for UnitRow {
     ghost use Rattle.imdf_refs.specs.References.{unit_references};
 
     ghost id_of = { λ row. row.id };
@@ -242,7 +242,7 @@ impl Row for UnitRow {
     }
 }
 
-impl Row for VenueRow {
+impl HasReferences for VenueRow {
     ghost use Rattle.imdf_refs.specs.References.{venue_references};
 
     ghost id_of = { λ row. row.id };
@@ -261,7 +261,7 @@ impl Row for VenueRow {
     }
 }
 
-impl Row for PlainRow {
+impl HasReferences for PlainRow {
     ghost use Rattle.std.specs.Prelude.{[]};
 
     ghost id_of = { λ row. row.id };

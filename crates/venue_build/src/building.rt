@@ -9,7 +9,7 @@ ghost use Rattle.venue_build.specs.Built.{IsBuilt};
 use crate::{Built, Venue};
 use contain_rules::plane_findings;
 use imdf_read::{ReadOut, read_folder};
-use imdf_refs::{own_ids, reference_findings};
+use imdf_refs::{own_ids_law, reference_findings};
 use report_laws::shortened;
 use sound_reading::sound_reading;
 use std::alloc::Global;
@@ -24,7 +24,7 @@ fn later_findings(
     requires { AreSound features.now }
     ensures { IfOk result (IsReport (IsLaterBroken features.now settings.now)) }
 {
-    own_ids();
+    own_ids_law();
     let misnamed = reference_findings(alloc, features)?;
     if !misnamed.is_empty() {
         return Ok(misnamed);

@@ -1,9 +1,10 @@
-use Rattle.std.proofs.Common.{◌≡◌, ◌++◌, map, drop}
-use Rattle.report_laws.specs.Passes.{over}
+use Rattle.std.proofs.Common.{map}
+use Rattle.report_laws.specs.Passes.{Adds}
+use Rattle.report_laws.proofs.Adding.{Below}
 use Rattle.imdf_refs.specs.References.{by_id}
-use Rattle.imdf_refs.specs.Gathering.{at_reference}
+use Rattle.imdf_refs.specs.Gathering.{DanglesAt}
 use Rattle.imdf_refs.proofs.judging.judge_ids.Given as goal
 
--- the findings so far and those at the identifiers that are left are those at all
+-- what dangles at the ids before is added
 abbrev pub invariant-loop-k : goal.invariant-loop-k
-invariant-loop-k l = l.findings.items ++ over (at_reference l.known l.row l.index) l.k (map by_id (drop l.k l.ids)) ≡ l.initial.findings.items ++ over (at_reference l.known l.row l.index) 0 (map by_id l.ids)
+invariant-loop-k l = Adds (Below (DanglesAt l.known l.row l.index) (map by_id l.ids) l.k) l.initial.findings.items l.findings.items

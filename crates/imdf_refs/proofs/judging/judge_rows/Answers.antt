@@ -1,15 +1,33 @@
-use Rattle.std.proofs.Common.{◌∙◌, ◌<◌, ◌++◌, List, length, ap, arith}
+use Rattle.std.proofs.Common.{◌<◌, List, length, map, refl, subst, arith}
+use Rattle.std.proofs.lemmas.List.{length-map}
+use Rattle.std.proofs.lemmas.Option.{slice_get_read}
+use Rattle.report_laws.specs.Passes.{Adds}
+use Rattle.report_laws.proofs.Adding.{Adds-start, Adds-step, Adds-end, at_map}
 use Rattle.imdf_refs.specs.References.{Reference}
-use Rattle.imdf_refs.specs.Gathering.{at_feature}
-use Rattle.imdf_refs.proofs.Loops.{over_step}
+use Rattle.imdf_refs.specs.Gathering.{DanglesAmong}
+use Rattle.imdf_refs.proofs.Dangling.{in_all}
 use Rattle.imdf_refs.proofs.judging.judge_rows.Goals as goal
+
+pub loop-k-init : goal.loop-k-init
+loop-k-init g c = Adds-start _ _ _
 
 pub loop-k-preserved : goal.loop-k-preserved
 loop-k-preserved g c =
     let known = c.args.known.now in
     let row = c.args.row.now in
+    let view = g.R.HasReferences.references_of row.property in
+    let features = c.args.features.now in
     let k = c.loop-k.k in
-    let front = c.loop-k.findings.items in
-    let within : k < length c.args.features.now = omega arith in
-    over_step (at_feature known row) (g.R.Row.references_of row.property) c.args.features.now k c.index-features-k.result front c.judge_references.new.findings.items _ within c.loop-k.invariant
-    (c.in_ok-judge_references.ensures ∙ ap (λ (rs : List Reference). front ++ at_feature known row k rs) (c.references-references.ensures ∙ ap (g.R.Row.references_of row.property) c.index-features-k.is))
+    let feature = c.index-features-k.result in
+    let within : k < length features = omega arith in
+    let at = at_map view features k feature (slice_get_read features (length features) k feature refl within c.index-features-k.is) in
+    Adds-step (DanglesAmong known row) (map view features) k (view feature) at c.loop-k.invariant
+    (subst (λ (rs : List Reference). Adds (DanglesAmong known row k rs) c.loop-k.findings.items c.judge_references.new.findings.items) c.references-references.ensures c.in_ok-judge_references.ensures)
+
+pub returns : goal.returns
+returns g c =
+    let known = c.args.known.now in
+    let row = c.args.row.now in
+    let rows = map (g.R.HasReferences.references_of row.property) c.args.features.now in
+    in_all known row rows c.args.findings.now.items c.loop-k.findings.items
+    (Adds-end (DanglesAmong known row) rows c.loop-k.k (rw length-map c.loop-k-test.false) c.loop-k.invariant)

@@ -1,10 +1,9 @@
-use Rattle.std.proofs.Common.{◌≡◌, ◌∙◌, ◌++◌, List, [], ap, subst}
-use Rattle.std.specs.List.{flat_map}
+use Rattle.std.proofs.Common.{List, [], subst}
 use Rattle.venue_types.specs.declared.finding.Finding.{Finding}
 use Rattle.imdf_forms.specs.declared.table.PropertyRow.{PropertyRow}
 use Rattle.imdf_forms.specs.Properties.{properties}
 use Rattle.report_laws.specs.Passes.{Adds}
-use Rattle.imdf_refs.specs.Gathering.{in_property, Repeats}
+use Rattle.imdf_refs.specs.Gathering.{DanglesInTable, Repeats}
 use Rattle.imdf_refs.proofs.Misnaming.{misnamed}
 use Rattle.imdf_refs.proofs.references.gather.Goals as goal
 
@@ -15,6 +14,6 @@ returns c =
     let first = c.judge_identifiers.new.findings.items in
     let gathered = c.judge_properties.new.findings.items in
     let repeats : Adds (Repeats features) [] first = subst (λ (xs : List Finding). Adds (Repeats features) xs first) c.new-findings.ensures.items c.in_ok-known.ensures.findings in
-    let is : gathered ≡ first ++ flat_map (in_property known features) properties =
-    c.in_ok-judge_properties.ensures ∙ ap (λ (table : List PropertyRow). first ++ flat_map (in_property known features) table) c.properties.ensures in
-    misnamed features known first gathered c.in_ok-known.ensures.known repeats is
+    let dangling : Adds (DanglesInTable known features properties) first gathered =
+    subst (λ (table : List PropertyRow). Adds (DanglesInTable known features table) first gathered) c.properties.ensures c.in_ok-judge_properties.ensures in
+    misnamed features known first gathered c.in_ok-known.ensures.known repeats dangling

@@ -19,7 +19,7 @@ pub plane_findings-requires-clause-own_ids : goal.plane_findings-requires-clause
 plane_findings-requires-clause-own_ids c =
     let features = c.args.features.now in
     let found = c.in_ok-misnamed.misnamed in
-    c.own_ids.ensures features (nothing (IsMisnamed features) found (empty c.is_empty.result found c.is_empty.ensures c.if-not-is_empty.false) c.in_ok-misnamed.ensures)
+    c.own_ids_law.ensures features (nothing (IsMisnamed features) found (empty c.is_empty.result found c.is_empty.ensures c.if-not-is_empty.false) c.in_ok-misnamed.ensures)
 
 pub returns : goal.returns
 returns c =
