@@ -14,4 +14,6 @@ pub mod ClaimLemmas
 pub mod ClaimFaults
 pub mod AnswerFaults
 pub mod MoreNodes
+pub mod ChainLemmas
+pub mod Stages
 pub mod OneVerdict

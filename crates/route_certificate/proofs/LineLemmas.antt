@@ -29,8 +29,8 @@ pub record Small (link : TableLink) : Type 0 where
   pub to : link.to < 2 ^ 64
   pub cost : link.cost < 2 ^ 64
 
-pub small_row : (nodes : ℕ) (link : TableLink) → nodes ≤ 2 ^ 32 → FitsLink nodes link → Small link
-small_row nodes link few fits = record { from = omega (arith, fits.from); to = omega (arith, fits.to); cost = omega (arith, fits.cost) }
+pub small_link : (nodes : ℕ) (link : TableLink) → nodes ≤ 2 ^ 32 → FitsLink nodes link → Small link
+small_link nodes link few fits = record { from = omega (arith, fits.from); to = omega (arith, fits.to); cost = omega (arith, fits.cost) }
 
 pub Lacks-link_body : (link : TableLink) → Small link → Lacks 10 (link_body link)
 Lacks-link_body link small =
@@ -74,8 +74,8 @@ link_3 from to cost rest link p q r small e =
 
 -- ---- each item has one spelling
 
-row_same : (a b : TableLink) → a.from ≡ b.from → a.to ≡ b.to → a.cost ≡ b.cost → a.via ≡ b.via → a ≡ b
-row_same a b p q r s = λ i. record { from = p i; to = q i; cost = r i; via = s i }
+link_same : (a b : TableLink) → a.from ≡ b.from → a.to ≡ b.to → a.cost ≡ b.cost → a.via ≡ b.via → a ≡ b
+link_same a b p q r s = λ i. record { from = p i; to = q i; cost = r i; via = s i }
 
 pub node_unique : IsUnique node_line FitsId
 unfolding node_line
@@ -86,11 +86,11 @@ node_unique x y a b p q e =
 pub link_unique : (nodes : ℕ) → nodes ≤ 2 ^ 32 → IsUnique link_line (FitsLink nodes)
 unfolding link_line
 link_unique nodes few x y a b p q e =
-    let x-small = small_row nodes x few p in
-    let y-small = small_row nodes y few q in
+    let x-small = small_link nodes x few p in
+    let y-small = small_link nodes y few q in
     let both = lines_unique (link_body x) (link_body y) a b (Lacks-link_body x x-small) (Lacks-link_body y y-small) e in
     let parts = link_3 x.from x.to x.cost (identifier_text x.via) y x-small.from x-small.to x-small.cost y-small (append_cancel_left (codes "link ") (link_tail x) (link_tail y) both.0) in
-    (row_same x y parts.0 parts.1 parts.2 (identifier_unique x.via y.via p.via q.via parts.3), both.1)
+    (link_same x y parts.0 parts.1 parts.2 (identifier_unique x.via y.via p.via q.via parts.3), both.1)
 
 pub step_unique : IsUnique step_line FitsStep
 unfolding step_line

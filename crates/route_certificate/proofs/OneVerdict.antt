@@ -1,8 +1,6 @@
 -- An answer over a table has one verdict.
-use Rattle.std.proofs.Common.{◌≡◌, ℕ, ◌<◌, ◌≤◌, zero, suc, List, [], ◌∷◌, ◌++◌, length, Some, refl, sym, ap, subst, ◌∙◌, arith, inl, inr}
+use Rattle.std.proofs.Common.{◌≡◌, ℕ, zero, suc, List, refl, sym, ◌∙◌, arith}
 use Rattle.std.specs.Prelude.{Contains}
-use Rattle.std.proofs.lemmas.Bool.Decides.{eqb_tells}
-use Rattle.std.proofs.lemmas.List.{append-nil}
 use Rattle.venue_types.specs.declared.link.Potential.{Potential}
 use Rattle.walk_laws.specs.Certificates.{potential}
 use Rattle.route_certificate.specs.declared.table.TableLink.{TableLink}
@@ -12,111 +10,11 @@ use Rattle.route_certificate.specs.declared.answer.FailedClause.TheVariants.{Ste
 use Rattle.route_certificate.specs.declared.answer.Verdict.TheVariants.{Proved, Fails}
 use Rattle.route_certificate.specs.declared.answer.Verdict.{Verdict}
 use Rattle.route_certificate.specs.Answers.{potentials_read}
-use Rattle.route_certificate.specs.Prices.{IsStep, IsChain, IsBroken}
+use Rattle.route_certificate.specs.Prices.{IsChain, IsBroken}
 use Rattle.route_certificate.specs.Verdicts.{IsGentle, IsClosed, FailsFirstAt, IsRouteJudged, IsNothingJudged, IsClaimJudged}
 use Rattle.route_certificate.proofs.VerdictLemmas.{contained}
-
--- ---- chains
-
-some_same : (a b : TableLink) → Some a ≡ Some b → a ≡ b
-some_same a b e = cc
-
-head_same : (a b : ℕ) (x y : List ℕ) → a ∷ x ≡ b ∷ y → a ≡ b
-head_same a b x y e = cc
-
-tail_same : (a b : ℕ) (x y : List ℕ) → a ∷ x ≡ b ∷ y → x ≡ y
-tail_same a b x y e = cc
-
--- a step is one link
-step_same : (links : List TableLink) (at step : ℕ) (a b : TableLink) → IsStep links at step a → IsStep links at step b → a ≡ b
-step_same links at step a b p q = some_same a b (sym p.is ∙ q.is)
-
--- steps lead to one end at one cost
-pub chain_same : (links : List TableLink) (at : ℕ) (steps : List ℕ) (end cost end' cost' : ℕ) → IsChain links at steps end cost → IsChain links at steps end' cost'
-    → (end ≡ end') × (cost ≡ cost')
-chain_same links at [] end cost end' cost' p q = (p.0 ∙ sym q.0, p.1 ∙ sym q.1)
-chain_same links at (step ∷ steps) end cost end' cost' p q =
-    let one : p.0 ≡ q.0 = step_same links at step p.0 q.0 p.2 q.2 in
-    let moved : IsChain links q.0.to steps end p.1 = subst (λ (l : TableLink). IsChain links l.to steps end p.1) one p.3 in
-    let rest = chain_same links q.0.to steps end p.1 end' q.1 moved q.3 in
-    let costs : p.0.cost ≡ q.0.cost = ap (λ (l : TableLink). l.cost) one in
-    (rest.0, omega (arith, p.4, q.4, rest.1, costs))
-
--- no chain goes on over a step that is no link where the steps before it lead
-no_further : (links : List TableLink) (at : ℕ) (front more : List ℕ) (step : ℕ) (rest other : List ℕ) (mid cost end sum : ℕ) → front ++ step ∷ rest ≡ more ++ other → length front < length more
-    → IsChain links at front mid cost → ((link : TableLink) → IsStep links mid step link → ⊥) → IsChain links at more end sum → ⊥
-no_further links at front [] step rest other mid cost end sum e less chain none whole = omega (arith, less)
-no_further links at [] (next ∷ more) step rest other mid cost end sum e less chain none whole =
-    let here : IsStep links mid next whole.0 = subst (λ (n : ℕ). IsStep links n next whole.0) (sym chain.0) whole.2 in
-    none whole.0 (subst (λ (n : ℕ). IsStep links mid n whole.0) (sym (head_same step next rest (more ++ other) e)) here)
-no_further links at (first ∷ front) (next ∷ more) step rest other mid cost end sum e less chain none whole =
-    let steps : first ≡ next = head_same first next (front ++ step ∷ rest) (more ++ other) e in
-    let one : chain.0 ≡ whole.0 = step_same links at next chain.0 whole.0 (subst (λ (n : ℕ). IsStep links at n chain.0) steps chain.2) whole.2 in
-    let moved : IsChain links whole.0.to front mid chain.1 = subst (λ (l : TableLink). IsChain links l.to front mid chain.1) one chain.3 in
-    no_further links whole.0.to front more step rest other mid chain.1 end whole.1 (tail_same first next (front ++ step ∷ rest) (more ++ other) e) (omega (arith, less)) moved none whole.3
-
-shorter : (front rest steps : List ℕ) (step : ℕ) → steps ≡ front ++ step ∷ rest → length front < length steps
-shorter [] rest steps step e = omega (arith, ap (length {A = ℕ}) e)
-shorter (x ∷ front) rest [] step e = absurd (cc)
-shorter (x ∷ front) rest (y ∷ steps) step e = omega (arith, shorter front rest steps step (tail_same y x steps (front ++ step ∷ rest) e))
-
--- where a step is broken, the steps lead nowhere
-pub broken_leads : (links : List TableLink) (from : ℕ) (steps : List ℕ) (k end cost : ℕ) → IsBroken links from steps k → IsChain links from steps end cost → ⊥
-broken_leads links from steps k end cost broken chain =
-    no_further links from broken.front steps broken.step broken.rest [] broken.at broken.cost end cost (sym broken.parts ∙ sym (append-nil steps))
-    (shorter broken.front broken.rest steps broken.step broken.parts) broken.chain broken.none chain
-
--- one step is the first that is broken
-pub broken_same : (links : List TableLink) (from : ℕ) (steps : List ℕ) (k k' : ℕ) → IsBroken links from steps k → IsBroken links from steps k' → k ≡ k'
-broken_same links from steps k k' p q =
-    let low : length p.front < length q.front → ⊥ = λ less.
-    no_further links from p.front q.front p.step p.rest (q.step ∷ q.rest) p.at p.cost q.at q.cost (sym p.parts ∙ q.parts) less p.chain p.none q.chain in
-    let high : length q.front < length p.front → ⊥ = λ less.
-    no_further links from q.front p.front q.step q.rest (p.step ∷ p.rest) q.at q.cost p.at p.cost (sym q.parts ∙ p.parts) less q.chain q.none p.chain in
-    omega (arith, p.count, q.count)
-
--- one link is the first that a clause does not hold of
-pub first_same : (Holds : TableLink → Type 0) (links : List TableLink) (j j' : ℕ) → FailsFirstAt Holds links j → FailsFirstAt Holds links j' → j ≡ j'
-first_same Holds links j j' p q =
-    let low : j < j' → ⊥ = λ less. p.fails (q.before j p.link less p.is) in
-    let high : j' < j → ⊥ = λ less. q.fails (p.before j' q.link less q.is) in
-    omega arith
-
--- ---- clauses in order
-
--- the clauses before this one hold
-abbrev pub Keeps : (ℕ → Type 0) → ℕ → Type 0
-Keeps Clause zero = Unit {0}
-Keeps Clause (suc n) = Keeps Clause n × Clause n
-
-kept : (Clause : ℕ → Type 0) (m n : ℕ) → m < n → Keeps Clause n → Clause m
-kept Clause m zero less keeps = absurd (omega (arith, less))
-kept Clause m (suc n) less keeps =
-    elim (eqb_tells m n) [
-      | inl same ↦ subst Clause (sym same.1) keeps.1
-      | inr other ↦ kept Clause m n (omega (arith, less, other.1)) keeps.0
-    ]
-
--- this clause is the first that fails, at this step or link; behind the last none does
-pub record FailsAt (Clause : ℕ → Type 0) (Number : ℕ → ℕ → Type 0) (last stage number : ℕ) : Type 0 where
-  pub keeps : Keeps Clause stage
-  pub known : stage ≤ last
-  pub fails : stage < last → Clause stage → ⊥
-  pub numbered : Number stage number
-
-stages_same : (Clause : ℕ → Type 0) (Number : ℕ → ℕ → Type 0) (last s k s' k' : ℕ) → FailsAt Clause Number last s k → FailsAt Clause Number last s' k' → s ≡ s'
-stages_same Clause Number last s k s' k' p q =
-    let low : s < s' → ⊥ = λ less. p.fails (omega (arith, less, q.known)) (kept Clause s s' less q.keeps) in
-    let high : s' < s → ⊥ = λ less. q.fails (omega (arith, less, p.known)) (kept Clause s' s less p.keeps) in
-    omega arith
-
--- what is made of the number of the first clause that fails and of its step or link is one thing
-one_of : (Clause : ℕ → Type 0) (Number : ℕ → ℕ → Type 0) (last : ℕ) (verdict : ℕ → ℕ → Verdict) → ((s k k' : ℕ) → Number s k → Number s k' → k ≡ k')
-    → (s k s' k' : ℕ) → FailsAt Clause Number last s k → FailsAt Clause Number last s' k' → verdict s k ≡ verdict s' k'
-one_of Clause Number last verdict unique s k s' k' p q =
-    let stage : s ≡ s' = stages_same Clause Number last s k s' k' p q in
-    let number : k ≡ k' = unique s' k k' (subst (λ (t : ℕ). Number t k) stage p.numbered) q.numbered in
-    ap (λ (t : ℕ). verdict t k) stage ∙ ap (verdict s') number
+use Rattle.route_certificate.proofs.ChainLemmas.{chain_same, broken_leads, broken_same, first_same}
+use Rattle.route_certificate.proofs.Stages.{FailsAt, one_of}
 
 -- ---- a route's verdict by the number of its clause, and of its step or link
 

@@ -10,7 +10,7 @@ use Rattle.text_forms.proofs.FaultLemmas.{IsLines-one, IsLines-append, IsLines-i
 use Rattle.route_certificate.specs.declared.table.TableLink.{TableLink}
 use Rattle.route_certificate.specs.declared.table.Table.{Table}
 use Rattle.route_certificate.specs.Forms.{node_line, link_line, node_body, link_body, end_line, table_head, FitsId, FitsLink, IsTable, IsTableText}
-use Rattle.route_certificate.proofs.LineLemmas.{node_line_is, link_line_is, Lacks-node_body, Lacks-link_body, small_row}
+use Rattle.route_certificate.proofs.LineLemmas.{node_line_is, link_line_is, Lacks-node_body, Lacks-link_body, small_link}
 use Rattle.route_certificate.proofs.TableLemmas.{TableRead, read_on, table_of, no_node_behind, no_link_behind}
 
 -- a text without the first line of a table
@@ -34,7 +34,7 @@ front_lines text nodes links rest read =
     (IsLines-one (codes "imdf-links 1") (Lacks-test 10 (codes "imdf-links 1") refl))
     (IsLines-append (length nodes) (length links) (flat_map node_line nodes) (flat_map link_line links)
     (IsLines-items node_line node_body FitsId node_line_is (λ x fits. Lacks-node_body x) nodes read.nodes_fit)
-    (IsLines-items link_line link_body (FitsLink (length nodes)) link_line_is (λ link fits. Lacks-link_body link (small_row (length nodes) link (omega (arith, read.count)) fits)) links read.links_fit))
+    (IsLines-items link_line link_body (FitsLink (length nodes)) link_line_is (λ link fits. Lacks-link_body link (small_link (length nodes) link (omega (arith, read.count)) fits)) links read.links_fit))
 
 -- what was read, and the line `end`, is a table's text
 ended : (text : List ℕ) (nodes : List FeatureId) (links : List TableLink) (rest : List ℕ) → TableRead text nodes links rest → IsTableText (front_of nodes links ++ end_line)

@@ -11,7 +11,7 @@ use Rattle.route_certificate.specs.declared.table.TableLink.{TableLink}
 use Rattle.route_certificate.specs.declared.table.Table.{Table}
 use Rattle.route_certificate.specs.Forms.{node_line, link_line, node_body, link_body, end_line, table_head, FitsId, FitsLink, IsTable}
 use Rattle.route_certificate.specs.Fronts.{IsNodeFront}
-use Rattle.route_certificate.proofs.LineLemmas.{node_unique, link_unique, node_line_is, link_line_is, Lacks-node_body, Lacks-link_body, small_row}
+use Rattle.route_certificate.proofs.LineLemmas.{node_unique, link_unique, node_line_is, link_line_is, Lacks-node_body, Lacks-link_body, small_link}
 
 -- ---- no node and no link where others stand
 
@@ -58,7 +58,7 @@ read_on text nodes [] rest body after more read cut = record {
   nodes_fit = read.nodes_fit;
   links_fit = read.links_fit;
   no_node = λ less. HasNone-line node_line node_body FitsId node_line_is (λ x fits. Lacks-node_body x) rest body after more (read.no_node less) cut;
-  no_link = HasNone-line link_line link_body (FitsLink (length nodes)) link_line_is (λ link fits. Lacks-link_body link (small_row (length nodes) link (omega (arith, read.count)) fits)) rest body after more read.no_link cut;
+  no_link = HasNone-line link_line link_body (FitsLink (length nodes)) link_line_is (λ link fits. Lacks-link_body link (small_link (length nodes) link (omega (arith, read.count)) fits)) rest body after more read.no_link cut;
 }
 read_on text nodes (first ∷ links) rest body after more read cut = record {
   parts = refl;
@@ -66,7 +66,7 @@ read_on text nodes (first ∷ links) rest body after more read cut = record {
   nodes_fit = read.nodes_fit;
   links_fit = read.links_fit;
   no_node = λ less. no_node_first first links (line body ++ more);
-  no_link = HasNone-line link_line link_body (FitsLink (length nodes)) link_line_is (λ link fits. Lacks-link_body link (small_row (length nodes) link (omega (arith, read.count)) fits)) rest body after more read.no_link cut;
+  no_link = HasNone-line link_line link_body (FitsLink (length nodes)) link_line_is (λ link fits. Lacks-link_body link (small_link (length nodes) link (omega (arith, read.count)) fits)) rest body after more read.no_link cut;
 }
 
 -- ---- the table of such a text

@@ -1,14 +1,14 @@
 use Rattle.std.proofs.Common.{sym, ap, ◌∙◌, arith}
 use Rattle.std.specs.Fmt.{decimal}
 use Rattle.text_forms.specs.Lines.{word}
-use Rattle.route_certificate.proofs.LineLemmas.{small_row, link_0, link_1, link_2, link_3}
+use Rattle.route_certificate.proofs.LineLemmas.{small_link, link_0, link_1, link_2, link_3}
 use Rattle.route_certificate.proofs.table_reading.link_of.Goals as goal
 use Rattle.route_certificate.proofs.table_reading.link_of.Goals.{else-from-nodes-via-then-from-nodes+then-to-nodes+else-cost-le-MAX_COST, else-from-nodes-via-then-from-nodes+else-to-nodes, else-from-nodes-via-else-from-nodes}
 
 pub returns-in_err-to-clause-none : goal.returns-in_err-to-clause-none
 returns-in_err-to-clause-none c =
     rw c.from_residual-in_err-to.ensures (λ link fits e.
-    let small = small_row c.args.nodes link (omega arith) fits in
+    let small = small_link c.args.nodes link (omega arith) fits in
     let rest = link_0 c.in_ok-rest.rest.now link (sym c.in_ok-rest.ensures.found ∙ e) in
     let from = c.in_ok-from.ensures.found in
     let one = link_1 c.in_ok-from.from c.in_ok-from.rest.now link from.1 small (sym from.0 ∙ rest) in
@@ -17,7 +17,7 @@ returns-in_err-to-clause-none c =
 pub returns-in_err-cost-clause-none : goal.returns-in_err-cost-clause-none
 returns-in_err-cost-clause-none c =
     rw c.from_residual-in_err-cost.ensures (λ link fits e.
-    let small = small_row c.args.nodes link (omega arith) fits in
+    let small = small_link c.args.nodes link (omega arith) fits in
     let rest = link_0 c.in_ok-rest.rest.now link (sym c.in_ok-rest.ensures.found ∙ e) in
     let from = c.in_ok-from.ensures.found in
     let to = c.in_ok-to.ensures.found in
@@ -28,7 +28,7 @@ returns-in_err-cost-clause-none c =
 pub returns-in_err-via-clause-none : goal.returns-in_err-via-clause-none
 returns-in_err-via-clause-none c =
     rw c.from_residual-in_err-via.ensures (λ link fits e.
-    let small = small_row c.args.nodes link (omega arith) fits in
+    let small = small_link c.args.nodes link (omega arith) fits in
     let rest = link_0 c.in_ok-rest.rest.now link (sym c.in_ok-rest.ensures.found ∙ e) in
     let from = c.in_ok-from.ensures.found in
     let to = c.in_ok-to.ensures.found in
@@ -39,7 +39,7 @@ returns-in_err-via-clause-none c =
 
 pub returns-else-from-nodes-clause-none : goal.returns-else-from-nodes-clause-none
 returns-else-from-nodes-clause-none c = λ link fits e.
-    let small = small_row c.args.nodes link (omega arith) fits in
+    let small = small_link c.args.nodes link (omega arith) fits in
     let rest = link_0 c.in_ok-rest.rest.now link (sym c.in_ok-rest.ensures.found ∙ e) in
     let from = c.in_ok-from.ensures.found in
     let to = c.in_ok-to.ensures.found in
