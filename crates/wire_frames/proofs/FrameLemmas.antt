@@ -1,5 +1,5 @@
 -- From what the calls below say of the front to what its answer says, and that each answer comes exactly where its fact holds.
-use Rattle.std.proofs.Common.{◌≡◌, ℕ, ◌+◌, ◌<◌, ◌≤◌, inl, inr, List, [], ◌∷◌, ◌++◌, length, take, drop, refl, sym, ap, ◌∙◌, subst, arith, append-nil, length-append}
+use Rattle.std.proofs.Common.{◌≡◌, ℕ, ◌+◌, ◌<◌, ◌≤◌, inl, inr, List, [], ◌∷◌, ◌++◌, length, take, refl, sym, ap, ◌∙◌, subst, arith, append-nil, length-append}
 use Rattle.std.proofs.lemmas.Bool.{cases_lt}
 use Rattle.httparse.specs.Grammar.{RequestHead}
 use Rattle.wire_frames.specs.declared.fields.Named.{Named}
@@ -10,12 +10,12 @@ use Rattle.wire_frames.specs.declared.refusals.Refusal.{Refusal}
 use Rattle.wire_frames.specs.declared.refusals.Refusal.TheVariants.{HeadTooLarge}
 use Rattle.http1.specs.Fields.{values_named}
 use Rattle.std.specs.Prelude.{codes}
-use Rattle.wire_frames.specs.Fields.{fields_of, closes}
+use Rattle.wire_frames.specs.Fields.{fields_of}
 use Rattle.wire_frames.specs.Frames.{HasEnd, HasNoEnd, RefusesHead, HasHead, IsShort, IsRefused, PlainFrame, HasFrame}
 use Rattle.wire_frames.specs.Outcomes.{AreValues, ShowsFrame, WaitsFor, IfMore, IfFault, IfFramed, IsMore, IsFramedAnd}
 use Rattle.wire_frames.specs.Reading.{AreParts, FramesBody}
 use Rattle.wire_frames.proofs.FrontLemmas.{end_not_none, one_head, head_more}
-use Rattle.wire_frames.proofs.LawLemmas.{short_not_refused, short_not_framed, head_not_refused, one_front_refusal, one_frame}
+use Rattle.wire_frames.proofs.LawLemmas.{short_not_refused, short_not_framed, head_not_refused, one_front_refusal, plain_frame, one_frame}
 
 -- what an answer says of the front
 abbrev pub FramesAs : List ℕ → Framing → Type 0
@@ -94,19 +94,9 @@ body_waits bytes e h n x lt = record {
       omega (arith, same.size, length_of);
 }
 
-frame_of : List ℕ → Extent → RequestHead → ℕ → PlainFrame
-frame_of bytes e h n = record {
-  method = h.method;
-  target = h.target;
-  fields = fields_of h;
-  body = take n (drop e.length bytes);
-  length = e.length + n;
-  close = closes h;
-}
-
 pub body_frames : (bytes : List ℕ) (e : Extent) (parts : Parts) (r : Framing) → HasEnd bytes e
     → AreParts (take e.length bytes) e.lines parts → FramesBody bytes parts e.length r → FramesAs bytes r
-unfolding frame_of
+unfolding plain_frame
 body_frames bytes e parts (Framing.More least) ends are x =
     let head : HasHead bytes e are.0 parts.body = record { ends = ends; head = are.1 } in
     subst (WaitsFor bytes) (sym x.1) (body_waits bytes e are.0 parts.body head (omega (arith, x.0, x.1)))
@@ -115,7 +105,7 @@ body_frames bytes e parts (Framing.Framed framed) ends are x =
     let h = are.0 in
     let from = are.2 in
     let fields = values_named (codes "x-staff-key") (fields_of h) in (
-      frame_of bytes e h parts.body,
+      plain_frame bytes e h parts.body,
       record {
         extent = e;
         h = h;

@@ -78,7 +78,7 @@ one_front_refusal bytes r q (inr x) (inr y) =
     (subst (λ (v : Extent). RefusesHead (take v.length bytes) v.lines r) same x.2) y.2
 
 -- the frame of a head and its body
-plain_frame : List ℕ → Extent → RequestHead → ℕ → PlainFrame
+unfoldable pub plain_frame : List ℕ → Extent → RequestHead → ℕ → PlainFrame
 plain_frame bytes e h n = record {
   method = h.method;
   target = h.target;
