@@ -8,4 +8,4 @@ pub returns : goal.returns
 returns c =
     IfOk-weaker c.format.result (λ s. string_bytes s ≡ keyed_pieces c.args.front.now c.as_str-key.result.now)
     (λ s. string_bytes s ≡ line (c.args.front.now ++ (codes " " ++ c.args.key.now)))
-    (λ s wrote. wrote ∙ keyed_line c.args.front.now c.args.key.now c.as_str-key.result.now c.as_str-key.ensures) c.format.ensures.ok
+    (λ s wrote. wrote ∙ keyed_line c.args.front.now c.args.key.now c.as_str-key.result.now c.as_str-key.ensures.value) c.format.ensures.ok
