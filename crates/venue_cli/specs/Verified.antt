@@ -5,8 +5,8 @@ use Rattle.venue_ports.specs.Files.{StoredFile, file_at}
 use Rattle.text_forms.specs.Lines.{line}
 use Rattle.route_certificate.specs.declared.table.Table.{Table}
 use Rattle.route_certificate.specs.declared.answer.AnswerIn.{AnswerIn}
-use Rattle.route_certificate.specs.declared.answer.Place.{Place}
-use Rattle.route_certificate.specs.declared.answer.Place.TheVariants.{Step, End, Sum, Start, Finish, Link}
+use Rattle.route_certificate.specs.declared.answer.FailedClause.{FailedClause}
+use Rattle.route_certificate.specs.declared.answer.FailedClause.TheVariants.{Step, End, Sum, Start, Finish, Link}
 use Rattle.route_certificate.specs.declared.answer.Verdict.{Verdict}
 use Rattle.route_certificate.specs.declared.answer.Verdict.TheVariants.{Proved, Fails}
 use Rattle.route_certificate.specs.Forms.{IsTable}
@@ -20,21 +20,21 @@ use Rattle.venue_cli.specs.Files.{Reads, Stops, links_limit, links_name, answer_
 abbrev pub AnswerForm : Table → List ℕ → AnswerIn → Type 0
 AnswerForm table text answer = IsAnswerText text table answer
 
-abbrev pub place_text : Place → List ℕ
-place_text (Step k) = line (codes "fails step " ++ decimal k)
-place_text End = line (codes "fails end")
-place_text Sum = line (codes "fails sum")
-place_text Start = line (codes "fails start")
-place_text Finish = line (codes "fails finish")
-place_text (Link j) = line (codes "fails link " ++ decimal j)
+abbrev pub clause_text : FailedClause → List ℕ
+clause_text (Step k) = line (codes "fails step " ++ decimal k)
+clause_text End = line (codes "fails end")
+clause_text Sum = line (codes "fails sum")
+clause_text Start = line (codes "fails start")
+clause_text Finish = line (codes "fails finish")
+clause_text (Link j) = line (codes "fails link " ++ decimal j)
 
 abbrev pub verdict_text : Verdict → List ℕ
 verdict_text Proved = line (codes "proved")
-verdict_text (Fails place) = place_text place
+verdict_text (Fails clause) = clause_text clause
 
 abbrev pub verdict_status : Verdict → Status
 verdict_status Proved = Done
-verdict_status (Fails place) = Negative
+verdict_status (Fails clause) = Negative
 
 -- `verify BASE`: the table is judged before the answer is read
 pub data VerifyOutput (files : List StoredFile) (base : List ℕ) : List ℕ → Status → Type 0 where

@@ -2,27 +2,27 @@
 
 ghost use Rattle.std.specs.Prelude.{◌≡◌, IfOk, IfSome, string_bytes};
 ghost use Rattle.venue_ports.specs.Files.{HasReadCause};
-ghost use Rattle.venue_cli.specs.Verified.{place_text, verdict_text, verdict_status, VerifyOutput};
+ghost use Rattle.venue_cli.specs.Verified.{clause_text, verdict_text, verdict_status, VerifyOutput};
 ghost use Rattle.venue_cli.specs.Steps.{IsPrinted};
 
 use crate::answer::{Answer, stopped};
 use crate::base::{answer_of, table_of};
 use crate::status::Status;
-use route_certificate::{Place, Verdict, verify};
+use route_certificate::{FailedClause, Verdict, verify};
 use std::alloc::{AllocError, Global};
 use venue_ports::{Folders, ReadFault};
 
 // What is printed where an answer fails.
-fn fails(alloc: Global, place: Place) -> Result<String, AllocError>
-    ensures { IfOk result (λ text. string_bytes text ≡ place_text place) }
+fn fails(alloc: Global, clause: FailedClause) -> Result<String, AllocError>
+    ensures { IfOk result (λ text. string_bytes text ≡ clause_text clause) }
 {
-    match place {
-        Place::Step(step) => format!(in alloc; "fails step {step}\n"),
-        Place::End => String::from_str(alloc, "fails end\n"),
-        Place::Sum => String::from_str(alloc, "fails sum\n"),
-        Place::Start => String::from_str(alloc, "fails start\n"),
-        Place::Finish => String::from_str(alloc, "fails finish\n"),
-        Place::Link(link) => format!(in alloc; "fails link {link}\n"),
+    match clause {
+        FailedClause::Step(step) => format!(in alloc; "fails step {step}\n"),
+        FailedClause::End => String::from_str(alloc, "fails end\n"),
+        FailedClause::Sum => String::from_str(alloc, "fails sum\n"),
+        FailedClause::Start => String::from_str(alloc, "fails start\n"),
+        FailedClause::Finish => String::from_str(alloc, "fails finish\n"),
+        FailedClause::Link(link) => format!(in alloc; "fails link {link}\n"),
     }
 }
 
@@ -36,9 +36,9 @@ fn judged(alloc: Global, verdict: Verdict) -> Result<Answer, AllocError>
             status: Status::Done,
             text: String::from_str(alloc, "proved\n")?,
         }),
-        Verdict::Fails(place) => Ok(Answer {
+        Verdict::Fails(clause) => Ok(Answer {
             status: Status::Negative,
-            text: fails(alloc, place)?,
+            text: fails(alloc, clause)?,
         }),
     }
 }
