@@ -13,7 +13,7 @@ use Rattle.venue_cli.specs.Commands.{Asked, Price, Verify, Check, IsBase, IsFold
 use Rattle.venue_cli.specs.Output.{PriceOutput, Output, other_words, answers_price, answers_verify, answers_check}
 use Rattle.venue_cli.specs.Verified.{VerifyOutput}
 use Rattle.venue_cli.specs.Checked.{CheckOutput}
-use Rattle.venue_cli.specs.Ends.{Wrote, Run, Ends}
+use Rattle.venue_cli.specs.Ends.{Wrote, Run, NoFault, Ends}
 
 pub price_told : (words : List (List ℕ)) (files : Option (List StoredFile)) (base : List ℕ) (r : Result Answer ReadFault) → IsBase base → words ≡ words_of (Price base)
     → IfOk r (λ a. IfSome files (λ fs. PriceOutput fs base (string_bytes a.text) a.status)) → IfOk r (λ a. IfSome files (λ fs. Output words fs (string_bytes a.text) a.status))
@@ -46,14 +46,15 @@ other_told words None text none is = tt
 other_told words (Some fs) text none is = subst (λ (t : List ℕ). Output words fs t Wrong) (sym is) (other_words none)
 
 pub ends_printed : (words : List (List ℕ)) (files : Option (List StoredFile)) (run : Run) (status : Status) (text : List ℕ) → IsPrinted status → Wrote run.written run.written_now text
-    → IfSome files (λ fs. Output words fs text status) → Ends words files run status
-ends_printed words files run Done text plain wrote output = record { text = text; wrote = wrote; output = output }
-ends_printed words files run Negative text plain wrote output = record { text = text; wrote = wrote; output = output }
-ends_printed words files run Wrong text plain wrote output = record { text = text; wrote = wrote; output = output }
-ends_printed words files run Fault text plain wrote output = absurd plain
-ends_printed words files run Memory text plain wrote output = absurd plain
+    → NoFault run → IfSome files (λ fs. Output words fs text status) → Ends words files run status
+ends_printed words files run Done text plain wrote faultless output = record { text = text; wrote = wrote; output = output; faultless = faultless }
+ends_printed words files run Negative text plain wrote faultless output = record { text = text; wrote = wrote; output = output; faultless = faultless }
+ends_printed words files run Wrong text plain wrote faultless output = record { text = text; wrote = wrote; output = output; faultless = faultless }
+ends_printed words files run Fault text plain wrote faultless output = absurd plain
+ends_printed words files run Memory text plain wrote faultless output = absurd plain
 
 pub ends_cut : (words : List (List ℕ)) (files : Option (List StoredFile)) (run : Run) (status : Status) (text front rest : List ℕ) → Wrote run.written run.written_now front
-    → text ≡ front ++ rest → IfSome files (λ fs. Output words fs text status) → Rose run.console run.console_now → Ends words files run Fault
-ends_cut words files run status text front rest wrote parts output cause =
-    inl (record { text = front; rest = rest; status = status; wrote = wrote; output = subst (λ (t : List ℕ). IfSome files (λ fs. Output words fs t status)) parts output; cause = cause })
+    → text ≡ front ++ rest → IfSome files (λ fs. Output words fs text status) → Rose run.console run.console_now
+    → run.folders_now ≡ run.folders → Ends words files run Fault
+ends_cut words files run status text front rest wrote parts output cause kept =
+    inl (record { text = front; rest = rest; status = status; wrote = wrote; output = subst (λ (t : List ℕ). IfSome files (λ fs. Output words fs t status)) parts output; cause = cause; folders = kept })
