@@ -54,7 +54,7 @@ pub record FolderFailed (words : List (List ℕ)) (run : Run) : Type 0 where
   pub rest : List ℕ
   pub wrote : Wrote run.written run.written_now text
   pub whole : text ++ rest ≡ folder_fault
-  pub told : (text ≡ folder_fault) ⊎ Rose run.console run.console_now
+  pub told : ((text ≡ folder_fault) × (run.console_now ≡ run.console)) ⊎ Rose run.console run.console_now
   pub cause : Rose run.folders run.folders_now
 
 -- memory ran out before anything was written, and nothing failed

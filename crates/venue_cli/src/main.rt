@@ -28,7 +28,10 @@ use venue_ports::{Console, DirFolders, QuietDoors};
 // The words of the command line, less the program's name.
 fn words_of(rt: &HostRuntime) -> Result<Vec<String>, WordsFault> {
     match env::args(rt) {
-        Ok(args) => args.skip(1).collect(rt.alloc()).map_err(|_| WordsFault::OutOfMemory),
+        Ok(args) => args
+            .skip(1)
+            .collect(rt.alloc())
+            .map_err(|_| WordsFault::OutOfMemory),
         Err(error) => Err(words_fault(error.kind())),
     }
 }

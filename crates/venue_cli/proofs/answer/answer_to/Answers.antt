@@ -32,3 +32,8 @@ pub returns-in-Some-base_of-clause-asked : goal.returns-in-Some-base_of-clause-a
 returns-in-Some-base_of-clause-asked g c failed =
     let found = c.in-Some-base_of.ensures.found in
     record { asked = Verify c.in-Some-base_of.base.now; form = found.0; spelled = found.1 }
+
+pub returns-in-Some-folder_of-clause-asked : goal.returns-in-Some-folder_of-clause-asked
+returns-in-Some-folder_of-clause-asked g c failed =
+    let found = c.in-Some-folder_of.ensures.found in
+    record { asked = Check c.in-Some-folder_of.base.now c.in-Some-folder_of.folder.now; form = (found.0, found.1); spelled = found.2 }
