@@ -1,19 +1,20 @@
 -- From the answer and what was written to how the run ends.
-use Rattle.std.proofs.Common.{◌≡◌, ℕ, List, ◌++◌, Option, Some, None, Result, Ok, Err, sym, subst, inl, codes}
-use Rattle.std.specs.Prelude.{IfSome, IfOk, string_bytes}
+use Rattle.std.proofs.Common.{◌≡◌, ℕ, List, [], ◌++◌, Option, Some, None, Result, Ok, Err, refl, sym, subst, inl, inr, codes, append-nil}
+use Rattle.std.specs.Prelude.{IfSome, IfOk, OnOk, OnErr, string_bytes}
 use Rattle.venue_ports.specs.Files.{StoredFile}
 use Rattle.venue_ports.specs.Causes.{Rose}
 use Rattle.venue_ports.specs.declared.folders.ReadFault.{ReadFault}
+use Rattle.venue_ports.specs.declared.stream.Failed.{Failed}
 use Rattle.text_forms.specs.Lines.{line}
 use Rattle.venue_cli.specs.declared.answer.Answer.{Answer}
 use Rattle.venue_cli.specs.declared.status.Status.{Status}
 use Rattle.venue_cli.specs.declared.status.Status.TheVariants.{Done, Negative, Wrong, Fault, Memory}
 use Rattle.venue_cli.specs.Steps.{IsPrinted}
-use Rattle.venue_cli.specs.Commands.{Asked, Price, Verify, Check, IsBase, IsFolder, IsAsked, words_of}
+use Rattle.venue_cli.specs.Commands.{Asked, Price, Verify, Check, IsBase, IsFolder, IsAsked, AskFor, words_of}
 use Rattle.venue_cli.specs.Output.{PriceOutput, Output, other_words, answers_price, answers_verify, answers_check}
 use Rattle.venue_cli.specs.Verified.{VerifyOutput}
 use Rattle.venue_cli.specs.Checked.{CheckOutput}
-use Rattle.venue_cli.specs.Ends.{Wrote, Run, Ends}
+use Rattle.venue_cli.specs.Ends.{Wrote, Run, NoFault, folder_fault, Ends}
 
 pub price_told : (words : List (List ℕ)) (files : Option (List StoredFile)) (base : List ℕ) (r : Result Answer ReadFault) → IsBase base → words ≡ words_of (Price base)
     → IfOk r (λ a. IfSome files (λ fs. PriceOutput fs base (string_bytes a.text) a.status)) → IfOk r (λ a. IfSome files (λ fs. Output words fs (string_bytes a.text) a.status))
@@ -46,14 +47,25 @@ other_told words None text none is = tt
 other_told words (Some fs) text none is = subst (λ (t : List ℕ). Output words fs t Wrong) (sym is) (other_words none)
 
 pub ends_printed : (words : List (List ℕ)) (files : Option (List StoredFile)) (run : Run) (status : Status) (text : List ℕ) → IsPrinted status → Wrote run.written run.written_now text
-    → IfSome files (λ fs. Output words fs text status) → Ends words files run status
-ends_printed words files run Done text plain wrote output = record { text = text; wrote = wrote; output = output }
-ends_printed words files run Negative text plain wrote output = record { text = text; wrote = wrote; output = output }
-ends_printed words files run Wrong text plain wrote output = record { text = text; wrote = wrote; output = output }
-ends_printed words files run Fault text plain wrote output = absurd plain
-ends_printed words files run Memory text plain wrote output = absurd plain
+    → NoFault run → IfSome files (λ fs. Output words fs text status) → Ends words files run status
+ends_printed words files run Done text plain wrote faultless output = record { text = text; wrote = wrote; output = output; faultless = faultless }
+ends_printed words files run Negative text plain wrote faultless output = record { text = text; wrote = wrote; output = output; faultless = faultless }
+ends_printed words files run Wrong text plain wrote faultless output = record { text = text; wrote = wrote; output = output; faultless = faultless }
+ends_printed words files run Fault text plain wrote faultless output = absurd plain
+ends_printed words files run Memory text plain wrote faultless output = absurd plain
 
 pub ends_cut : (words : List (List ℕ)) (files : Option (List StoredFile)) (run : Run) (status : Status) (text front rest : List ℕ) → Wrote run.written run.written_now front
-    → text ≡ front ++ rest → IfSome files (λ fs. Output words fs text status) → Rose run.console run.console_now → Ends words files run Fault
-ends_cut words files run status text front rest wrote parts output cause =
-    inl (record { text = front; rest = rest; status = status; wrote = wrote; output = subst (λ (t : List ℕ). IfSome files (λ fs. Output words fs t status)) parts output; cause = cause })
+    → text ≡ front ++ rest → IfSome files (λ fs. Output words fs text status) → Rose run.console run.console_now
+    → run.folders_now ≡ run.folders → Ends words files run Fault
+ends_cut words files run status text front rest wrote parts output cause kept =
+    inl (record { text = front; rest = rest; status = status; wrote = wrote; output = subst (λ (t : List ℕ). IfSome files (λ fs. Output words fs t status)) parts output; cause = cause; folders = kept })
+
+-- the folders failed, and this is what writing that came to
+pub ends_failed : (words : List (List ℕ)) (files : Option (List StoredFile)) (run : Run) (written : Result (Unit {0}) Failed) → AskFor words → Rose run.folders run.folders_now
+    → OnOk written (Wrote run.written run.written_now folder_fault)
+    → OnErr written ((front : List ℕ) × (rest : List ℕ) × Wrote run.written run.written_now front × (folder_fault ≡ front ++ rest))
+    → OnOk written (run.console_now ≡ run.console) → OnErr written (Rose run.console run.console_now) → Ends words files run Fault
+ends_failed words files run (Ok u) asks cause all part kept rose =
+    inr (record { asks = asks; text = folder_fault; rest = []; wrote = all; whole = append-nil folder_fault; told = inl (refl, kept); cause = cause })
+ends_failed words files run (Err e) asks cause all part kept rose =
+    inr (record { asks = asks; text = part.0; rest = part.1; wrote = part.2; whole = sym part.3; told = inr rose; cause = cause })

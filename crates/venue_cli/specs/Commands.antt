@@ -34,3 +34,9 @@ abbrev pub IsAsked : Asked → Type 0
 IsAsked (Price base) = IsBase base
 IsAsked (Verify base) = IsBase base
 IsAsked (Check base folder) = IsBase base × IsFolder folder
+
+-- the words ask for a command
+pub record AskFor (words : List (List ℕ)) : Type 0 where
+  pub asked : Asked
+  pub form : IsAsked asked
+  pub spelled : words ≡ words_of asked

@@ -5,6 +5,7 @@ use Rattle.venue_ports.specs.Causes.{Rose}
 use Rattle.text_forms.specs.Lines.{line}
 use Rattle.venue_cli.specs.declared.status.Status.{Status}
 use Rattle.venue_cli.specs.declared.status.Status.TheVariants.{Done, Negative, Wrong, Fault, Memory}
+use Rattle.venue_cli.specs.Commands.{AskFor}
 use Rattle.venue_cli.specs.Output.{Output}
 
 -- exactly these bytes were appended, where the bytes are told
@@ -24,13 +25,19 @@ pub record Run : Type 0 where
   pub folders : ℕ
   pub folders_now : ℕ
 
--- the output was written, all of it
+-- no count of faults rose
+pub record NoFault (run : Run) : Type 0 where
+  pub console : run.console_now ≡ run.console
+  pub folders : run.folders_now ≡ run.folders
+
+-- the output was written, all of it, and nothing failed
 pub record Printed (words : List (List ℕ)) (files : Option (List StoredFile)) (run : Run) (status : Status) : Type 0 where
   pub text : List ℕ
   pub wrote : Wrote run.written run.written_now text
   pub output : IfSome files (λ fs. Output words fs text status)
+  pub faultless : NoFault run
 
--- a front of the output was written, and the console failed
+-- a front of the output was written, and the console alone failed
 pub record CutShort (words : List (List ℕ)) (files : Option (List StoredFile)) (run : Run) : Type 0 where
   pub text : List ℕ
   pub rest : List ℕ
@@ -38,19 +45,27 @@ pub record CutShort (words : List (List ℕ)) (files : Option (List StoredFile))
   pub wrote : Wrote run.written run.written_now text
   pub output : IfSome files (λ fs. Output words fs (text ++ rest) status)
   pub cause : Rose run.console run.console_now
+  pub folders : run.folders_now ≡ run.folders
 
--- the folders failed, which was written, or a front of it and the console failed too
-pub record FolderFailed (run : Run) : Type 0 where
+-- the words ask for a command, and the folders failed, which was written, or a front of it and the console failed too
+pub record FolderFailed (words : List (List ℕ)) (run : Run) : Type 0 where
+  pub asks : AskFor words
   pub text : List ℕ
   pub rest : List ℕ
   pub wrote : Wrote run.written run.written_now text
   pub whole : text ++ rest ≡ folder_fault
-  pub told : (text ≡ folder_fault) ⊎ Rose run.console run.console_now
+  pub told : ((text ≡ folder_fault) × (run.console_now ≡ run.console)) ⊎ Rose run.console run.console_now
   pub cause : Rose run.folders run.folders_now
 
+-- memory ran out before anything was written, and nothing failed
+pub record NothingDone (run : Run) : Type 0 where
+  pub written : run.written_now ≡ run.written
+  pub faultless : NoFault run
+
+-- how a command ends that prints one text
 abbrev pub Ends : List (List ℕ) → Option (List StoredFile) → Run → Status → Type 0
-Ends words files run Memory = Unit {0}
-Ends words files run Fault = CutShort words files run ⊎ FolderFailed run
+Ends words files run Memory = NothingDone run
+Ends words files run Fault = CutShort words files run ⊎ FolderFailed words run
 Ends words files run Done = Printed words files run Done
 Ends words files run Negative = Printed words files run Negative
 Ends words files run Wrong = Printed words files run Wrong

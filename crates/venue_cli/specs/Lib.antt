@@ -6,3 +6,4 @@ pub mod Output
 pub mod Steps
 pub mod Ends
 pub mod Codes
+pub mod Exits

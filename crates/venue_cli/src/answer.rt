@@ -1,7 +1,8 @@
 //! What the program answers, before it is printed.
 
-ghost use Rattle.std.specs.Prelude.{◌≡◌, IfOk, IfSome, string_bytes, map};
+ghost use Rattle.std.specs.Prelude.{◌≡◌, IfOk, IfSome, IsErrOf, string_bytes, map};
 ghost use Rattle.venue_ports.specs.Files.{HasReadCause};
+ghost use Rattle.venue_cli.specs.Commands.{AskFor};
 ghost use Rattle.venue_cli.specs.Files.{stop_text};
 ghost use Rattle.venue_cli.specs.Output.{priced_text, priced_status, PriceOutput, Output};
 ghost use Rattle.venue_cli.specs.Steps.{IsPrinted};
@@ -82,6 +83,7 @@ pub(crate) fn answer_to<F: Folders>(
 ) -> Result<Answer, ReadFault>
     ensures told { IfOk result (λ answer. IfSome (F.files folders.old) (λ files. Output (map string_bytes words.now) files (string_bytes answer.text) answer.status)) }
     ensures plain { IfOk result (λ answer. IsPrinted answer.status) }
+    ensures asked { IsErrOf result ReadFault.Failed → AskFor (map string_bytes words.now) }
     ensures same { F.files folders.new ≡ F.files folders.old }
     ensures cause { HasReadCause (F.faults folders.old) (F.faults folders.new) result }
 {

@@ -4,6 +4,7 @@
 mod answer;
 mod base;
 mod checking;
+mod exit;
 mod folder;
 mod load;
 mod printing;
@@ -17,33 +18,29 @@ mod trials;
 mod verifying;
 mod words;
 
+pub use exit::{Exit, WordsFault, exit_after, words_fault};
 pub use running::run;
 pub use status::{Outcome, Status};
-use std::alloc::AllocError;
 use std::env;
 use std::process::ExitCode;
 use venue_ports::{Console, DirFolders, QuietDoors};
 
 // The words of the command line, less the program's name.
-fn words_of(rt: &HostRuntime) -> Option<Vec<String>> {
-    let args = env::args(rt).ok()?;
-    args.skip(1).collect(rt.alloc()).ok()
+fn words_of(rt: &HostRuntime) -> Result<Vec<String>, WordsFault> {
+    match env::args(rt) {
+        Ok(args) => args
+            .skip(1)
+            .collect(rt.alloc())
+            .map_err(|_| WordsFault::OutOfMemory),
+        Err(error) => Err(words_fault(error.kind())),
+    }
 }
 
 fn main(rt: HostRuntime) -> ExitCode {
-    let Some(words) = words_of(&rt) else {
-        return ExitCode::from(Status::Wrong.code());
-    };
     let Ok(doors) = QuietDoors::new(rt.alloc(), Vec::new(rt.alloc())) else {
         return ExitCode::from(Status::Memory.code());
     };
     let mut console = Console::new(&rt);
-    let outcome = run(
-        rt.alloc(),
-        &words,
-        DirFolders::new(&rt),
-        doors,
-        &mut console,
-    );
-    ExitCode::from(outcome.status.code())
+    let folders = DirFolders::new(&rt);
+    exit_after(rt.alloc(), words_of(&rt), folders, doors, &mut console).code
 }

@@ -1,4 +1,5 @@
 use Rattle.std.specs.Prelude.{string_bytes, map}
+use Rattle.venue_cli.specs.Commands.{Price, Verify, Check}
 use Rattle.venue_cli.proofs.Ending.{price_told, verify_told, check_told, other_told, asks_nothing}
 use Rattle.venue_cli.proofs.answer.answer_to.Goals as goal
 
@@ -21,3 +22,18 @@ pub returns-clause-told : goal.returns-clause-told
 returns-clause-told g c =
     other_told (map string_bytes c.args.words.now) (g.F.Folders.files c.args.folders.now) (string_bytes c.in_ok-from_str.field-0)
     (asks_nothing (map string_bytes c.args.words.now) c.in_default.ensures.none c.in_default-base_of.ensures.none c.in_default-folder_of.ensures.none) c.in_ok-from_str.ensures.ok
+
+pub returns-in-Some-clause-asked : goal.returns-in-Some-clause-asked
+returns-in-Some-clause-asked g c failed =
+    let found = c.in-Some.ensures.found in
+    record { asked = Price c.in-Some.base.now; form = found.0; spelled = found.1 }
+
+pub returns-in-Some-base_of-clause-asked : goal.returns-in-Some-base_of-clause-asked
+returns-in-Some-base_of-clause-asked g c failed =
+    let found = c.in-Some-base_of.ensures.found in
+    record { asked = Verify c.in-Some-base_of.base.now; form = found.0; spelled = found.1 }
+
+pub returns-in-Some-folder_of-clause-asked : goal.returns-in-Some-folder_of-clause-asked
+returns-in-Some-folder_of-clause-asked g c failed =
+    let found = c.in-Some-folder_of.ensures.found in
+    record { asked = Check c.in-Some-folder_of.base.now c.in-Some-folder_of.folder.now; form = (found.0, found.1); spelled = found.2 }

@@ -1,0 +1,22 @@
+-- With which number the process ends.
+use Rattle.std.specs.Prelude.{◌≡◌, ℕ, List, [], map, Option, Result, Ok, Err, Vec, String, string_bytes}
+use Rattle.std.specs.declared.alloc.Global.{Global}
+use Rattle.venue_ports.specs.Files.{StoredFile}
+use Rattle.venue_cli.specs.declared.exit.WordsFault.{WordsFault}
+use Rattle.venue_cli.specs.declared.exit.WordsFault.TheVariants.{NotText, OutOfMemory}
+use Rattle.venue_cli.specs.declared.status.Status.{Status}
+use Rattle.venue_cli.specs.declared.status.Status.TheVariants.{Memory}
+use Rattle.venue_cli.specs.Codes.{status_code}
+use Rattle.venue_cli.specs.Ends.{Run, Ends, NothingDone}
+
+-- the number is that of the status with which a run over these words ends
+pub record Exits (words : List (List ℕ)) (files : Option (List StoredFile)) (run : Run) (number : ℕ) : Type 0 where
+  pub status : Status
+  pub ends : Ends words files run status
+  pub numbered : number ≡ status_code status
+
+-- words of which one is no text are answered as no words are, and where memory ran out before they were read nothing is done
+abbrev pub ExitsAfter : Result (Vec (String Global) Global) WordsFault → Option (List StoredFile) → Run → ℕ → Type 0
+ExitsAfter (Ok words) files run number = Exits (map string_bytes words.items) files run number
+ExitsAfter (Err NotText) files run number = Exits [] files run number
+ExitsAfter (Err OutOfMemory) files run number = NothingDone run × (number ≡ status_code Memory)

@@ -1,0 +1,87 @@
+//! With which number the process ends.
+
+ghost use Rattle.std.specs.Prelude.{◌≡◌, ◌≤◌, ◌↔◌, false};
+ghost use Rattle.std.specs.Process.{exit_status};
+ghost use Rattle.venue_cli.specs.Codes.{status_code};
+ghost use Rattle.venue_cli.specs.Exits.{ExitsAfter};
+
+use crate::running::run;
+use crate::status::{Outcome, Status};
+use std::alloc::Global;
+use std::io::ErrorKind;
+use std::process::ExitCode;
+use venue_ports::{Doors, Folders, Stream};
+
+/// Why the words of the command line were not read.
+#[derive(Clone, Copy, Debug, PartialEq, Eq)]
+pub enum WordsFault {
+    /// One of them is not UTF-8.
+    NotText,
+    /// Memory ran out.
+    OutOfMemory,
+}
+
+/// What is handed to the system, and what was handed in.
+#[derive(Drop)]
+pub struct Exit<F, D> {
+    pub code: ExitCode,
+    pub folders: F,
+    pub doors: D,
+}
+
+/// Why the words were not read, where the system reports an error of this kind.
+pub fn words_fault(kind: ErrorKind) -> WordsFault
+    ensures { (result ≡ WordsFault.OutOfMemory) ↔ (kind ≡ ErrorKind.OutOfMemory) }
+{
+    match kind {
+        ErrorKind::OutOfMemory => WordsFault::OutOfMemory,
+        _ => WordsFault::NotText,
+    }
+}
+
+// The number of an outcome's status.
+fn exit_of<F, D>(outcome: Outcome<F, D>) -> Exit<F, D>
+    ensures code { exit_status result.code ≡ status_code outcome.status }
+    ensures folders { result.folders ≡ outcome.folders }
+    ensures doors { result.doors ≡ outcome.doors }
+{
+    Exit {
+        code: ExitCode::from(outcome.status.code()),
+        folders: outcome.folders,
+        doors: outcome.doors,
+    }
+}
+
+/// Runs the command that the words name, where they were read, and gives the number with which the process ends.
+pub fn exit_after<F: Folders + Send, D: Doors + Send, C: Stream>(
+    alloc: Global,
+    words: Result<Vec<String>, WordsFault>,
+    folders: F,
+    doors: D,
+    console: &mut C,
+) -> Exit<F, D>
+    requires { D.ready doors ≡ false }
+    ensures exits { ExitsAfter words (F.files folders) (record {
+      written = C.written console.old;
+      written_now = C.written console.new;
+      console = C.faults console.old;
+      console_now = C.faults console.new;
+      folders = F.faults folders;
+      folders_now = F.faults result.folders;
+    }) (exit_status result.code) }
+    ensures files { F.files result.folders ≡ F.files folders }
+    ensures doors { result.doors ≡ doors }
+    ensures left { C.left console.new ≡ C.left console.old }
+    ensures folders_later { F.faults folders ≤ F.faults result.folders }
+    ensures console_later { C.faults console.old ≤ C.faults console.new }
+{
+    match words {
+        Ok(words) => exit_of(run(alloc, words.as_slice(), folders, doors, console)),
+        Err(WordsFault::NotText) => exit_of(run(alloc, &[], folders, doors, console)),
+        Err(WordsFault::OutOfMemory) => Exit {
+            code: ExitCode::from(Status::Memory.code()),
+            folders,
+            doors,
+        },
+    }
+}
