@@ -8,6 +8,7 @@ mod forms;
 mod table;
 #[cfg(test)]
 mod tests;
+mod texts;
 mod values;
 
 pub use features::{fits_geometry, geometry, is_collection, is_feature, items, property};

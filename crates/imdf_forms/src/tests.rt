@@ -10,7 +10,7 @@ use std::test::Fail;
 
 #[test]
 fn forms_say_what_fits(rt: HostRuntime) -> Result<(), Fail> {
-    let table: [(Form, &[u8], bool); 12] = [
+    let table: [(Form, &[u8], bool); 14] = [
         (Form::Id, b"\"00000000-0000-4000-8000-000000000001\"", true),
         (Form::Id, b"null", false),
         (Form::Ids, b"[]", false),
@@ -31,10 +31,17 @@ fn forms_say_what_fits(rt: HostRuntime) -> Result<(), Fail> {
         ),
         (Form::Name, b"{\"en\":1,\"en\":\"Bakery\"}", true),
         (Form::Name, b"{\"en\":\"Bakery\",\"en\":1}", false),
+        (
+            Form::Name,
+            b"{\"de\":null,\"en\":1,\"\":\"\",\"en\":2,\"de\":\"\",\"en\":\"Bakery\"}",
+            true,
+        ),
+        (Form::Name, b"{\"de\":\"\",\"en\":1,\"de\":\"\"}", false),
     ];
     for (form, bytes, wanted) in table {
         let tree = read(rt.alloc(), bytes).expect(&rt, "JSON");
-        assert_eq!(rt; fits(form, Some(&tree)), wanted);
+        let fit = fits(rt.alloc(), form, Some(&tree)).expect(&rt, "memory");
+        assert_eq!(rt; fit, wanted);
     }
     Ok(())
 }
@@ -63,6 +70,9 @@ fn a_feature_has_its_members(rt: HostRuntime) -> Result<(), Fail> {
     }
     assert_eq!(rt; file_of_type(b"kiosk"), Some(File::Kiosk));
     assert_eq!(rt; File::Kiosk.number(), 9);
+    assert_eq!(rt; File::from_number(9), Some(File::Kiosk));
+    assert_eq!(rt; File::from_number(17), None);
+    assert_eq!(rt; File::Kiosk.name(), "kiosk.geojson");
     assert_eq!(rt; File::Opening.geometry(), Geometry::Line);
     assert_eq!(rt; properties().len(), 31);
     assert_eq!(rt; Property::Name.number(), 16);
