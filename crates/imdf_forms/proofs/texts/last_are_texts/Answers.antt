@@ -35,13 +35,14 @@ loop-left-preserved c =
     let seen = subst (λ (n : ℕ). AreSeen names (members_view (drop n xs))) next c.loop-left.invariant.1 in
     let Text : Type 0 = has_name names c.bytes.result.now ≡ false → is_text (pair_view x).1 ≡ true in
     let text : Text = elim c.else-branch.branch [
-      else-branch-via-then-branch+else-not-is_text w ↦ λ first. sym w.is_text.ensures ∙ w.if-not-is_text.false
+      | else-branch-via-then-branch+else-not-is_text w ↦ λ first. sym w.is_text.ensures ∙ w.if-not-is_text.false
       | else-branch-via-else-branch w ↦ λ first. let had = had_it c.in_ok-is_new.field-0 (has_name names c.bytes.result.now) c.in_ok-is_new.ensures.new w.if-branch.false in cc
     ] in
-    let N : List ℕ → Type 0 = λ name. ((other : List ℕ) → has_name c.is_new.new.names other ≡ cond (bytes_eq name other) true (has_name names other)) in
-    (omega arith,
+    let N : List ℕ → Type 0 = λ name. ((other : List ℕ) → has_name c.is_new.new.names other ≡ cond (bytes_eq name other) true (has_name names other)) in (
+      omega arith,
       subst (AreSeen c.is_new.new.names) (sym (pair_at xs i x within c.index-pairs-left.is))
-      (seen_more names c.is_new.new.names (members_view (drop (suc i) xs)) (pair_view x).0 (pair_view x).1 seen (subst N c.bytes.ensures c.in_ok-is_new.ensures.names) (λ e. text (ap (has_name names) c.bytes.ensures ∙ e))))
+          (seen_more names c.is_new.new.names (members_view (drop (suc i) xs)) (pair_view x).0 (pair_view x).1 seen (subst N c.bytes.ensures c.in_ok-is_new.ensures.names) (λ e. text (ap (has_name names) c.bytes.ensures ∙ e))),
+    )
 
 pub returns : goal.returns
 returns c =
