@@ -1,5 +1,4 @@
 pub mod Texts
-pub mod FirstDot
 pub mod Tags
 pub mod Billionths
 pub mod Zips
