@@ -1,5 +1,5 @@
 -- Feature files and features (RFC 7946, sections 3.2 and 3.3).
-use Rattle.std.specs.Prelude.{List, [], Option, Bool, true, ◌||◌, ◌&&◌, unwrap_or, codes}
+use Rattle.std.specs.Prelude.{ℕ, List, [], Option, Bool, true, ◌||◌, ◌&&◌, unwrap_or, codes}
 use Rattle.exact_json.specs.Json.{Json, list_values, member}
 use Rattle.imdf_forms.specs.declared.files.Geometry.{Geometry}
 use Rattle.imdf_forms.specs.declared.files.Geometry.TheVariants as kind
@@ -30,6 +30,10 @@ geometry item = member item (codes "geometry")
 -- a property of a feature
 abbrev pub property : Json → Property → Json
 property item p = member (member item (codes "properties")) (property_name p)
+
+-- a property of a feature that the table of properties lacks, by its name
+abbrev pub unlisted_property : Json → List ℕ → Json
+unlisted_property item name = member (member item (codes "properties")) name
 
 -- whether the value is null, or an object of one of the types, as the file asks for its geometry
 abbrev pub fits_geometry : Geometry → Json → Bool

@@ -1,4 +1,5 @@
 -- What a JSON value is, and what it has. A member that is absent is null.
+pub use Rattle.geo_shapes.specs.Values.{listed}
 use Rattle.std.specs.Prelude.{ℕ, List, [], Option, Some, None, Bool, true, false, is_some, option_map, option_and_then, unwrap_or}
 use Rattle.std.specs.Borrow.{Bor}
 use Rattle.std.specs.List.{list_all}
@@ -34,10 +35,6 @@ are_bytes (Some bytes) word = bytes_eq bytes word
 -- whether it is the text of this word
 abbrev pub is_word : Json → List ℕ → Bool
 is_word v word = are_bytes (text_bytes v) word
-
--- its items, none where it is no list
-abbrev pub listed : Json → List Json
-listed v = unwrap_or (list_values v) []
 
 -- its pairs of a name and a value, none where it is no object
 abbrev pub pairs_of : Json → List (List ℕ × Json)

@@ -45,6 +45,13 @@ pub fn property<'a, 'b>(item: &'a Tree<'b>, property: Property) -> Option<&'a Tr
     member(member(Some(item), b"properties"), property.name())
 }
 
+/// A property of a feature that the table of properties lacks, by its name.
+pub fn unlisted_property<'a, 'b>(item: &'a Tree<'b>, name: &[u8]) -> Option<&'a Tree<'b>>
+    ensures { seen result ≡ specs.unlisted_property (tree_view item.now) name.now }
+{
+    member(member(Some(item), b"properties"), name)
+}
+
 /// Whether it is null, or an object of one of the types that are asked for.
 pub fn fits_geometry(form: Geometry, value: Option<&Tree>) -> bool
     ensures { result ≡ specs.fits_geometry form (seen value.entry) }

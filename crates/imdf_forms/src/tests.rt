@@ -2,7 +2,8 @@
 
 use crate::{
     File, Form, Geometry, Property, file_of_type, fits, fits_geometry, geometry, id, is_collection,
-    is_feature, is_word, item_fits, items, list_of, properties, property, text, type_of,
+    is_feature, is_null, is_word, item_fits, items, list_of, properties, property, text, type_of,
+    unlisted_property,
 };
 use exact_json::{Tree, read};
 use std::process::Abort;
@@ -52,6 +53,8 @@ fn has_its_members(rt: &impl Abort, item: &Tree) {
     assert!(rt; fits_geometry(Geometry::Point, geometry(item)));
     assert!(rt; is_word(property(item, Property::Category), b"room"));
     assert!(rt; text(property(item, Property::Category)).is_some());
+    assert!(rt; is_null(unlisted_property(item, b"ordinal")));
+    assert!(rt; is_word(unlisted_property(item, b"category"), b"room"));
     assert!(rt; type_of(property(item, Property::Category)).is_none());
     assert!(rt; id(property(item, Property::LevelId)).is_none());
     for unit in list_of(Form::Ids, property(item, Property::UnitIds)).expect(rt, "a list") {

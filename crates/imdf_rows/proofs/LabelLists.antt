@@ -1,9 +1,8 @@
 -- The labels of a name: a list of tags and texts in order, in which each tag has the last text that was put in.
-use Rattle.std.proofs.Common.{◌≡◌, ◌∙◌, ◌<◌, ℕ, Bool, true, false, cond, List, [], ◌∷◌, map, length, get_or, Option, Some, None, Ordering, Less, Equal, Greater, refl, sym, ap, ap₂, subst}
-use Rattle.std.specs.Prelude.{◌↔◌, Contains, slice_get, option_map, option_and_then, unwrap_or}
+use Rattle.std.proofs.Common.{◌≡◌, ◌∙◌, ℕ, Bool, true, false, cond, List, [], ◌∷◌, map, Option, Some, None, Ordering, Less, Equal, Greater, refl, sym, ap, subst}
+use Rattle.std.specs.Prelude.{Contains, slice_get, option_map}
 use Rattle.std.specs.List.{AllByRecursion}
 use Rattle.std.specs.List.Sorted.{IsStrictlySortedBy}
-use Rattle.std.specs.Cmp.{IsTotalOrder}
 use Rattle.std.specs.Cmp.Lexicographic.{slice_cmp}
 use Rattle.std.specs.Map.{keys_of, lookup}
 use Rattle.std.specs.BTreeMap.{insert_entry, is_at}
@@ -20,7 +19,7 @@ use Rattle.exact_json.specs.Json as json
 use Rattle.venue_types.specs.declared.features.Label.{Label}
 use Rattle.imdf_forms.specs.Values.{pairs_of}
 use Rattle.imdf_rows.specs.Fields.{text_field, with_text, with_texts, label, labels_field}
-use Rattle.imdf_rows.specs.Laws.{TagsAscend, IsLabelOf, AreLabelsOf, last_value}
+use Rattle.imdf_rows.specs.Laws.{IsLabelOf, AreLabelsOf, last_value}
 
 abbrev Entries : Type 0
 Entries = List (List ℕ × List ℕ)

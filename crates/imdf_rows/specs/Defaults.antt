@@ -1,5 +1,5 @@
 -- What a row has where a geometry was read into no figure of its kind.
-use Rattle.std.specs.Prelude.{List, [], pos}
+use Rattle.std.specs.Prelude.{[], pos}
 use Rattle.venue_types.specs.declared.point.Point.{Point}
 use Rattle.venue_types.specs.declared.point.Line.{Line}
 use Rattle.venue_types.specs.declared.point.Shape.{Shape}
