@@ -53,7 +53,7 @@ fn judge_feature(
     ensures judged { IfOk result (IsJudged place.file (tree_view item.now)) }
 {
     judge_plain(findings, place, item)?;
-    judge_properties(findings, place, item)?;
+    judge_properties(alloc, findings, place, item)?;
     let judged = judged_geometry(alloc, place.file, item)?;
     judge_figure(findings, place, item, &judged)?;
     Ok(judged)

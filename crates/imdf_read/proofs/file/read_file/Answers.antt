@@ -7,7 +7,7 @@ use Rattle.exact_json.specs.declared.fault.JsonFault.{JsonFault}
 use Rattle.report_laws.proofs.Adding.{on_ok}
 use Rattle.imdf_read.proofs.Narrow.{wider}
 use Rattle.imdf_read.proofs.Slots.{value_known, text_fault, deep_fault}
-use Rattle.imdf_read.proofs.file.take_file.Goals as goal
+use Rattle.imdf_read.proofs.file.read_file.Goals as goal
 
 if_ok : {T E : Type 0} (r : Result T E) (P Q : T → Type 0) → IfOk r P → ((x : T) → P x → Q x) → IfOk r Q
 if_ok (Ok x) P Q h f = f x h

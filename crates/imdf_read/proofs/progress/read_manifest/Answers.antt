@@ -4,7 +4,7 @@ use Rattle.imdf_forms.specs.declared.files.File.TheVariants as file
 use Rattle.report_laws.specs.Passes.{Adds}
 use Rattle.imdf_read.specs.Gathering.{FindsInSlot}
 use Rattle.imdf_read.proofs.Folders.{started}
-use Rattle.imdf_read.proofs.progress.start.Goals as goal
+use Rattle.imdf_read.proofs.progress.read_manifest.Goals as goal
 
 pub returns : goal.returns
 returns c =

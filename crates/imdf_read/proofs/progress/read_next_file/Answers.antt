@@ -1,5 +1,5 @@
 use Rattle.imdf_read.proofs.Folders.{step}
-use Rattle.imdf_read.proofs.progress.next.Goals as goal
+use Rattle.imdf_read.proofs.progress.read_next_file.Goals as goal
 
 pub returns-clause-progress : goal.returns-clause-progress
 returns-clause-progress g c = λ n number before.

@@ -1,5 +1,5 @@
 use Rattle.sound_reading.proofs.Folders.{sound}
-use Rattle.sound_reading.proofs.law.sound_reading.Goals as goal
+use Rattle.sound_reading.proofs.law.sound_reading_law.Goals as goal
 
 -- src/law.rt:13:1
 pub returns : goal.returns

@@ -1,5 +1,5 @@
 use Rattle.sound_reading.proofs.OneReading.{one_reading}
-use Rattle.sound_reading.proofs.law.one_reading.Goals as goal
+use Rattle.sound_reading.proofs.law.one_reading_law.Goals as goal
 
 pub returns : goal.returns
 returns c files one other seventeen none a b =
