@@ -147,7 +147,7 @@ fn take_fault<R: FeatureRow>(
     Ok(Taken::nothing(alloc))
 }
 
-/// Reads a feature file.
+// Reads a feature file.
 pub(crate) fn read_file<R: FeatureRow>(
     alloc: Global,
     gathered: &mut Gathered,
