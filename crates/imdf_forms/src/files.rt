@@ -1,6 +1,6 @@
 //! The files of a folder.
 
-ghost use Rattle.std.specs.Prelude.{◌≡◌, ◌≢◌, IfSome, IfNone};
+ghost use Rattle.std.specs.Prelude.{◌≡◌, ◌≢◌, ◌<◌, IfSome, IfNone};
 ghost use Rattle.imdf_forms.specs.declared.files.File.{File as AFile};
 ghost use Rattle.imdf_forms.specs.Files.{file_number, file_name, type_name, geometry_of, file_among, file_of_type, feature_files};
 
@@ -183,6 +183,12 @@ impl File {
         }
     }
 }
+
+/// A file is known by its number, and there are seventeen.
+pub fn file_numbers_law()
+    ensures one { (one other : AFile) → file_number one ≡ file_number other → one ≡ other }
+    ensures few { (file : AFile) → file_number file < 17 }
+{}
 
 // The first of the files whose type has this name.
 fn find(files: &[File], name: &[u8]) -> Option<File>

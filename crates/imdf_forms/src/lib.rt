@@ -14,7 +14,7 @@ mod values;
 pub use features::{
     fits_geometry, geometry, is_collection, is_feature, items, property, unlisted_property,
 };
-pub use files::{FEATURE_FILES, File, Geometry, file_of_type};
+pub use files::{FEATURE_FILES, File, Geometry, file_numbers_law, file_of_type};
 pub use forms::{Form, fits, is_reference, item_fits, list_of, type_of};
 pub use table::{Property, PropertyRow, ReferenceTarget, properties};
 pub use values::{

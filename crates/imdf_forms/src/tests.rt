@@ -1,7 +1,7 @@
 //! Values beside what the forms say of them, and each reader once.
 
 use crate::{
-    File, Form, Geometry, Property, file_of_type, fits, fits_geometry, geometry, id, is_collection,
+    File, Form, Geometry, Property, file_numbers_law, file_of_type, fits, fits_geometry, geometry, id, is_collection,
     is_feature, is_null, is_word, item_fits, items, list_of, properties, property, text, type_of,
     unlisted_property,
 };
@@ -72,6 +72,7 @@ fn a_feature_has_its_members(rt: HostRuntime) -> Result<(), Fail> {
         has_its_members(&rt, item);
     }
     assert_eq!(rt; file_of_type(b"kiosk"), Some(File::Kiosk));
+    file_numbers_law();
     assert_eq!(rt; File::Kiosk.number(), 9);
     assert_eq!(rt; File::from_number(9), Some(File::Kiosk));
     assert_eq!(rt; File::from_number(17), None);

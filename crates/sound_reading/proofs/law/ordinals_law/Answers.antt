@@ -1,6 +1,6 @@
 use Rattle.std.proofs.Common.{◌≡◌, ◌≤ℤ◌, pos, neg_ℤ, refl, arith}
 use Rattle.std.specs.Prelude.{ℤ, ◌<ℤ◌, ◌*ℤ◌}
-use Rattle.std.proofs.lemmas.Int.{ints}
+use Rattle.std.proofs.lemmas.Int.{ints, by_lt_z}
 use Rattle.exact_json.specs.Json.{Json}
 use Rattle.geo_decimal.specs.Value.{IsWithin}
 use Rattle.venue_types.specs.declared.features.LevelRow.{LevelRow}
@@ -24,7 +24,7 @@ in_range v row keeps is =
     let feature = is_feature_of file.Level v keeps in
     let low : ¬ (row.ordinal <ℤ neg_ℤ (pos 180)) = λ h. keeps L1 0 (refl, feature, (λ n whole. not_below row.ordinal n (is.ordinal n whole) whole.whole.within h), refl) in
     let high : ¬ (pos 180 <ℤ row.ordinal) = λ h. keeps L1 0 (refl, feature, (λ n whole. not_above row.ordinal n (is.ordinal n whole) whole.whole.within h), refl) in
-    (omega (arith, ints, low), omega (arith, ints, high))
+    (by_lt_z row.ordinal (neg_ℤ (pos 180)) (λ h. absurd (low h)) (λ h. h), by_lt_z (pos 180) row.ordinal (λ h. absurd (high h)) (λ h. h))
 
 pub returns : goal.returns
 returns c = λ files features none rows. all_kept IsLevelRow IsInRange files file.Level features.levels (λ v row kept. in_range v row kept.0 kept.1) none (λ e. cc) rows.levels
