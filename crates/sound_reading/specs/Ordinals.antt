@@ -1,5 +1,5 @@
 -- The ordinals of levels.
-use Rattle.std.specs.Prelude.{ℤ, pos, neg_ℤ, ◌≤ℤ◌}
+use Rattle.std.specs.Prelude.{pos, neg_ℤ, ◌≤ℤ◌}
 use Rattle.venue_types.specs.declared.features.LevelRow.{LevelRow}
 
 -- the ordinal lies from -180 to 180

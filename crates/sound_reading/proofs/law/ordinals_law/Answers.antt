@@ -1,4 +1,4 @@
-use Rattle.std.proofs.Common.{◌≡◌, ◌≤ℤ◌, pos, neg_ℤ, refl, arith}
+use Rattle.std.proofs.Common.{◌≡◌, pos, neg_ℤ, refl, arith}
 use Rattle.std.specs.Prelude.{ℤ, ◌<ℤ◌, ◌*ℤ◌}
 use Rattle.std.proofs.lemmas.Int.{ints, by_lt_z}
 use Rattle.exact_json.specs.Json.{Json}
