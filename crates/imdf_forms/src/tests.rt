@@ -1,9 +1,9 @@
 //! Values beside what the forms say of them, and each reader once.
 
 use crate::{
-    File, Form, Geometry, Property, file_numbers_law, file_of_type, fits, fits_geometry, geometry, id, is_collection,
-    is_feature, is_null, is_word, item_fits, items, list_of, properties, property, text, type_of,
-    unlisted_property,
+    File, Form, Geometry, Property, file_numbers_law, file_of_type, fits, fits_geometry, geometry,
+    id, is_collection, is_feature, is_null, is_word, item_fits, items, list_of, properties,
+    property, text, type_of, unlisted_property,
 };
 use exact_json::{Tree, read};
 use std::process::Abort;
