@@ -40,12 +40,12 @@ meaning_among [] word = Unknown
 meaning_among (row ∷ rows) word = if bytes_eq row.0 word then row.1 else meaning_among rows word
 
 -- the bytes before the first dot
-abbrev pub first_part : List ℕ → List ℕ
-first_part category = before_first (λ byte. byte == 46) category
+abbrev pub before_dot : List ℕ → List ℕ
+before_dot bytes = before_first (λ byte. byte == 46) bytes
 
 -- what a category stands for
 unfoldable pub meaning_of : List ℕ → Meaning
-meaning_of category = meaning_among words (first_part category)
+meaning_of category = meaning_among words (before_dot category)
 
 -- whether nobody walks through
 abbrev pub is_solid : Meaning → Bool

@@ -8,4 +8,5 @@ mod profile;
 mod tests;
 
 pub use category::{known_unit, passage, unit_kind, walkable};
+pub use meaning::before_dot;
 pub use profile::{allows, built_in};

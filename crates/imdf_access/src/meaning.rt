@@ -2,7 +2,7 @@
 
 ghost use Rattle.std.specs.Prelude.{◌≡◌, ◌==◌, ◌<◌, map, length, IfSome};
 ghost use Rattle.std.specs.List.{position_from};
-ghost use Rattle.imdf_access.specs.Categories.{first_part, meaning_of, meaning_among};
+ghost use Rattle.imdf_access.specs.Categories.{before_dot, meaning_of, meaning_among};
 ghost use Rattle.imdf_access.specs.Table.{word_of};
 
 /// What the first part of a category stands for.
@@ -51,20 +51,20 @@ static WORDS: [(&[u8], Meaning); 22] = [
 ];
 
 // The place of the first dot.
-fn first_dot(category: &[u8]) -> Option<usize>
-    ensures place { result ≡ position_from (λ byte. byte == 46) 0 category.now }
-    ensures within { IfSome result (λ dot. dot < length category.now) }
+fn first_dot(bytes: &[u8]) -> Option<usize>
+    ensures place { result ≡ position_from (λ byte. byte == 46) 0 bytes.now }
+    ensures within { IfSome result (λ dot. dot < length bytes.now) }
 {
-    category.iter().position(|byte| *byte == b'.')
+    bytes.iter().position(|byte| *byte == b'.')
 }
 
-// The bytes before the first dot.
-fn before_dot(category: &[u8]) -> &[u8]
-    ensures { result.now ≡ first_part category.now }
+/// The bytes before the first dot, and all where there is none: the word that decides what a category or a door is.
+pub fn before_dot(bytes: &[u8]) -> &[u8]
+    ensures { result.now ≡ before_dot bytes.now }
 {
-    match first_dot(category) {
-        Some(dot) => &category[..dot],
-        None => category,
+    match first_dot(bytes) {
+        Some(dot) => &bytes[..dot],
+        None => bytes,
     }
 }
 

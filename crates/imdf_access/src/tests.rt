@@ -1,6 +1,6 @@
 //! Each word, each flag and each fact, against the tables of the profile.
 
-use crate::{allows, built_in, known_unit, passage, unit_kind, walkable};
+use crate::{allows, before_dot, built_in, known_unit, passage, unit_kind, walkable};
 use std::alloc::Global;
 use std::process::Abort;
 use std::test::Fail;
@@ -182,6 +182,7 @@ fn the_tables_hold(rt: HostRuntime) -> Result<(), Fail> {
         judge_word(&rt, row.0.as_bytes(), row);
         let dotted = format!(in rt.alloc(); "{}.{}", row.0, "ramp.x")?;
         judge_word(&rt, dotted.as_bytes(), row);
+        assert!(rt; before_dot(dotted.as_bytes()) == row.0.as_bytes());
     }
     let profiles = built_in(rt.alloc())?;
     let profiles = profiles.as_slice();

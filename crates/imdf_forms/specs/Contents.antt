@@ -1,6 +1,5 @@
 -- What a file of a folder holds.
-use Rattle.std.specs.Prelude.{◌≡◌, ℕ, ◌<◌, ◌≤◌, ◌^◌, List, [], Option, Some, None, length, slice_get}
-use Rattle.std.specs.List.{AllZip}
+use Rattle.std.specs.Prelude.{◌≡◌, ◌<◌, ◌≤◌, ◌^◌, List, [], Option, Some, None, length, slice_get}
 use Rattle.exact_json.specs.Json.{Json, depth}
 use Rattle.exact_json.specs.Grammar.{IsJson}
 use Rattle.venue_types.specs.declared.files.Files.{Files}

@@ -1,5 +1,5 @@
 -- The files of a folder: their numbers, their feature types, and the geometry of their features (IMDF 1.0.0, section "Archive").
-use Rattle.std.specs.Prelude.{ℕ, List, [], ◌∷◌, ◌++◌, Option, Some, None, Bool, false, if◌then◌else◌, codes}
+use Rattle.std.specs.Prelude.{ℕ, List, [], ◌∷◌, ◌++◌, Option, Some, None, if◌then◌else◌, codes}
 use Rattle.std.specs.Str.{bytes_eq}
 use Rattle.imdf_forms.specs.declared.files.File.{File}
 use Rattle.imdf_forms.specs.declared.files.File.TheVariants as file
@@ -45,6 +45,11 @@ type_name file.Relationship = codes "relationship"
 type_name file.Section = codes "section"
 type_name file.Unit = codes "unit"
 type_name file.Venue = codes "venue"
+
+-- its name: `manifest.json`, or the type of its features with the extension `.geojson` (IMDF 1.0.0, section "Archive")
+abbrev pub file_name : File → List ℕ
+file_name file.Manifest = codes "manifest.json"
+file_name f = type_name f ++ codes ".geojson"
 
 -- the files of features, in the order of their numbers
 abbrev pub feature_files : List File

@@ -1,7 +1,7 @@
 -- The forms of properties.
-use Rattle.std.specs.Prelude.{ℕ, List, [], ◌∷◌, Option, Some, None, Bool, true, false, is_some, not, ◌||◌, ◌&&◌, option_and_then, IsTrue, ◌⊎◌, codes}
+use Rattle.std.specs.Prelude.{List, [], ◌∷◌, Option, None, Bool, true, false, is_some, not, ◌||◌, ◌&&◌, option_and_then, unwrap_or, IsTrue, ◌⊎◌, codes}
 use Rattle.venue_types.specs.declared.point.Point.{Point}
-use Rattle.exact_json.specs.Json.{Json, text_bytes, member}
+use Rattle.exact_json.specs.Json.{Json, text_bytes, list_values, member}
 use Rattle.geo_shapes.specs.Geometry.{HasPoint}
 use Rattle.imdf_forms.specs.declared.files.File.{File}
 use Rattle.imdf_forms.specs.declared.forms.Form.{Form}
@@ -48,13 +48,17 @@ Fits form.Door v = IsTrue (is_null v || is_door v)
 Fits form.DisplayPoint v = IsTrue (is_null v) ⊎ IsPlace v
 Fits form.Name v = IsTrue (is_null v || is_name v)
 
--- the items of a value whose form is a list
+-- the list that a value is, if its form is a list
+abbrev pub list_of : Form → Json → Option (List Json)
+list_of form.Ids v = list_values v
+list_of form.IdsOrNull v = list_values v
+list_of form.References v = list_values v
+list_of form.TextsOrNull v = list_values v
+list_of _ v = None
+
+-- the items of a value whose form is a list, none where it is no list
 abbrev pub items_of : Form → Json → List Json
-items_of form.Ids v = listed v
-items_of form.IdsOrNull v = listed v
-items_of form.References v = listed v
-items_of form.TextsOrNull v = listed v
-items_of _ v = []
+items_of f v = unwrap_or (list_of f v) []
 
 -- whether an item of the list is of the form
 abbrev pub item_fits : Form → Json → Bool

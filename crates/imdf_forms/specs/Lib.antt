@@ -4,3 +4,4 @@ pub mod Properties
 pub mod Forms
 pub mod Items
 pub mod Contents
+pub mod Names

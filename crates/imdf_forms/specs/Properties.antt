@@ -6,8 +6,8 @@ use Rattle.imdf_forms.specs.declared.forms.Form.{Form}
 use Rattle.imdf_forms.specs.declared.forms.Form.TheVariants as form
 use Rattle.imdf_forms.specs.declared.table.Property.{Property}
 use Rattle.imdf_forms.specs.declared.table.Property.TheVariants as property
-use Rattle.imdf_forms.specs.declared.table.Named.{Named}
-use Rattle.imdf_forms.specs.declared.table.Named.TheVariants as named
+use Rattle.imdf_forms.specs.declared.table.ReferenceTarget.{ReferenceTarget}
+use Rattle.imdf_forms.specs.declared.table.ReferenceTarget.TheVariants as target
 use Rattle.imdf_forms.specs.declared.table.PropertyRow.{PropertyRow}
 
 -- the number of a property
@@ -49,41 +49,41 @@ property_name property.DisplayPoint = codes "display_point"
 property_name property.Name = codes "name"
 
 -- a property, the file whose features have it, its form, and what it names
-abbrev row : Property → File → Form → Named → PropertyRow
+abbrev row : Property → File → Form → ReferenceTarget → PropertyRow
 row property file form names = record { property = property; file = file; form = form; names = names }
 
 -- all properties of all files
 abbrev pub properties : List PropertyRow
 properties =
-    row property.AddressId file.Venue form.IdOrNull named.Address
-    ∷ row property.AddressId file.Building form.IdOrNull named.Address
-    ∷ row property.AddressId file.Level form.IdOrNull named.Address
-    ∷ row property.AddressId file.Anchor form.IdOrNull named.Address
-    ∷ row property.AddressId file.Amenity form.IdOrNull named.Address
-    ∷ row property.BuildingIds file.Level form.IdsOrNull named.Building
-    ∷ row property.BuildingIds file.Footprint form.IdsOrNull named.Building
-    ∷ row property.LevelId file.Unit form.Id named.Level
-    ∷ row property.LevelId file.Opening form.Id named.Level
-    ∷ row property.LevelId file.Fixture form.IdOrNull named.Level
-    ∷ row property.LevelId file.Kiosk form.IdOrNull named.Level
-    ∷ row property.LevelId file.Detail form.IdOrNull named.Level
-    ∷ row property.UnitId file.Anchor form.Id named.Unit
-    ∷ row property.UnitIds file.Amenity form.Ids named.Unit
-    ∷ row property.AnchorId file.Occupant form.Id named.Anchor
-    ∷ row property.AnchorId file.Fixture form.IdOrNull named.Anchor
-    ∷ row property.AnchorId file.Kiosk form.IdOrNull named.Anchor
-    ∷ row property.Origin file.Relationship form.Reference named.ByReference
-    ∷ row property.Intermediary file.Relationship form.References named.ByReference
-    ∷ row property.Destination file.Relationship form.Reference named.ByReference
-    ∷ row property.Category file.Unit form.Text named.Nothing
-    ∷ row property.Category file.Amenity form.Text named.Nothing
-    ∷ row property.Category file.Relationship form.Text named.Nothing
-    ∷ row property.Restriction file.Unit form.TextOrNull named.Nothing
-    ∷ row property.Accessibility file.Opening form.TextsOrNull named.Nothing
-    ∷ row property.AccessControl file.Opening form.TextsOrNull named.Nothing
-    ∷ row property.Door file.Opening form.Door named.Nothing
-    ∷ row property.DisplayPoint file.Unit form.DisplayPoint named.Nothing
-    ∷ row property.Name file.Unit form.Name named.Nothing
-    ∷ row property.Name file.Amenity form.Name named.Nothing
-    ∷ row property.Name file.Occupant form.Name named.Nothing
+    row property.AddressId file.Venue form.IdOrNull target.Address
+    ∷ row property.AddressId file.Building form.IdOrNull target.Address
+    ∷ row property.AddressId file.Level form.IdOrNull target.Address
+    ∷ row property.AddressId file.Anchor form.IdOrNull target.Address
+    ∷ row property.AddressId file.Amenity form.IdOrNull target.Address
+    ∷ row property.BuildingIds file.Level form.IdsOrNull target.Building
+    ∷ row property.BuildingIds file.Footprint form.IdsOrNull target.Building
+    ∷ row property.LevelId file.Unit form.Id target.Level
+    ∷ row property.LevelId file.Opening form.Id target.Level
+    ∷ row property.LevelId file.Fixture form.IdOrNull target.Level
+    ∷ row property.LevelId file.Kiosk form.IdOrNull target.Level
+    ∷ row property.LevelId file.Detail form.IdOrNull target.Level
+    ∷ row property.UnitId file.Anchor form.Id target.Unit
+    ∷ row property.UnitIds file.Amenity form.Ids target.Unit
+    ∷ row property.AnchorId file.Occupant form.Id target.Anchor
+    ∷ row property.AnchorId file.Fixture form.IdOrNull target.Anchor
+    ∷ row property.AnchorId file.Kiosk form.IdOrNull target.Anchor
+    ∷ row property.Origin file.Relationship form.Reference target.ByReference
+    ∷ row property.Intermediary file.Relationship form.References target.ByReference
+    ∷ row property.Destination file.Relationship form.Reference target.ByReference
+    ∷ row property.Category file.Unit form.Text target.Nothing
+    ∷ row property.Category file.Amenity form.Text target.Nothing
+    ∷ row property.Category file.Relationship form.Text target.Nothing
+    ∷ row property.Restriction file.Unit form.TextOrNull target.Nothing
+    ∷ row property.Accessibility file.Opening form.TextsOrNull target.Nothing
+    ∷ row property.AccessControl file.Opening form.TextsOrNull target.Nothing
+    ∷ row property.Door file.Opening form.Door target.Nothing
+    ∷ row property.DisplayPoint file.Unit form.DisplayPoint target.Nothing
+    ∷ row property.Name file.Unit form.Name target.Nothing
+    ∷ row property.Name file.Amenity form.Name target.Nothing
+    ∷ row property.Name file.Occupant form.Name target.Nothing
     ∷ []

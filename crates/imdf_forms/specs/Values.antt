@@ -1,11 +1,12 @@
 -- What a JSON value is, and what it has. A member that is absent is null.
-use Rattle.std.specs.Prelude.{ℕ, List, [], ◌∷◌, Option, Some, None, Bool, true, false, is_some, option_map, option_and_then, unwrap_or}
+pub use Rattle.geo_shapes.specs.Values.{listed}
+use Rattle.std.specs.Prelude.{ℕ, List, [], Option, Some, None, Bool, true, false, is_some, option_map, option_and_then, unwrap_or}
 use Rattle.std.specs.Borrow.{Bor}
 use Rattle.std.specs.List.{list_all}
 use Rattle.std.specs.Str.{bytes_eq}
 use Rattle.venue_types.specs.declared.feature_id.FeatureId.{FeatureId}
 use Rattle.venue_types.specs.Identifier.{identifier_read}
-use Rattle.exact_json.specs.Json.{Json, null, boolean, number, text, items, object, text_bytes, list_values, object_members, members_list, member}
+use Rattle.exact_json.specs.Json.{Json, null, text_bytes, list_values, object_members, members_list, member}
 use Rattle.exact_json.specs.View.{tree_view}
 use Rattle.exact_json.specs.declared.tree.Tree.{Tree}
 
@@ -34,10 +35,6 @@ are_bytes (Some bytes) word = bytes_eq bytes word
 -- whether it is the text of this word
 abbrev pub is_word : Json → List ℕ → Bool
 is_word v word = are_bytes (text_bytes v) word
-
--- its items, none where it is no list
-abbrev pub listed : Json → List Json
-listed v = unwrap_or (list_values v) []
 
 -- its pairs of a name and a value, none where it is no object
 abbrev pub pairs_of : Json → List (List ℕ × Json)

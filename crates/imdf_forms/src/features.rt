@@ -1,6 +1,6 @@
 //! Feature files and features (RFC 7946, sections 3.2 and 3.3).
 
-ghost use Rattle.std.specs.Prelude.{◌≡◌, map, option_map, unwrap_or, []};
+ghost use Rattle.std.specs.Prelude.{◌≡◌, map, option_map};
 ghost use Rattle.exact_json.specs.View.{tree_view};
 ghost use Rattle.imdf_forms.specs.Values.{seen};
 ghost use Rattle.imdf_forms.specs.Items as specs;
@@ -17,9 +17,9 @@ pub fn is_collection(value: Option<&Tree>) -> bool
     is_word(member(value, b"type"), b"FeatureCollection") && is_list(member(value, b"features"))
 }
 
-/// The items of a feature file, its list of features, whatever its type.
+/// The items of a feature file, its list of features, whatever its type. `None` where it has no such list.
 pub fn items<'a, 'b>(value: Option<&'a Tree<'b>>) -> Option<&'a [Tree<'b>]>
-    ensures { unwrap_or (option_map (λ s. map tree_view s.now) result) [] ≡ specs.items_in (seen value.entry) }
+    ensures { option_map (λ s. map tree_view s.now) result ≡ specs.feature_list (seen value.entry) }
 {
     list(member(value, b"features"))
 }
@@ -43,6 +43,13 @@ pub fn property<'a, 'b>(item: &'a Tree<'b>, property: Property) -> Option<&'a Tr
     ensures { seen result ≡ specs.property (tree_view item.now) property }
 {
     member(member(Some(item), b"properties"), property.name())
+}
+
+/// A property of a feature that the table of properties lacks, by its name.
+pub fn unlisted_property<'a, 'b>(item: &'a Tree<'b>, name: &[u8]) -> Option<&'a Tree<'b>>
+    ensures { seen result ≡ specs.unlisted_property (tree_view item.now) name.now }
+{
+    member(member(Some(item), b"properties"), name)
 }
 
 /// Whether it is null, or an object of one of the types that are asked for.

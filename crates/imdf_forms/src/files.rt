@@ -1,7 +1,8 @@
 //! The files of a folder.
 
-ghost use Rattle.std.specs.Prelude.{◌≡◌};
-ghost use Rattle.imdf_forms.specs.Files.{file_number, type_name, geometry_of, file_among, file_of_type, feature_files};
+ghost use Rattle.std.specs.Prelude.{◌≡◌, ◌≢◌, ◌<◌, IfSome, IfNone};
+ghost use Rattle.imdf_forms.specs.declared.files.File.{File as AFile};
+ghost use Rattle.imdf_forms.specs.Files.{file_number, file_name, type_name, geometry_of, file_among, file_of_type, feature_files};
 
 /// A file of a folder. All but the first are named for the type of their features, `address.geojson` and so on.
 #[derive(Clone, Copy, Debug, PartialEq, Eq)]
@@ -85,6 +86,58 @@ impl File {
         }
     }
 
+    /// The file of this number, if there is one.
+    pub fn from_number(number: u8) -> Option<File>
+        ensures some { IfSome result (λ file. file_number file ≡ number) }
+        ensures none { IfNone result ((file : AFile) → file_number file ≢ number) }
+    {
+        match number {
+            0 => Some(File::Manifest),
+            1 => Some(File::Address),
+            2 => Some(File::Amenity),
+            3 => Some(File::Anchor),
+            4 => Some(File::Building),
+            5 => Some(File::Detail),
+            6 => Some(File::Fixture),
+            7 => Some(File::Footprint),
+            8 => Some(File::Geofence),
+            9 => Some(File::Kiosk),
+            10 => Some(File::Level),
+            11 => Some(File::Occupant),
+            12 => Some(File::Opening),
+            13 => Some(File::Relationship),
+            14 => Some(File::Section),
+            15 => Some(File::Unit),
+            16 => Some(File::Venue),
+            _ => None,
+        }
+    }
+
+    /// The file's name in its folder.
+    pub fn name(self) -> &'static str
+        ensures { result.now ≡ file_name self }
+    {
+        match self {
+            File::Manifest => "manifest.json",
+            File::Address => "address.geojson",
+            File::Amenity => "amenity.geojson",
+            File::Anchor => "anchor.geojson",
+            File::Building => "building.geojson",
+            File::Detail => "detail.geojson",
+            File::Fixture => "fixture.geojson",
+            File::Footprint => "footprint.geojson",
+            File::Geofence => "geofence.geojson",
+            File::Kiosk => "kiosk.geojson",
+            File::Level => "level.geojson",
+            File::Occupant => "occupant.geojson",
+            File::Opening => "opening.geojson",
+            File::Relationship => "relationship.geojson",
+            File::Section => "section.geojson",
+            File::Unit => "unit.geojson",
+            File::Venue => "venue.geojson",
+        }
+    }
+
     /// The file's name without its extension, which is the `feature_type` of its features.
     pub fn type_name(self) -> &'static [u8]
         ensures { result.now ≡ type_name self }
@@ -130,6 +183,12 @@ impl File {
         }
     }
 }
+
+/// A file is known by its number, and there are seventeen.
+pub fn file_numbers_law()
+    ensures one { (one other : AFile) → file_number one ≡ file_number other → one ≡ other }
+    ensures few { (file : AFile) → file_number file < 17 }
+{}
 
 // The first of the files whose type has this name.
 fn find(files: &[File], name: &[u8]) -> Option<File>

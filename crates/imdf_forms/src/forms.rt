@@ -1,17 +1,19 @@
 //! The forms of properties.
 
-ghost use Rattle.std.specs.Prelude.{◌≡◌, ◌↔◌, [], IsTrue, map, not, option_map, unwrap_or};
-ghost use Rattle.exact_json.specs.Json.{object as json_object};
-ghost use Rattle.exact_json.specs.View.{tree_view, object_view};
-ghost use Rattle.imdf_forms.specs.Values.{seen, listed, has_texts};
+ghost use Rattle.std.specs.Prelude.{◌≡◌, ◌↔◌, ◌||◌, IsTrue, IfOk, map, not, option_map};
+ghost use Rattle.exact_json.specs.View.{tree_view};
+ghost use Rattle.imdf_forms.specs.Values.{seen, listed, is_null as specs_null};
 ghost use Rattle.imdf_forms.specs.Forms as specs;
 
 use crate::files::{File, file_of_type};
+use crate::texts::all_texts;
 use crate::values::{
     is_id, is_list, is_null, is_object, is_text, is_word, list, member, object, text,
 };
-use exact_json::{Members, Tree};
+use exact_json::Tree;
 use geo_shapes::point;
+use std::alloc::Global;
+use venue_types::OutOfMemory;
 
 /// What a property must be.
 #[derive(Clone, Copy, Debug, PartialEq, Eq)]
@@ -64,9 +66,9 @@ fn is_door(value: Option<&Tree>) -> bool
     is_object(value) && (is_null(member(value, b"type")) || is_text(member(value, b"type")))
 }
 
-/// The items of a value whose form is a list.
+/// The items of a value whose form is a list, `None` where the form is none or the value is no list.
 pub fn list_of<'a, 'b>(form: Form, value: Option<&'a Tree<'b>>) -> Option<&'a [Tree<'b>]>
-    ensures { unwrap_or (option_map (λ s. map tree_view s.now) result) [] ≡ specs.items_of form (seen value.entry) }
+    ensures { option_map (λ s. map tree_view s.now) result ≡ specs.list_of form (seen value.entry) }
 {
     match form {
         Form::Ids | Form::IdsOrNull | Form::References | Form::TextsOrNull => list(value),
@@ -96,25 +98,13 @@ fn is_place(value: Option<&Tree>) -> bool
     }
 }
 
-// Whether what counts of each name is a text. A pair that is none is passed over where a later one of its name is a text.
-fn all_texts(members: &Members) -> bool
-    ensures { result ≡ has_texts (json_object (object_view members.now)) }
-{
-    for pair in &members.pairs {
-        if !is_text(Some(&pair.value)) && !is_text(members.get(pair.name.bytes())) {
-            return false;
-        }
-    }
-    true
-}
-
 // An object of texts.
-fn is_name(value: Option<&Tree>) -> bool
-    ensures { result ≡ specs.is_name (seen value.entry) }
+fn is_name(alloc: Global, value: Option<&Tree>) -> Result<bool, OutOfMemory>
+    ensures { IfOk result (λ name. name ≡ specs.is_name (seen value.entry)) }
 {
     match object(value) {
-        Some(members) => all_texts(members),
-        None => false,
+        Some(members) => all_texts(alloc, members),
+        None => Ok(false),
     }
 }
 
@@ -128,20 +118,35 @@ fn is_filled(value: Option<&Tree>) -> bool
     }
 }
 
+// An object of texts, or null.
+fn is_name_or_null(alloc: Global, value: Option<&Tree>) -> Result<bool, OutOfMemory>
+    ensures { IfOk result (λ fits. fits ≡ (specs_null (seen value.entry) || specs.is_name (seen value.entry))) }
+{
+    if is_null(value) {
+        return Ok(true);
+    }
+    is_name(alloc, value)
+}
+
 /// Whether the value is of the form, apart from the items of a list.
-pub fn fits(form: Form, value: Option<&Tree>) -> bool
-    ensures { IsTrue result ↔ specs.Fits form (seen value.entry) }
+///
+/// It takes a number of steps that grows with the value's members alone, n log n for n members of a name, and memory
+/// only where a member of a name is no text.
+pub fn fits(alloc: Global, form: Form, value: Option<&Tree>) -> Result<bool, OutOfMemory>
+    ensures { IfOk result (λ fits. IsTrue fits ↔ specs.Fits form (seen value.entry)) }
 {
     match form {
-        Form::Id => is_id(value),
-        Form::IdOrNull => is_null(value) || is_id(value),
-        Form::Ids => is_filled(value),
-        Form::IdsOrNull | Form::References | Form::TextsOrNull => is_null(value) || is_list(value),
-        Form::Reference => is_null(value) || is_reference(value),
-        Form::Text => is_text(value),
-        Form::TextOrNull => is_null(value) || is_text(value),
-        Form::Door => is_null(value) || is_door(value),
-        Form::DisplayPoint => is_null(value) || is_place(value),
-        Form::Name => is_null(value) || is_name(value),
+        Form::Id => Ok(is_id(value)),
+        Form::IdOrNull => Ok(is_null(value) || is_id(value)),
+        Form::Ids => Ok(is_filled(value)),
+        Form::IdsOrNull | Form::References | Form::TextsOrNull => {
+            Ok(is_null(value) || is_list(value))
+        }
+        Form::Reference => Ok(is_null(value) || is_reference(value)),
+        Form::Text => Ok(is_text(value)),
+        Form::TextOrNull => Ok(is_null(value) || is_text(value)),
+        Form::Door => Ok(is_null(value) || is_door(value)),
+        Form::DisplayPoint => Ok(is_null(value) || is_place(value)),
+        Form::Name => is_name_or_null(alloc, value),
     }
 }

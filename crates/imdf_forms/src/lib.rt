@@ -8,12 +8,15 @@ mod forms;
 mod table;
 #[cfg(test)]
 mod tests;
+mod texts;
 mod values;
 
-pub use features::{fits_geometry, geometry, is_collection, is_feature, items, property};
-pub use files::{FEATURE_FILES, File, Geometry, file_of_type};
+pub use features::{
+    fits_geometry, geometry, is_collection, is_feature, items, property, unlisted_property,
+};
+pub use files::{FEATURE_FILES, File, Geometry, file_numbers_law, file_of_type};
 pub use forms::{Form, fits, is_reference, item_fits, list_of, type_of};
-pub use table::{Named, Property, PropertyRow, properties};
+pub use table::{Property, PropertyRow, ReferenceTarget, properties};
 pub use values::{
     id, is_id, is_list, is_null, is_object, is_text, is_word, list, member, object, text,
 };

@@ -29,7 +29,7 @@ pub enum Property {
 
 /// The features that a property names.
 #[derive(Clone, Copy, Debug, PartialEq, Eq)]
-pub enum Named {
+pub enum ReferenceTarget {
     Nothing,
     Address,
     Anchor,
@@ -46,197 +46,54 @@ pub struct PropertyRow {
     pub property: Property,
     pub file: File,
     pub form: Form,
-    pub names: Named,
+    pub names: ReferenceTarget,
 }
 
-static PROPERTIES: [PropertyRow; 31] = [
-    PropertyRow {
-        property: Property::AddressId,
-        file: File::Venue,
-        form: Form::IdOrNull,
-        names: Named::Address,
-    },
-    PropertyRow {
-        property: Property::AddressId,
-        file: File::Building,
-        form: Form::IdOrNull,
-        names: Named::Address,
-    },
-    PropertyRow {
-        property: Property::AddressId,
-        file: File::Level,
-        form: Form::IdOrNull,
-        names: Named::Address,
-    },
-    PropertyRow {
-        property: Property::AddressId,
-        file: File::Anchor,
-        form: Form::IdOrNull,
-        names: Named::Address,
-    },
-    PropertyRow {
-        property: Property::AddressId,
-        file: File::Amenity,
-        form: Form::IdOrNull,
-        names: Named::Address,
-    },
-    PropertyRow {
-        property: Property::BuildingIds,
-        file: File::Level,
-        form: Form::IdsOrNull,
-        names: Named::Building,
-    },
-    PropertyRow {
-        property: Property::BuildingIds,
-        file: File::Footprint,
-        form: Form::IdsOrNull,
-        names: Named::Building,
-    },
-    PropertyRow {
-        property: Property::LevelId,
-        file: File::Unit,
-        form: Form::Id,
-        names: Named::Level,
-    },
-    PropertyRow {
-        property: Property::LevelId,
-        file: File::Opening,
-        form: Form::Id,
-        names: Named::Level,
-    },
-    PropertyRow {
-        property: Property::LevelId,
-        file: File::Fixture,
-        form: Form::IdOrNull,
-        names: Named::Level,
-    },
-    PropertyRow {
-        property: Property::LevelId,
-        file: File::Kiosk,
-        form: Form::IdOrNull,
-        names: Named::Level,
-    },
-    PropertyRow {
-        property: Property::LevelId,
-        file: File::Detail,
-        form: Form::IdOrNull,
-        names: Named::Level,
-    },
-    PropertyRow {
-        property: Property::UnitId,
-        file: File::Anchor,
-        form: Form::Id,
-        names: Named::Unit,
-    },
-    PropertyRow {
-        property: Property::UnitIds,
-        file: File::Amenity,
-        form: Form::Ids,
-        names: Named::Unit,
-    },
-    PropertyRow {
-        property: Property::AnchorId,
-        file: File::Occupant,
-        form: Form::Id,
-        names: Named::Anchor,
-    },
-    PropertyRow {
-        property: Property::AnchorId,
-        file: File::Fixture,
-        form: Form::IdOrNull,
-        names: Named::Anchor,
-    },
-    PropertyRow {
-        property: Property::AnchorId,
-        file: File::Kiosk,
-        form: Form::IdOrNull,
-        names: Named::Anchor,
-    },
-    PropertyRow {
-        property: Property::Origin,
-        file: File::Relationship,
-        form: Form::Reference,
-        names: Named::ByReference,
-    },
-    PropertyRow {
-        property: Property::Intermediary,
-        file: File::Relationship,
-        form: Form::References,
-        names: Named::ByReference,
-    },
-    PropertyRow {
-        property: Property::Destination,
-        file: File::Relationship,
-        form: Form::Reference,
-        names: Named::ByReference,
-    },
-    PropertyRow {
-        property: Property::Category,
-        file: File::Unit,
-        form: Form::Text,
-        names: Named::Nothing,
-    },
-    PropertyRow {
-        property: Property::Category,
-        file: File::Amenity,
-        form: Form::Text,
-        names: Named::Nothing,
-    },
-    PropertyRow {
-        property: Property::Category,
-        file: File::Relationship,
-        form: Form::Text,
-        names: Named::Nothing,
-    },
-    PropertyRow {
-        property: Property::Restriction,
-        file: File::Unit,
-        form: Form::TextOrNull,
-        names: Named::Nothing,
-    },
-    PropertyRow {
-        property: Property::Accessibility,
-        file: File::Opening,
-        form: Form::TextsOrNull,
-        names: Named::Nothing,
-    },
-    PropertyRow {
-        property: Property::AccessControl,
-        file: File::Opening,
-        form: Form::TextsOrNull,
-        names: Named::Nothing,
-    },
-    PropertyRow {
-        property: Property::Door,
-        file: File::Opening,
-        form: Form::Door,
-        names: Named::Nothing,
-    },
-    PropertyRow {
-        property: Property::DisplayPoint,
-        file: File::Unit,
-        form: Form::DisplayPoint,
-        names: Named::Nothing,
-    },
-    PropertyRow {
-        property: Property::Name,
-        file: File::Unit,
-        form: Form::Name,
-        names: Named::Nothing,
-    },
-    PropertyRow {
-        property: Property::Name,
-        file: File::Amenity,
-        form: Form::Name,
-        names: Named::Nothing,
-    },
-    PropertyRow {
-        property: Property::Name,
-        file: File::Occupant,
-        form: Form::Name,
-        names: Named::Nothing,
-    },
-];
+// The rows of the table, each as a property, a file, a form and what it names.
+macro_rules! rows {
+    ($($property:ident $file:ident $form:ident $names:ident;)*) => {
+        [$(PropertyRow {
+            property: Property::$property,
+            file: File::$file,
+            form: Form::$form,
+            names: ReferenceTarget::$names,
+        }),*]
+    };
+}
+
+static PROPERTIES: [PropertyRow; 31] = rows! {
+    AddressId Venue IdOrNull Address;
+    AddressId Building IdOrNull Address;
+    AddressId Level IdOrNull Address;
+    AddressId Anchor IdOrNull Address;
+    AddressId Amenity IdOrNull Address;
+    BuildingIds Level IdsOrNull Building;
+    BuildingIds Footprint IdsOrNull Building;
+    LevelId Unit Id Level;
+    LevelId Opening Id Level;
+    LevelId Fixture IdOrNull Level;
+    LevelId Kiosk IdOrNull Level;
+    LevelId Detail IdOrNull Level;
+    UnitId Anchor Id Unit;
+    UnitIds Amenity Ids Unit;
+    AnchorId Occupant Id Anchor;
+    AnchorId Fixture IdOrNull Anchor;
+    AnchorId Kiosk IdOrNull Anchor;
+    Origin Relationship Reference ByReference;
+    Intermediary Relationship References ByReference;
+    Destination Relationship Reference ByReference;
+    Category Unit Text Nothing;
+    Category Amenity Text Nothing;
+    Category Relationship Text Nothing;
+    Restriction Unit TextOrNull Nothing;
+    Accessibility Opening TextsOrNull Nothing;
+    AccessControl Opening TextsOrNull Nothing;
+    Door Opening Door Nothing;
+    DisplayPoint Unit DisplayPoint Nothing;
+    Name Unit Name Nothing;
+    Name Amenity Name Nothing;
+    Name Occupant Name Nothing;
+};
 
 /// All properties of all files.
 pub fn properties() -> &'static [PropertyRow]

@@ -1,8 +1,9 @@
 //! Values beside what the forms say of them, and each reader once.
 
 use crate::{
-    File, Form, Geometry, Property, file_of_type, fits, fits_geometry, geometry, id, is_collection,
-    is_feature, is_word, item_fits, items, list_of, properties, property, text, type_of,
+    File, Form, Geometry, Property, file_numbers_law, file_of_type, fits, fits_geometry, geometry,
+    id, is_collection, is_feature, is_null, is_word, item_fits, items, list_of, properties,
+    property, text, type_of, unlisted_property,
 };
 use exact_json::{Tree, read};
 use std::process::Abort;
@@ -10,7 +11,7 @@ use std::test::Fail;
 
 #[test]
 fn forms_say_what_fits(rt: HostRuntime) -> Result<(), Fail> {
-    let table: [(Form, &[u8], bool); 12] = [
+    let table: [(Form, &[u8], bool); 14] = [
         (Form::Id, b"\"00000000-0000-4000-8000-000000000001\"", true),
         (Form::Id, b"null", false),
         (Form::Ids, b"[]", false),
@@ -31,10 +32,17 @@ fn forms_say_what_fits(rt: HostRuntime) -> Result<(), Fail> {
         ),
         (Form::Name, b"{\"en\":1,\"en\":\"Bakery\"}", true),
         (Form::Name, b"{\"en\":\"Bakery\",\"en\":1}", false),
+        (
+            Form::Name,
+            b"{\"de\":null,\"en\":1,\"\":\"\",\"en\":2,\"de\":\"\",\"en\":\"Bakery\"}",
+            true,
+        ),
+        (Form::Name, b"{\"de\":\"\",\"en\":1,\"de\":\"\"}", false),
     ];
     for (form, bytes, wanted) in table {
         let tree = read(rt.alloc(), bytes).expect(&rt, "JSON");
-        assert_eq!(rt; fits(form, Some(&tree)), wanted);
+        let fit = fits(rt.alloc(), form, Some(&tree)).expect(&rt, "memory");
+        assert_eq!(rt; fit, wanted);
     }
     Ok(())
 }
@@ -45,6 +53,8 @@ fn has_its_members(rt: &impl Abort, item: &Tree) {
     assert!(rt; fits_geometry(Geometry::Point, geometry(item)));
     assert!(rt; is_word(property(item, Property::Category), b"room"));
     assert!(rt; text(property(item, Property::Category)).is_some());
+    assert!(rt; is_null(unlisted_property(item, b"ordinal")));
+    assert!(rt; is_word(unlisted_property(item, b"category"), b"room"));
     assert!(rt; type_of(property(item, Property::Category)).is_none());
     assert!(rt; id(property(item, Property::LevelId)).is_none());
     for unit in list_of(Form::Ids, property(item, Property::UnitIds)).expect(rt, "a list") {
@@ -62,7 +72,11 @@ fn a_feature_has_its_members(rt: HostRuntime) -> Result<(), Fail> {
         has_its_members(&rt, item);
     }
     assert_eq!(rt; file_of_type(b"kiosk"), Some(File::Kiosk));
+    file_numbers_law();
     assert_eq!(rt; File::Kiosk.number(), 9);
+    assert_eq!(rt; File::from_number(9), Some(File::Kiosk));
+    assert_eq!(rt; File::from_number(17), None);
+    assert_eq!(rt; File::Kiosk.name(), "kiosk.geojson");
     assert_eq!(rt; File::Opening.geometry(), Geometry::Line);
     assert_eq!(rt; properties().len(), 31);
     assert_eq!(rt; Property::Name.number(), 16);

@@ -31,7 +31,11 @@ use Rattle.report_laws.specs.Passes.{Adds}
 use Rattle.imdf_read.specs.Gathering.{finding_at, note_at, FindsInFile}
 use Rattle.imdf_read.specs.Progress.{FoundUpTo, NotedUpTo, CountsUpTo, IsUpTo, HasRows, HaveRows}
 use Rattle.report_laws.proofs.Adding.{Adds-then}
-use Rattle.imdf_read.proofs.Folders.{below_17, finds_at}
+use Rattle.imdf_forms.proofs.FileNumbers.{up_to_16}
+use Rattle.imdf_read.proofs.Folders.{finds_at}
+
+at_most_16 : (f : File) → file_number f ≤ 16
+at_most_16 f = let few = up_to_16 f in omega arith
 
 abbrev build : ℕ → ℕ → ℕ → ℕ → Finding
 build r f i m = record { rule = r; file = f; index = i; member = m }
@@ -87,7 +91,7 @@ file_broken files x h = elim h.finds [
 in_file_found : (files : Files) (x : Finding) (r : Rule) → x.rule ≡ rule_number r → BreaksInFile files r x → FoundUpTo files.slots 16 x
 in_file_found files x r number b = record {
   source = b.source;
-  under = below_17 b.source;
+  under = at_most_16 b.source;
   slot = b.slot;
   there = b.held;
   finds = inl (record { rule = r; breaks = b.breaks; is = made_of x r b.source 0 0 number b.at.in_file b.at.at_index b.at.at_member });
@@ -96,7 +100,7 @@ in_file_found files x r number b = record {
 in_item_found : (files : Files) (x : Finding) (r : Rule) → x.rule ≡ rule_number r → BreaksInItem files r x → FoundUpTo files.slots 16 x
 in_item_found files x r number b = record {
   source = b.source;
-  under = below_17 b.source;
+  under = at_most_16 b.source;
   slot = b.held.slot;
   there = b.held.at;
   finds = inr (
@@ -246,7 +250,7 @@ noted_back : (files : Files) (x : Note) → IsNoted files x → NotedUpTo files.
 noted_back files x h = record {
   source = h.source;
   features = noted_feature h.kind h.source h.feature h.notes;
-  under = below_17 h.source;
+  under = at_most_16 h.source;
   slot = h.held.slot;
   there = h.held.at;
   notes = (
@@ -268,7 +272,7 @@ notes_listed files p out up listed = Lists-same note_cmp (Contains p.gathered.no
 -- where nothing is found, a file is sound
 sound : (files : Files) (out : List Finding) (f : File) (slot : Slot) → f ≢ file.Manifest → slice_get files.slots (file_number f) ≡ Some slot → IsReport (IsBroken files) out → out ≡ [] → (x : Finding) → ¬ FindsInFile f slot x
 sound files out f slot features there listed none x h =
-    let up : FoundUpTo files.slots 16 x = record { source = f; under = below_17 f; slot = slot; there = there; finds = finds_at f slot x features h } in
+    let up : FoundUpTo files.slots 16 x = record { source = f; under = at_most_16 f; slot = slot; there = there; finds = finds_at f slot x features h } in
     Contains-nil x (subst (λ (xs : List Finding). Contains xs x) none (listed.whole x (file_broken files x up)))
 
 rows : {Row : Type 0} (IsRow : Json → Row → Type 0) (files : Files) (out : List Finding) (f : File) (found : List Row) → f ≢ file.Manifest → IsReport (IsBroken files) out → out ≡ [] → HasRows IsRow files.slots f found → AreRows IsRow files f found

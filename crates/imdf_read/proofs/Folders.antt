@@ -1,5 +1,5 @@
 -- The files of a folder, put together from one after the other.
-use Rattle.std.proofs.Common.{◌≡◌, ◌≢◌, ◌∙◌, ℕ, ◌+◌, ◌-◌, ◌^◌, ◌<◌, ◌≤◌, zero, suc, min, List, [], ◌∷◌, ◌++◌, Option, Some, length, take, drop, refl, sym, ap, subst, arith, ◌⊎◌, inl, inr, unwrap_or}
+use Rattle.std.proofs.Common.{◌≡◌, ◌≢◌, ◌∙◌, ℕ, ◌+◌, ◌-◌, ◌^◌, ◌<◌, ◌≤◌, zero, suc, min, List, [], ◌∷◌, ◌++◌, Option, Some, length, take, drop, refl, sym, ap, subst, arith, ◌⊎◌, inl, inr}
 use Rattle.std.specs.Prelude.{Contains, slice_get, sum_by}
 use Rattle.std.specs.List.{AllZip}
 use Rattle.std.proofs.lemmas.Bool.{cases_lt}
@@ -21,74 +21,9 @@ use Rattle.report_laws.specs.Passes.{Adds}
 use Rattle.imdf_read.specs.Gathering.{FindsInSlot, FindsInFile, NotesInFile}
 use Rattle.imdf_read.specs.Progress.{FindsAt, FoundUpTo, NotedUpTo, CountsUpTo, IsUpTo, HasRows}
 use Rattle.imdf_read.specs.Taking.{Takes}
+use Rattle.std.proofs.lemmas.Slice.Zip.{all_zipped_more}
+use Rattle.imdf_forms.proofs.FileNumbers.{same_number, feature_at}
 use Rattle.imdf_read.proofs.ItemLists.{sum_push}
-
--- the files in the order of their numbers
-abbrev all_files : List File
-all_files = file.Manifest ∷ feature_files
-
-abbrev file_at : ℕ → File
-file_at n = unwrap_or (slice_get all_files n) file.Manifest
-
-at_number : (f : File) → file_at (file_number f) ≡ f
-at_number file.Manifest = refl
-at_number file.Address = refl
-at_number file.Amenity = refl
-at_number file.Anchor = refl
-at_number file.Building = refl
-at_number file.Detail = refl
-at_number file.Fixture = refl
-at_number file.Footprint = refl
-at_number file.Geofence = refl
-at_number file.Kiosk = refl
-at_number file.Level = refl
-at_number file.Occupant = refl
-at_number file.Opening = refl
-at_number file.Relationship = refl
-at_number file.Section = refl
-at_number file.Unit = refl
-at_number file.Venue = refl
-
-same_number : (f g : File) → file_number f ≡ file_number g → f ≡ g
-same_number f g e = sym (at_number f) ∙ ap file_at e ∙ at_number g
-
-pub below_17 : (f : File) → file_number f ≤ 16
-below_17 file.Manifest = omega arith
-below_17 file.Address = omega arith
-below_17 file.Amenity = omega arith
-below_17 file.Anchor = omega arith
-below_17 file.Building = omega arith
-below_17 file.Detail = omega arith
-below_17 file.Fixture = omega arith
-below_17 file.Footprint = omega arith
-below_17 file.Geofence = omega arith
-below_17 file.Kiosk = omega arith
-below_17 file.Level = omega arith
-below_17 file.Occupant = omega arith
-below_17 file.Opening = omega arith
-below_17 file.Relationship = omega arith
-below_17 file.Section = omega arith
-below_17 file.Unit = omega arith
-below_17 file.Venue = omega arith
-
-feature_at : (f : File) → f ≢ file.Manifest → (n : ℕ) → n + 1 ≡ file_number f → slice_get feature_files n ≡ Some f
-feature_at file.Manifest features n e = absurd (features refl)
-feature_at file.Address features n e = let is : n ≡ 0 = omega arith in ap (slice_get feature_files) is
-feature_at file.Amenity features n e = let is : n ≡ 1 = omega arith in ap (slice_get feature_files) is
-feature_at file.Anchor features n e = let is : n ≡ 2 = omega arith in ap (slice_get feature_files) is
-feature_at file.Building features n e = let is : n ≡ 3 = omega arith in ap (slice_get feature_files) is
-feature_at file.Detail features n e = let is : n ≡ 4 = omega arith in ap (slice_get feature_files) is
-feature_at file.Fixture features n e = let is : n ≡ 5 = omega arith in ap (slice_get feature_files) is
-feature_at file.Footprint features n e = let is : n ≡ 6 = omega arith in ap (slice_get feature_files) is
-feature_at file.Geofence features n e = let is : n ≡ 7 = omega arith in ap (slice_get feature_files) is
-feature_at file.Kiosk features n e = let is : n ≡ 8 = omega arith in ap (slice_get feature_files) is
-feature_at file.Level features n e = let is : n ≡ 9 = omega arith in ap (slice_get feature_files) is
-feature_at file.Occupant features n e = let is : n ≡ 10 = omega arith in ap (slice_get feature_files) is
-feature_at file.Opening features n e = let is : n ≡ 11 = omega arith in ap (slice_get feature_files) is
-feature_at file.Relationship features n e = let is : n ≡ 12 = omega arith in ap (slice_get feature_files) is
-feature_at file.Section features n e = let is : n ≡ 13 = omega arith in ap (slice_get feature_files) is
-feature_at file.Unit features n e = let is : n ≡ 14 = omega arith in ap (slice_get feature_files) is
-feature_at file.Venue features n e = let is : n ≡ 15 = omega arith in ap (slice_get feature_files) is
 
 take_at : {X : Type 0} (xs : List X) (n : ℕ) (x : X) → slice_get xs n ≡ Some x → take (suc n) xs ≡ take n xs ++ x ∷ []
 take_at [] n x e = cc
@@ -99,12 +34,6 @@ take_at (y ∷ ys) (suc n) x e = ap (λ zs. y ∷ zs) (take_at ys n x e)
 slot_behind : (slots : List Slot) (n : ℕ) (slot : Slot) → slice_get slots (suc n) ≡ Some slot → slice_get (drop 1 slots) n ≡ Some slot
 slot_behind [] n slot e = cc
 slot_behind (s ∷ ss) n slot e = e
-
-zip_push : {A B : Type 0} (R : A → B → Type 0) (xs : List A) (ys : List B) (x : A) (y : B) → AllZip R xs ys → R x y → AllZip R (xs ++ x ∷ []) (ys ++ y ∷ [])
-zip_push R [] [] x y zip r = (r, tt)
-zip_push R [] (b ∷ ys) x y zip r = absurd zip
-zip_push R (a ∷ xs) [] x y zip r = absurd zip
-zip_push R (a ∷ xs) (b ∷ ys) x y zip r = (zip.0, zip_push R xs ys x y zip.1 r)
 
 zip_split : {A B : Type 0} (R : A → B → Type 0) (xs : List A) (x : A) (zs : List B) → AllZip R (xs ++ x ∷ []) zs → (ys : List B) × (y : B) × (zs ≡ ys ++ y ∷ []) × AllZip R xs ys × R x y
 zip_split R [] x [] zip = absurd zip
@@ -141,7 +70,7 @@ counts_step IsRow slots n f slot taken items positions new_items new_positions c
     let next : n + 1 ≡ suc n = omega arith in
     let at : slice_get (drop 1 slots) n ≡ Some slot = slot_behind slots n slot (subst (λ (k : ℕ). slice_get slots k ≡ Some slot) (sym number ∙ next) there) in
     let slots_more : take (n + 1) (drop 1 slots) ≡ take n (drop 1 slots) ++ slot ∷ [] = ap (λ (k : ℕ). take k (drop 1 slots)) next ∙ take_at (drop 1 slots) n slot at in
-    let files_at : slice_get feature_files n ≡ Some f = feature_at f features n number in
+    let files_at : slice_get feature_files n ≡ Some f = feature_at f n number in
     let files_more : take (n + 1) feature_files ≡ take n feature_files ++ f ∷ [] = ap (λ (k : ℕ). take k feature_files) next ∙ take_at feature_files n f files_at in
     let slots_under : n < length (drop 1 slots) = slice_get_within (drop 1 slots) n slot at in
     let files_under : n < length feature_files = slice_get_within feature_files n f files_at in
@@ -149,7 +78,7 @@ counts_step IsRow slots n f slot taken items positions new_items new_positions c
     AllZip-long IsContent (take n (drop 1 slots)) counts.contents counts.zip ∙ length-take-le n (drop 1 slots) (omega arith) ∙ sym (length-take-le n feature_files (omega arith)) in
     record {
       contents = counts.contents ++ takes.content ∷ [];
-      zip = subst (λ (ss : List Slot). AllZip IsContent ss (counts.contents ++ takes.content ∷ [])) (sym slots_more) (zip_push IsContent (take n (drop 1 slots)) counts.contents slot takes.content counts.zip takes.held);
+      zip = subst (λ (ss : List Slot). AllZip IsContent ss (counts.contents ++ takes.content ∷ [])) (sym slots_more) (all_zipped_more IsContent (take n (drop 1 slots)) counts.contents slot takes.content counts.zip takes.held);
       only = λ other zip.
           let parts = zip_split IsContent (take n (drop 1 slots)) slot other (subst (λ (ss : List Slot). AllZip IsContent ss other) slots_more zip) in
           parts.2 ∙ ap (λ (cs : List (Option Json)). cs ++ parts.1 ∷ []) (counts.only parts.0 parts.3) ∙ ap (λ (c : Option Json). counts.contents ++ c ∷ []) (takes.only parts.1 parts.4);

@@ -5,11 +5,11 @@ use Rattle.venue_types.specs.declared.finding.Finding.{Finding}
 use Rattle.exact_json.specs.Json.{Json}
 use Rattle.imdf_forms.specs.declared.files.File.{File}
 use Rattle.imdf_forms.specs.declared.files.File.TheVariants as file
-use Rattle.imdf_forms.specs.Items.{is_feature}
+use Rattle.imdf_forms.specs.Items.{is_feature, unlisted_property}
 use Rattle.imdf_rows.specs.Fields.{IsOrdinal}
 use Rattle.imdf_read.specs.declared.rules.Rule.{Rule}
 use Rattle.imdf_read.specs.declared.rules.Rule.TheVariants.{F1, F2, F3, F4, M1, M2, M3, C1, C2, C3, C4, C5, C6, V1, L1, Q1, S1, S2, S3, S4, G1, G2}
-use Rattle.imdf_read.specs.Broken.{ItemBreaks, further}
+use Rattle.imdf_read.specs.Broken.{ItemBreaks}
 use Rattle.report_laws.specs.Passes.{Adds}
 use Rattle.imdf_read.specs.Gathering.{FindsBy, FindsRule, finding_at, is_plain}
 use Rattle.report_laws.proofs.Adding.{Adds-same, Among, at_member, member_at}
@@ -77,7 +77,7 @@ not_true true e = cc
 not_true false e = refl
 
 -- the rule on ordinals, where the file is that of the levels
-pub ordinal_rule : (f : File) (item v : Json) (fits : Bool) → f ≡ file.Level → is_feature item ≡ true → v ≡ further item (codes "ordinal") → (IsTrue fits ↔ ((n : ℤ) × IsOrdinal v n))
+pub ordinal_rule : (f : File) (item v : Json) (fits : Bool) → f ≡ file.Level → is_feature item ≡ true → v ≡ unlisted_property item (codes "ordinal") → (IsTrue fits ↔ ((n : ℤ) × IsOrdinal v n))
     → IsTrue (not fits) ↔ ItemBreaks L1 f item 0
 ordinal_rule f item v true own feature is decides =
     let P : Json → Type 0 = λ w. (n : ℤ) × IsOrdinal w n in

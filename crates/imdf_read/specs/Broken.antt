@@ -16,7 +16,7 @@ use Rattle.imdf_forms.specs.Files.{file_number, type_name, geometry_of, feature_
 use Rattle.imdf_forms.specs.Values.{is_null, is_object, is_text, is_word, is_id}
 use Rattle.imdf_forms.specs.Properties.{properties, property_number}
 use Rattle.imdf_forms.specs.Forms.{Fits, items_of, item_fits}
-use Rattle.imdf_forms.specs.Items.{is_collection, is_feature, items_in, geometry, property, fits_geometry}
+use Rattle.imdf_forms.specs.Items.{is_collection, is_feature, items_in, geometry, property, unlisted_property, fits_geometry}
 use Rattle.imdf_forms.specs.Contents.{IsLarge, IsNoText, IsDeep, HasValue, IsSlotOf, HasContent, content_items}
 use Rattle.imdf_rows.specs.Fields.{IsOrdinal}
 use Rattle.imdf_read.specs.declared.rules.Rule.{Rule}
@@ -37,10 +37,6 @@ BreaksForm kind.Point v = ⊥
 BreaksForm kind.Line v = BreaksLineForm v
 BreaksForm kind.Shape v = BreaksShapeForm v
 BreaksForm kind.Unjudged v = ⊥
-
--- a member of an item's `properties` that the table of properties lacks
-abbrev pub further : Json → List ℕ → Json
-further item name = member (member item (codes "properties")) name
 
 -- the rules on the folder
 abbrev pub FolderBreaks : Rule → Files → Type 0
@@ -84,10 +80,10 @@ ItemBreaks C4 f item place = (is_feature item ≡ true) × (is_word (member item
 ItemBreaks C5 f item place = (is_feature item ≡ true) × (fits_geometry (geometry_of f) (geometry item) ≡ false) × (place ≡ 0)
 -- a property isn't of its form; an item of a list isn't
 ItemBreaks C6 f item place = (is_feature item ≡ true) × ((p : PropertyRow) × Contains properties p × (p.file ≡ f) × IsMisformed p (property item p.property) place)
--- a level's `ordinal` isn't a number that, in nanodegrees, is a multiple of 10^9
-ItemBreaks L1 f item place = (f ≡ file.Level) × (is_feature item ≡ true) × ((n : ℤ) → ¬ IsOrdinal (further item (codes "ordinal")) n) × (place ≡ 0)
+-- a level's `ordinal` isn't a number that, rounded to billionths, is a whole one from -180 to 180
+ItemBreaks L1 f item place = (f ≡ file.Level) × (is_feature item ≡ true) × ((n : ℤ) → ¬ IsOrdinal (unlisted_property item (codes "ordinal")) n) × (place ≡ 0)
 -- a relationship's `direction` is neither "directed" nor "undirected"
-ItemBreaks Q1 f item place = (f ≡ file.Relationship) × (is_feature item ≡ true) × ((is_word (further item (codes "direction")) (codes "directed") || is_word (further item (codes "direction")) (codes "undirected")) ≡ false) × (place ≡ 0)
+ItemBreaks Q1 f item place = (f ≡ file.Relationship) × (is_feature item ≡ true) × ((is_word (unlisted_property item (codes "direction")) (codes "directed") || is_word (unlisted_property item (codes "direction")) (codes "undirected")) ≡ false) × (place ≡ 0)
 -- a ring has more than 20,000 positions
 ItemBreaks S3 f item place = (is_judged f item ≡ true) × (20000 < longest_ring (geometry_of f) (geometry item)) × (place ≡ 0)
 -- origin, intermediaries and destination that aren't null are more than 65

@@ -1,4 +1,4 @@
--- What one pass adds to what was gathered before it.
+-- What one pass adds to what was gathered before it. This is the code's own way and no promise.
 use Rattle.std.specs.Prelude.{◌≡◌, ◌⊎◌, ℕ, ◌+◌, ◌*◌, ◌^◌, List, [], ◌∷◌, Option, Some, Bool, true, false, Contains, slice_get}
 use Rattle.exact_json.specs.Json.{Json, IsNarrow}
 use Rattle.venue_types.specs.declared.files.Slot.{Slot}

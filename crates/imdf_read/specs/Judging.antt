@@ -1,4 +1,4 @@
--- What was read of a geometry.
+-- What was read of a geometry. This is the code's own way and no promise.
 use Rattle.std.specs.Prelude.{◌≡◌, ◌^◌, ◌-◌, true, false, IsTrue, ◌↔◌, min, length}
 use Rattle.exact_json.specs.Json.{Json}
 use Rattle.geo_shapes.specs.Position.{BreaksPositions}

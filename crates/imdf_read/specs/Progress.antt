@@ -1,4 +1,4 @@
--- How far a folder has been read: up to the file of this number.
+-- How far a folder has been read: up to the file of this number. This is the code's own way and no promise.
 use Rattle.std.specs.Prelude.{◌≡◌, ◌≢◌, ℕ, ◌-◌, ◌^◌, ◌≤◌, min, List, Option, Some, Contains, slice_get, sum_by, take, drop, ◌⊎◌}
 use Rattle.std.specs.List.{AllZip}
 use Rattle.exact_json.specs.Json.{Json}

@@ -1,4 +1,4 @@
--- What taking in a file gives.
+-- What taking in a file gives. This is the code's own way and no promise.
 use Rattle.std.specs.Prelude.{◌≡◌, ◌^◌, ◌-◌, ℕ, List, Option, Some, length, min, slice_get, sum_by, map, option_map, unwrap_or, []}
 use Rattle.std.specs.List.{AllZip}
 use Rattle.exact_json.specs.Json.{Json, HasTexts}

@@ -147,8 +147,8 @@ fn take_fault<R: FeatureRow>(
     Ok(Taken::nothing(alloc))
 }
 
-/// A feature file.
-pub(crate) fn take_file<R: FeatureRow>(
+// Reads a feature file.
+pub(crate) fn read_file<R: FeatureRow>(
     alloc: Global,
     gathered: &mut Gathered,
     file: File,

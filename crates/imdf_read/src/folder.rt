@@ -5,7 +5,7 @@ ghost use Rattle.imdf_read.specs.Out.{IsReadOut};
 
 use crate::file::whole;
 use crate::items::Gathered;
-use crate::progress::{Progress, start};
+use crate::progress::{Progress, read_manifest};
 use crate::read_out::ReadOut;
 use crate::rows::read_rows;
 use crate::rules::Rule;
@@ -26,7 +26,7 @@ pub fn read_folder(alloc: Global, files: &Files) -> Result<ReadOut, OutOfMemory>
     ensures { IfOk result (IsReadOut files.now) }
 {
     let slots = files.slots.as_slice();
-    let mut progress = start(alloc, slots)?;
+    let mut progress = read_manifest(alloc, slots)?;
     let features = read_rows(alloc, &mut progress, slots)?;
     let Progress {
         gathered,

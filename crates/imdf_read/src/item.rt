@@ -53,13 +53,13 @@ fn judge_feature(
     ensures judged { IfOk result (IsJudged place.file (tree_view item.now)) }
 {
     judge_plain(findings, place, item)?;
-    judge_properties(findings, place, item)?;
+    judge_properties(alloc, findings, place, item)?;
     let judged = judged_geometry(alloc, place.file, item)?;
     judge_figure(findings, place, item, &judged)?;
     Ok(judged)
 }
 
-/// The rules on an item, and what was read of its geometry.
+// The rules on an item, and what was read of its geometry.
 pub(crate) fn judge_item(
     alloc: Global,
     findings: &mut Vec<Finding>,

@@ -15,7 +15,7 @@ pub(crate) struct Place {
 }
 
 impl Place {
-    /// The finding that the rule is broken there.
+    // The finding that the rule is broken there.
     pub(crate) fn finding(self, rule: Rule, member: u32) -> Finding
         ensures { result ≡ finding_at rule self.file self.index member }
     {
@@ -27,7 +27,7 @@ impl Place {
         }
     }
 
-    /// The note that is due there.
+    // The note that is due there.
     pub(crate) fn note(self, kind: NoteKind) -> Note
         ensures { result ≡ note_at kind self.file self.index }
     {

@@ -7,7 +7,7 @@ ghost use Rattle.imdf_forms.specs.Items.{is_feature};
 ghost use Rattle.imdf_forms.specs.Values.{seen, is_word as word_is};
 ghost use Rattle.imdf_rows.specs.Fields.{IsOrdinal};
 ghost use Rattle.imdf_read.specs.Counts.{one_unless_null as one_of, elements as elements_of};
-ghost use Rattle.imdf_read.specs.Broken.{ItemBreaks, further as further_of};
+ghost use Rattle.imdf_read.specs.Broken.{ItemBreaks};
 ghost use Rattle.report_laws.specs.Passes.{Adds};
 ghost use Rattle.imdf_read.specs.Gathering.{FindsBy, IsShort, is_plain, plain_rules};
 
@@ -16,6 +16,7 @@ use crate::rules::Rule;
 use exact_json::Tree;
 use imdf_forms::{
     File, Property, fits_geometry, geometry, is_id, is_null, is_word, list, member, property,
+    unlisted_property,
 };
 use imdf_rows::ordinal;
 use report_laws::add;
@@ -24,13 +25,6 @@ use venue_types::{Finding, OutOfMemory};
 const MAX_ELEMENTS: usize = 65;
 
 static RULES: [Rule; 6] = [Rule::C3, Rule::C4, Rule::C5, Rule::L1, Rule::Q1, Rule::S4];
-
-// A member of `properties` that the table of properties lacks.
-fn further<'a, 'b>(item: &'a Tree<'b>, name: &[u8]) -> Option<&'a Tree<'b>>
-    ensures { seen result ≡ further_of (tree_view item.now) name.now }
-{
-    member(member(Some(item), b"properties"), name)
-}
 
 fn is_ordinal(value: Option<&Tree>) -> bool
     ensures { IsTrue result ↔ ((n : ℤ) × IsOrdinal (seen value.entry) n) }
@@ -82,7 +76,7 @@ fn breaks_ordinal(file: File, item: &Tree) -> bool
     requires { is_feature (tree_view item.now) ≡ true }
     ensures { IsTrue result ↔ ItemBreaks Rule.L1 file (tree_view item.now) 0 }
 {
-    file == File::Level && !is_ordinal(further(item, b"ordinal"))
+    file == File::Level && !is_ordinal(unlisted_property(item, b"ordinal"))
 }
 
 // The rule on a relationship's direction.
@@ -90,7 +84,7 @@ fn breaks_direction(file: File, item: &Tree) -> bool
     requires { is_feature (tree_view item.now) ≡ true }
     ensures { IsTrue result ↔ ItemBreaks Rule.Q1 file (tree_view item.now) 0 }
 {
-    file == File::Relationship && !is_direction(further(item, b"direction"))
+    file == File::Relationship && !is_direction(unlisted_property(item, b"direction"))
 }
 
 // The rule on a relationship's length.
@@ -139,7 +133,7 @@ fn judge_rules(
     Ok(())
 }
 
-/// Each rule that takes one test of a feature.
+// Each rule that takes one test of a feature.
 pub(crate) fn judge_plain(
     findings: &mut Vec<Finding>,
     place: Place,

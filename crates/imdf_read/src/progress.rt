@@ -5,7 +5,7 @@ ghost use Rattle.imdf_forms.specs.Files.{file_number, geometry_of};
 ghost use Rattle.imdf_read.specs.Progress.{IsUpTo, HasRows};
 ghost use Rattle.imdf_read.specs.Taking.{Serves};
 
-use crate::file::take_file;
+use crate::file::read_file;
 use crate::items::{Gathered, Taken};
 use crate::manifest::judge_manifest;
 use imdf_forms::File;
@@ -30,8 +30,8 @@ fn slot_of(slots: &[Slot], file: File) -> &Slot
     &slots[file.number() as usize]
 }
 
-/// The manifest.
-pub(crate) fn start(alloc: Global, slots: &[Slot]) -> Result<Progress, OutOfMemory>
+// Reads the manifest.
+pub(crate) fn read_manifest(alloc: Global, slots: &[Slot]) -> Result<Progress, OutOfMemory>
     requires { length slots.now ≡ 17 }
     ensures { IfOk result (IsUpTo slots.now 0) }
 {
@@ -47,8 +47,8 @@ pub(crate) fn start(alloc: Global, slots: &[Slot]) -> Result<Progress, OutOfMemo
     })
 }
 
-/// The next file.
-pub(crate) fn next<R: FeatureRow>(
+// Reads the next file.
+pub(crate) fn read_next_file<R: FeatureRow>(
     alloc: Global,
     progress: &mut Progress,
     slots: &[Slot],
@@ -65,7 +65,7 @@ pub(crate) fn next<R: FeatureRow>(
         rows,
         items,
         positions,
-    } = take_file(alloc, &mut progress.gathered, file, slot_of(slots, file))?;
+    } = read_file(alloc, &mut progress.gathered, file, slot_of(slots, file))?;
     progress.items = progress.items.saturating_add(items as u64);
     progress.positions = progress.positions.saturating_add(positions);
     Ok(List::from_vec(rows))

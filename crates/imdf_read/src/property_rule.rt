@@ -11,6 +11,7 @@ use crate::rules::Rule;
 use exact_json::Tree;
 use imdf_forms::{PropertyRow, fits, item_fits, list_of, properties, property};
 use report_laws::add;
+use std::alloc::Global;
 use venue_types::{Finding, OutOfMemory};
 
 // At each item of a list.
@@ -33,6 +34,7 @@ fn judge_list(
 
 // At one property.
 fn judge_property(
+    alloc: Global,
     findings: &mut Vec<Finding>,
     place: Place,
     item: &Tree,
@@ -45,9 +47,9 @@ fn judge_property(
         return Ok(());
     }
     let value = property(item, row.property);
-    let unfit = !fits(row.form, value);
+    let fit = fits(alloc, row.form, value)?;
     let member = row.property.number() as u32;
-    add(findings, unfit, place.finding(Rule::C6, member))?;
+    add(findings, !fit, place.finding(Rule::C6, member))?;
     match list_of(row.form, value) {
         Some(items) => judge_list(findings, place, row, items),
         None => Ok(()),
@@ -56,6 +58,7 @@ fn judge_property(
 
 // At each property of a table.
 fn judge_table(
+    alloc: Global,
     findings: &mut Vec<Finding>,
     place: Place,
     item: &Tree,
@@ -65,13 +68,14 @@ fn judge_table(
     ensures { OnOk result (Adds (FindsMisformedOf table.now place.file place.index (tree_view item.now)) findings.old.items findings.new.items) }
 {
     for row in table {
-        judge_property(findings, place, item, row)?;
+        judge_property(alloc, findings, place, item, row)?;
     }
     Ok(())
 }
 
-/// At each property of the item.
+// At each property of the item.
 pub(crate) fn judge_properties(
+    alloc: Global,
     findings: &mut Vec<Finding>,
     place: Place,
     item: &Tree,
@@ -79,5 +83,5 @@ pub(crate) fn judge_properties(
     requires { IsShort (tree_view item.now) }
     ensures { OnOk result (Adds (FindsMisformedOf properties place.file place.index (tree_view item.now)) findings.old.items findings.new.items) }
 {
-    judge_table(findings, place, item, properties())
+    judge_table(alloc, findings, place, item, properties())
 }

@@ -5,7 +5,7 @@ ghost use Rattle.imdf_rows.specs.Rows.{IsAmenityRow, IsAnchorRow, IsBuildingRow,
 ghost use Rattle.imdf_forms.specs.declared.files.File.TheVariants as file;
 ghost use Rattle.imdf_read.specs.Progress.{IsUpTo, HasRows, HaveRows};
 
-use crate::progress::{Progress, next};
+use crate::progress::{Progress, read_next_file};
 use imdf_forms::File;
 use std::alloc::Global;
 use venue_types::{
@@ -31,10 +31,10 @@ fn addresses_to_buildings(
     ensures progress { OnOk result (IsUpTo slots.now 0 progress.old → IsUpTo slots.now 4 progress.new) }
     ensures rows { IfOk result (λ t. HasRows IsPlainRow slots.now file.Address t.0 × HasRows IsAmenityRow slots.now file.Amenity t.1 × HasRows IsAnchorRow slots.now file.Anchor t.2 × HasRows IsBuildingRow slots.now file.Building t.3) }
 {
-    let addresses = next(alloc, progress, slots, File::Address)?;
-    let amenities = next(alloc, progress, slots, File::Amenity)?;
-    let anchors = next(alloc, progress, slots, File::Anchor)?;
-    let buildings = next(alloc, progress, slots, File::Building)?;
+    let addresses = read_next_file(alloc, progress, slots, File::Address)?;
+    let amenities = read_next_file(alloc, progress, slots, File::Amenity)?;
+    let anchors = read_next_file(alloc, progress, slots, File::Anchor)?;
+    let buildings = read_next_file(alloc, progress, slots, File::Building)?;
     Ok((addresses, amenities, anchors, buildings))
 }
 
@@ -55,10 +55,10 @@ fn details_to_geofences(
     ensures progress { OnOk result (IsUpTo slots.now 4 progress.old → IsUpTo slots.now 8 progress.new) }
     ensures rows { IfOk result (λ t. HasRows IsDetailRow slots.now file.Detail t.0 × HasRows IsFixtureRow slots.now file.Fixture t.1 × HasRows IsFootprintRow slots.now file.Footprint t.2 × HasRows IsPlainRow slots.now file.Geofence t.3) }
 {
-    let details = next(alloc, progress, slots, File::Detail)?;
-    let fixtures = next(alloc, progress, slots, File::Fixture)?;
-    let footprints = next(alloc, progress, slots, File::Footprint)?;
-    let geofences = next(alloc, progress, slots, File::Geofence)?;
+    let details = read_next_file(alloc, progress, slots, File::Detail)?;
+    let fixtures = read_next_file(alloc, progress, slots, File::Fixture)?;
+    let footprints = read_next_file(alloc, progress, slots, File::Footprint)?;
+    let geofences = read_next_file(alloc, progress, slots, File::Geofence)?;
     Ok((details, fixtures, footprints, geofences))
 }
 
@@ -79,10 +79,10 @@ fn kiosks_to_openings(
     ensures progress { OnOk result (IsUpTo slots.now 8 progress.old → IsUpTo slots.now 12 progress.new) }
     ensures rows { IfOk result (λ t. HasRows IsKioskRow slots.now file.Kiosk t.0 × HasRows IsLevelRow slots.now file.Level t.1 × HasRows IsOccupantRow slots.now file.Occupant t.2 × HasRows IsOpeningRow slots.now file.Opening t.3) }
 {
-    let kiosks = next(alloc, progress, slots, File::Kiosk)?;
-    let levels = next(alloc, progress, slots, File::Level)?;
-    let occupants = next(alloc, progress, slots, File::Occupant)?;
-    let openings = next(alloc, progress, slots, File::Opening)?;
+    let kiosks = read_next_file(alloc, progress, slots, File::Kiosk)?;
+    let levels = read_next_file(alloc, progress, slots, File::Level)?;
+    let occupants = read_next_file(alloc, progress, slots, File::Occupant)?;
+    let openings = read_next_file(alloc, progress, slots, File::Opening)?;
     Ok((kiosks, levels, occupants, openings))
 }
 
@@ -103,14 +103,14 @@ fn relationships_to_venues(
     ensures progress { OnOk result (IsUpTo slots.now 12 progress.old → IsUpTo slots.now 16 progress.new) }
     ensures rows { IfOk result (λ t. HasRows IsRelationshipRow slots.now file.Relationship t.0 × HasRows IsPlainRow slots.now file.Section t.1 × HasRows IsUnitRow slots.now file.Unit t.2 × HasRows IsVenueRow slots.now file.Venue t.3) }
 {
-    let relationships = next(alloc, progress, slots, File::Relationship)?;
-    let sections = next(alloc, progress, slots, File::Section)?;
-    let units = next(alloc, progress, slots, File::Unit)?;
-    let venues = next(alloc, progress, slots, File::Venue)?;
+    let relationships = read_next_file(alloc, progress, slots, File::Relationship)?;
+    let sections = read_next_file(alloc, progress, slots, File::Section)?;
+    let units = read_next_file(alloc, progress, slots, File::Unit)?;
+    let venues = read_next_file(alloc, progress, slots, File::Venue)?;
     Ok((relationships, sections, units, venues))
 }
 
-/// The rows of all feature files.
+// The rows of all feature files.
 pub(crate) fn read_rows(
     alloc: Global,
     progress: &mut Progress,

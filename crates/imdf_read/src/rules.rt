@@ -34,7 +34,7 @@ pub enum Rule {
     C6,
     /// There is exactly one venue.
     V1,
-    /// A level's ordinal is a whole number.
+    /// A level's ordinal, rounded to billionths, is a whole number from -180 to 180.
     L1,
     /// A relationship's direction is one of two words.
     Q1,

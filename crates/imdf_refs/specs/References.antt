@@ -20,8 +20,8 @@ use Rattle.imdf_forms.specs.declared.files.File.{File}
 use Rattle.imdf_forms.specs.declared.files.File.TheVariants as file
 use Rattle.imdf_forms.specs.declared.table.Property.{Property}
 use Rattle.imdf_forms.specs.declared.table.Property.TheVariants as property
-use Rattle.imdf_forms.specs.declared.table.Named.{Named}
-use Rattle.imdf_forms.specs.declared.table.Named.TheVariants as named
+use Rattle.imdf_forms.specs.declared.table.ReferenceTarget.{ReferenceTarget}
+use Rattle.imdf_forms.specs.declared.table.ReferenceTarget.TheVariants as named
 use Rattle.imdf_forms.specs.declared.table.PropertyRow.{PropertyRow}
 use Rattle.imdf_forms.specs.Files.{file_number}
 use Rattle.imdf_forms.specs.Properties.{properties}
@@ -124,7 +124,7 @@ references_in features file.Venue p = map (venue_references p) features.venues
 references_in features _ p = []
 
 -- the file of the type that a reference has to name, by its number
-abbrev pub file_named : Named → Reference → Option ℕ
+abbrev pub file_named : ReferenceTarget → Reference → Option ℕ
 file_named named.Nothing r = None
 file_named named.Address r = Some (file_number file.Address)
 file_named named.Building r = Some (file_number file.Building)

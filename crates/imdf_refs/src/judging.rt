@@ -11,22 +11,22 @@ use crate::known::Known;
 use crate::place::{Place, item_place};
 use crate::row::{HasReferences, References};
 use crate::rules::Rule;
-use imdf_forms::{File, Named, PropertyRow};
+use imdf_forms::{File, PropertyRow, ReferenceTarget};
 use report_laws::add;
 use venue_types::{FeatureId, Features, Finding, OutOfMemory, Ref};
 
 // The number of the file whose features a property names, where a reference object tells this one.
-fn named_file(names: Named, told: Option<u8>) -> Option<u8>
+fn named_file(names: ReferenceTarget, told: Option<u8>) -> Option<u8>
     ensures { (id : FeatureIdOf) → result ≡ file_named names (reference id told) }
 {
     match names {
-        Named::Nothing => None,
-        Named::Address => Some(File::Address.number()),
-        Named::Anchor => Some(File::Anchor.number()),
-        Named::Building => Some(File::Building.number()),
-        Named::Level => Some(File::Level.number()),
-        Named::Unit => Some(File::Unit.number()),
-        Named::ByReference => told,
+        ReferenceTarget::Nothing => None,
+        ReferenceTarget::Address => Some(File::Address.number()),
+        ReferenceTarget::Anchor => Some(File::Anchor.number()),
+        ReferenceTarget::Building => Some(File::Building.number()),
+        ReferenceTarget::Level => Some(File::Level.number()),
+        ReferenceTarget::Unit => Some(File::Unit.number()),
+        ReferenceTarget::ByReference => told,
     }
 }
 

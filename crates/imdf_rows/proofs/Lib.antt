@@ -1,6 +1,6 @@
 pub mod Texts
-pub mod FirstDot
 pub mod Tags
+pub mod LabelLists
 pub mod Billionths
 pub mod Zips
 pub mod Shown

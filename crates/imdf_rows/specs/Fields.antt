@@ -1,6 +1,6 @@
 -- What a field of a row is taken from. Where a member isn't of its form, an identifier is 0, and a text or a list is empty.
-use Rattle.std.specs.Prelude.{◌≡◌, ℕ, ◌==◌, List, [], ◌∷◌, Option, Some, None, Bool, unwrap_or, map, pos, ℤ, ◌*ℤ◌, codes}
-use Rattle.std.specs.List.{filter_map, before_first, list_any}
+use Rattle.std.specs.Prelude.{◌≡◌, ℕ, List, [], ◌∷◌, Option, Some, None, Bool, unwrap_or, map, pos, ℤ, ◌*ℤ◌, codes}
+use Rattle.std.specs.List.{filter_map, list_any}
 use Rattle.std.specs.Str.{bytes_eq}
 use Rattle.std.specs.Cmp.Lexicographic.{slice_cmp}
 use Rattle.std.specs.Ordering.{nat_cmp}
@@ -13,7 +13,7 @@ use Rattle.venue_types.specs.declared.features.Label.{Label}
 use Rattle.venue_types.specs.declared.features.Ref.{Ref}
 use Rattle.venue_types.specs.declared.kind.Kind.{Kind}
 use Rattle.venue_types.specs.declared.point.Point.{Point}
-use Rattle.imdf_access.specs.Categories.{passage_of}
+use Rattle.imdf_access.specs.Categories.{before_dot, passage_of}
 use Rattle.imdf_forms.specs.declared.files.File.{File}
 use Rattle.imdf_forms.specs.Files.{file_number}
 use Rattle.imdf_forms.specs.Values.{is_word, listed, pairs_of, id_of}
@@ -64,10 +64,6 @@ labels_field v = map label (with_texts [] (pairs_of v))
 abbrev pub lists_word : Json → List ℕ → Bool
 lists_word v word = list_any (λ item. is_word item word) (listed v)
 
--- the bytes before the first dot
-abbrev pub before_dot : List ℕ → List ℕ
-before_dot bytes = before_first (λ byte. byte == 46) bytes
-
 -- whether the type of a door, before its first dot, is the word
 abbrev pub door_is : Json → List ℕ → Bool
 door_is door word = bytes_eq (before_dot (text_field (member door (codes "type")))) word
@@ -81,12 +77,12 @@ abbrev pub IsDisplay : Json → Option Point → Type 0
 IsDisplay v None = (point : Point) → ¬ HasPoint v point
 IsDisplay v (Some point) = HasPoint v point
 
--- a number is a whole one: its value, read as nanodegrees are, is a multiple of 10^9, and at most 180 * 10^9 away from 0
+-- a number is a whole one: its value, rounded to billionths as nanodegrees are, is a multiple of 10^9, and at most 180 * 10^9 away from 0
 pub record IsWhole (token : List ℕ) (n : ℤ) : Type 0 where
   pub nano : IsNano token (n *ℤ pos 1000000000)
   pub within : IsWithin (n *ℤ pos 1000000000)
 
--- an ordinal: a whole number
+-- an ordinal: a number that is whole after rounding to billionths, from -180 to 180
 pub record IsOrdinal (v : Json) (n : ℤ) : Type 0 where
   pub digits : List ℕ
   pub number : token v ≡ Some digits

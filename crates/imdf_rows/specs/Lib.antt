@@ -4,3 +4,4 @@ pub mod Rows
 pub mod Folder
 pub mod Laws
 pub mod Lossy
+pub mod Defaults

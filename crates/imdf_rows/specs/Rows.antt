@@ -68,12 +68,12 @@ pub record IsKioskRow (v : Json) (row : KioskRow) : Type 0 where
   pub level : row.level ≡ id_of (item.property v property.LevelId)
   pub anchor : row.anchor ≡ id_of (item.property v property.AnchorId)
 
--- the ordinal, a member of `properties`, where it is one
+-- the ordinal, where it is one
 pub record IsLevelRow (v : Json) (row : LevelRow) : Type 0 where
   pub id : row.id ≡ id_in v
   pub address : row.address ≡ id_of (item.property v property.AddressId)
   pub buildings : row.buildings ≡ ids_field (item.property v property.BuildingIds)
-  pub ordinal : (n : ℤ) → IsOrdinal (member (member v (codes "properties")) (codes "ordinal")) n → row.ordinal ≡ n
+  pub ordinal : (n : ℤ) → IsOrdinal (item.unlisted_property v (codes "ordinal")) n → row.ordinal ≡ n
   pub shape : HasShape (item.geometry v) row.shape
 
 pub record IsOccupantRow (v : Json) (row : OccupantRow) : Type 0 where
@@ -93,7 +93,7 @@ pub record IsOpeningRow (v : Json) (row : OpeningRow) : Type 0 where
 pub record IsRelationshipRow (v : Json) (row : RelationshipRow) : Type 0 where
   pub id : row.id ≡ id_in v
   pub kind : row.kind ≡ passage_field (item.property v property.Category)
-  pub directed : row.directed ≡ is_word (member (member v (codes "properties")) (codes "direction")) (codes "directed")
+  pub directed : row.directed ≡ is_word (item.unlisted_property v (codes "direction")) (codes "directed")
   pub origin : row.origin ≡ ref_of (item.property v property.Origin)
   pub between : row.between ≡ refs_field (item.property v property.Intermediary)
   pub destination : row.destination ≡ ref_of (item.property v property.Destination)

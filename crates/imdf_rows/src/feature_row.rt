@@ -21,8 +21,8 @@ pub trait FeatureRow: Drop {
 
     /// Reads the row of an item, given the figure that its geometry stands for.
     ///
-    /// Where a member isn't of its form, the row has a default in its place. The texts of a JSON text are UTF-8; in
-    /// those of another tree, U+FFFD stands for what isn't. It takes time that grows with the item's properties.
+    /// Nothing is promised of the row where a text isn't UTF-8, or where the figure isn't the one that the geometry
+    /// stands for. A JSON text has no such texts. It takes n log n steps for n properties.
     fn read_row(alloc: Global, item: &Tree, figure: Figure) -> Result<Self, OutOfMemory>
         ensures { IfOk result (λ row.
             HasTexts (tree_view item.now) → HasFigure geometry (tree_view item.now) figure

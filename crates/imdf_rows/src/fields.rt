@@ -1,14 +1,15 @@
 //! The fields of a row that a member's value gives.
 
-ghost use Rattle.std.specs.Prelude.{◌≡◌, ◌==◌, ◌<◌, length, map, IfOk, IfSome};
-ghost use Rattle.std.specs.List.{filter_map, list_any, position_from};
+ghost use Rattle.std.specs.Prelude.{◌≡◌, map, IfOk};
+ghost use Rattle.std.specs.List.{filter_map, list_any};
+ghost use Rattle.std.specs.Str.Lossy.{utf8_lossy};
 ghost use Rattle.exact_json.specs.Json.{HasTexts};
 ghost use Rattle.exact_json.specs.View.{tree_view};
 ghost use Rattle.imdf_forms.specs.Values as values;
 ghost use Rattle.imdf_rows.specs.Fields as specs;
 
 use exact_json::Tree;
-use imdf_access::passage;
+use imdf_access::{before_dot, passage};
 use imdf_forms::{File, id, is_word, list, member, text, type_of};
 use std::alloc::Global;
 use venue_types::{FeatureId, Kind, List, OutOfMemory, Ref, Text};
@@ -20,9 +21,10 @@ pub(crate) fn id_field(value: Option<&Tree>) -> FeatureId
     id(value).unwrap_or(FeatureId(0))
 }
 
-// The text, empty where it is none.
+// The text, empty where it is none, with U+FFFD for what isn't UTF-8.
 pub(crate) fn text_field(alloc: Global, value: Option<&Tree>) -> Result<Text, OutOfMemory>
-    ensures { IfOk result (λ field. HasTexts (values.seen value.entry) → field ≡ specs.text_field (values.seen value.entry)) }
+    ensures lossy { IfOk result (λ field. field ≡ utf8_lossy (specs.text_field (values.seen value.entry))) }
+    ensures exact { IfOk result (λ field. HasTexts (values.seen value.entry) → field ≡ specs.text_field (values.seen value.entry)) }
 {
     let bytes = text(value).unwrap_or(&[]);
     Ok(Text::from_string(String::from_utf8_lossy(alloc, bytes)?))
@@ -121,24 +123,6 @@ pub(crate) fn lists_word(value: Option<&Tree>, word: &[u8]) -> bool
     match list(value) {
         Some(items) => any_is_word(items, word),
         None => false,
-    }
-}
-
-// The place of the first dot.
-fn first_dot(bytes: &[u8]) -> Option<usize>
-    ensures place { result ≡ position_from (λ byte. byte == 46) 0 bytes.now }
-    ensures within { IfSome result (λ dot. dot < length bytes.now) }
-{
-    bytes.iter().position(|byte| *byte == b'.')
-}
-
-// The bytes before the first dot.
-fn before_dot(bytes: &[u8]) -> &[u8]
-    ensures { result.now ≡ specs.before_dot bytes.now }
-{
-    match first_dot(bytes) {
-        Some(dot) => &bytes[..dot],
-        None => bytes,
     }
 }
 

@@ -1,8 +1,7 @@
 //! What the geometry of a feature was read into.
 
-ghost use Rattle.exact_json.specs.Json.{Json};
-ghost use Rattle.geo_shapes.specs.Geometry.{HasPoint, HasLine, HasShape};
-ghost use Rattle.imdf_rows.specs.Figures.{HasPointFigure, HasLineFigure, HasShapeFigure};
+ghost use Rattle.std.specs.Prelude.{◌≡◌};
+ghost use Rattle.imdf_rows.specs.Defaults.{point_or_origin, line_or_empty, shape_or_empty};
 
 use std::alloc::Global;
 use venue_types::{Line, List, Point, Shape};
@@ -19,7 +18,7 @@ pub enum Figure {
 
 // The point, or that of longitude and latitude 0 where it is none.
 pub(crate) fn into_point(figure: Figure) -> Point
-    ensures { (v : Json) → HasPointFigure v figure → HasPoint v result }
+    ensures { result ≡ point_or_origin figure }
 {
     match figure {
         Figure::Point(point) => point,
@@ -29,7 +28,7 @@ pub(crate) fn into_point(figure: Figure) -> Point
 
 // The line, or that of no points where it is none.
 pub(crate) fn into_line(alloc: Global, figure: Figure) -> Line
-    ensures { (v : Json) → HasLineFigure v figure → HasLine v result }
+    ensures { result ≡ line_or_empty figure }
 {
     match figure {
         Figure::Line(line) => line,
@@ -41,7 +40,7 @@ pub(crate) fn into_line(alloc: Global, figure: Figure) -> Line
 
 // The shape, or that of no parts where it is none.
 pub(crate) fn into_shape(alloc: Global, figure: Figure) -> Shape
-    ensures { (v : Json) → HasShapeFigure v figure → HasShape v result }
+    ensures { result ≡ shape_or_empty figure }
 {
     match figure {
         Figure::Shape(shape) => shape,

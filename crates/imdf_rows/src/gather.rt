@@ -14,8 +14,8 @@ use venue_types::OutOfMemory;
 
 /// Adds the row of an item to those of the items before it, given the figure that its geometry stands for.
 ///
-/// Where a geometry is bad there is no figure: give `Figure::Nothing`, and the row is one with a default in its place.
-#[tactic(auto, using(crate::proofs::Zips::zip_push))]
+/// Where a geometry is bad there is no figure: give `Figure::Nothing`, and nothing is promised of the row.
+#[tactic(auto, using(std::proofs::lemmas::Slice::Zip::all_zipped_more))]
 pub fn push_row<R: FeatureRow>(
     alloc: Global,
     rows: &mut Vec<R>,

@@ -3,10 +3,10 @@
 use crate::display::display_field;
 use crate::feature_row::FeatureRow;
 use crate::figure::{Figure, into_shape};
-use crate::members::{all_named, always_named, further, id_in, labels_in, named, text_in};
+use crate::members::{all_named, always_named, id_in, labels_in, named, text_in};
 use crate::ordinals::ordinal_field;
 use exact_json::Tree;
-use imdf_forms::{Property, is_null, property};
+use imdf_forms::{Property, is_null, property, unlisted_property};
 use std::alloc::Global;
 use venue_types::{LevelRow, OutOfMemory, UnitRow};
 
@@ -23,7 +23,7 @@ impl FeatureRow for LevelRow {
             id: id_in(item),
             address: named(item, Property::AddressId),
             buildings: all_named(alloc, item, Property::BuildingIds)?,
-            ordinal: ordinal_field(further(item, b"ordinal")),
+            ordinal: ordinal_field(unlisted_property(item, b"ordinal")),
             shape: into_shape(alloc, figure),
         })
     }

@@ -19,5 +19,5 @@ mod ways;
 pub use feature_row::FeatureRow;
 pub use figure::Figure;
 pub use gather::push_row;
-pub use laws::items_have_texts;
+pub use laws::{doors_law, items_have_texts_law, labels_law, passages_law, tags_law};
 pub use ordinals::ordinal;

@@ -1,9 +1,9 @@
 //! The fields of a row, each taken from a member of its item.
 
-ghost use Rattle.std.specs.Prelude.{◌≡◌, IfOk, codes};
-ghost use Rattle.exact_json.specs.Json.{HasTexts, member};
+ghost use Rattle.std.specs.Prelude.{◌≡◌, IfOk};
+ghost use Rattle.exact_json.specs.Json.{HasTexts};
 ghost use Rattle.exact_json.specs.View.{tree_view};
-ghost use Rattle.imdf_forms.specs.Values.{seen, id_of};
+ghost use Rattle.imdf_forms.specs.Values.{id_of};
 ghost use Rattle.imdf_forms.specs.Items as item;
 ghost use Rattle.imdf_rows.specs.Rows.{id_in};
 ghost use Rattle.imdf_rows.specs.Fields.{id_field, ids_field, text_field, labels_field};
@@ -60,11 +60,4 @@ pub(crate) fn labels_in(alloc: Global, tree: &Tree) -> Result<List<Label>, OutOf
         HasTexts (tree_view tree.now) → labels ≡ labels_field (item.property (tree_view tree.now) Property.Name)) }
 {
     labels::labels_field(alloc, property(tree, Property::Name))
-}
-
-// A member of its `properties` that the table of properties lacks.
-pub(crate) fn further<'a, 'b>(tree: &'a Tree<'b>, name: &[u8]) -> Option<&'a Tree<'b>>
-    ensures { seen result ≡ member (member (tree_view tree.now) (codes "properties")) name.now }
-{
-    member(member(Some(tree), b"properties"), name)
 }

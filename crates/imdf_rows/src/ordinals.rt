@@ -44,7 +44,8 @@ fn token_of<'a>(value: Option<&'a Tree>) -> Option<&'a [u8]>
     value?.as_number()
 }
 
-/// The ordinal that it is, a whole number from -180 to 180, however the number is written (`1.0`, `10e-1`).
+/// The ordinal that it is: the number, rounded to billionths, is a whole one from -180 to 180, however it is written
+/// (`1.0`, `10e-1`, `1.0000000001`).
 pub fn ordinal(value: Option<&Tree>) -> Option<i16>
     ensures some { IfSome result (IsOrdinal (seen value.entry)) }
     ensures none { IfNone result ((n : ℤ) → ¬ IsOrdinal (seen value.entry) n) }
@@ -57,7 +58,8 @@ pub fn ordinal(value: Option<&Tree>) -> Option<i16>
 
 // The ordinal, 0 where it is none.
 pub(crate) fn ordinal_field(value: Option<&Tree>) -> i16
-    ensures { (n : ℤ) → IsOrdinal (seen value.entry) n → result ≡ n }
+    ensures some { (n : ℤ) → IsOrdinal (seen value.entry) n → result ≡ n }
+    ensures none { ((n : ℤ) → ¬ IsOrdinal (seen value.entry) n) → result ≡ pos 0 }
 {
     has_one_value();
     match ordinal(value) {

@@ -1,6 +1,8 @@
 //! Items of four kinds, whose rows were worked out by hand.
 
-use crate::{Figure, items_have_texts, ordinal, push_row};
+use crate::{
+    Figure, doors_law, items_have_texts_law, labels_law, ordinal, passages_law, push_row, tags_law,
+};
 use exact_json::read;
 use std::process::Abort;
 use std::test::Fail;
@@ -40,7 +42,11 @@ fn judge_label(rt: &impl Abort, label: &Label, tag: &str, text: &str) {
 fn a_level(rt: HostRuntime) -> Result<(), Fail> {
     let mut rows = Vec::new(rt.alloc());
     let item = read(rt.alloc(), LEVEL)?;
-    items_have_texts();
+    items_have_texts_law();
+    labels_law();
+    tags_law();
+    doors_law();
+    passages_law();
     push_row(rt.alloc(), &mut rows, &item, Figure::Nothing)?;
     let row: &LevelRow = rows.first().ok_or("level")?;
     assert_eq!(rt; row.address, Some(numbered(0x1)));

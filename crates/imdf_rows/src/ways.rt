@@ -3,9 +3,9 @@
 use crate::feature_row::FeatureRow;
 use crate::fields::{door_is, lists_word, passage_field, ref_of, refs_field};
 use crate::figure::{Figure, into_line};
-use crate::members::{always_named, further, id_in};
+use crate::members::{always_named, id_in};
 use exact_json::Tree;
-use imdf_forms::{Property, is_word, property};
+use imdf_forms::{Property, is_word, property, unlisted_property};
 use std::alloc::Global;
 use venue_types::{OpeningRow, OutOfMemory, RelationshipRow};
 
@@ -46,7 +46,7 @@ impl FeatureRow for RelationshipRow {
         Ok(RelationshipRow {
             id: id_in(item),
             kind: passage_field(property(item, Property::Category)),
-            directed: is_word(further(item, b"direction"), b"directed"),
+            directed: is_word(unlisted_property(item, b"direction"), b"directed"),
             origin: ref_of(property(item, Property::Origin)),
             between: refs_field(alloc, property(item, Property::Intermediary))?,
             destination: ref_of(property(item, Property::Destination)),

@@ -11,7 +11,7 @@ use contain_rules::plane_findings;
 use imdf_read::{ReadOut, read_folder};
 use imdf_refs::{own_ids_law, reference_findings};
 use report_laws::shortened;
-use sound_reading::sound_reading;
+use sound_reading::sound_reading_law;
 use std::alloc::Global;
 use venue_types::{Features, Files, Finding, List, OutOfMemory, Settings};
 
@@ -41,7 +41,7 @@ pub fn build(alloc: Global, files: &Files, settings: &Settings) -> Result<Built,
     requires { length files.now.slots ≡ 17 }
     ensures { IfOk result (IsBuilt files.now settings.now) }
 {
-    sound_reading();
+    sound_reading_law();
     let ReadOut {
         features,
         findings,

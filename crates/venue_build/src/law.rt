@@ -14,7 +14,7 @@ ghost use Rattle.venue_build.specs.Built.{IsRejected, IsVenueOf};
 ghost use Rattle.venue_build.specs.Report.{IsLaterBroken};
 
 use crate::Venue;
-use sound_reading::one_reading;
+use sound_reading::one_reading_law;
 
 /// The rows of a venue are sound, and under its settings no phase finds anything in them: each identifier stands for one
 /// feature and each reference names one of its type, all positions lie close, and each figure and place is where it has to be.
@@ -35,5 +35,5 @@ pub fn one_outcome()
     ensures one_venue { (files : Files) (settings : Settings) (one other : TheVenue) → length files.slots ≡ 17
         → IsVenueOf files settings one → IsVenueOf files settings other → one ≡ other }
 {
-    one_reading();
+    one_reading_law();
 }

@@ -1,12 +1,10 @@
-use Rattle.std.proofs.Common.{◌≡◌, ◌∙◌, ◌<◌, ℕ, List, [], ◌∷◌, Option, Some, None, Bool, true, false, not, IfSome, IsSome, ◌↔◌, length, get_or, refl, sym, ap, subst, arith, codes}
+use Rattle.std.proofs.Common.{◌≡◌, ◌∙◌, [], ◌∷◌, Option, Some, None, Bool, true, false, not, IfSome, IsSome, get_or, refl, sym, ap, subst, arith, codes}
 use Rattle.exact_json.specs.Json.{Json, member}
 use Rattle.exact_json.specs.View.{tree_view}
 use Rattle.venue_types.specs.declared.point.Point.{Point}
 use Rattle.geo_shapes.specs.Position.{IsPosition, BreaksPositions}
 use Rattle.geo_shapes.specs.Geometry.{HasPoint, point_places, coordinates}
-use Rattle.geo_shapes.specs.declared.read_geometry.ReadGeometry.{ReadGeometry}
 use Rattle.imdf_forms.specs.Values.{seen, is_word}
-use Rattle.imdf_forms.specs.Forms.{IsPlace}
 use Rattle.imdf_forms.proofs.forms.is_place.Goals as goal
 
 given : {T : Type 0} (o : Option T) (P : T → Type 0) → IsSome o → IfSome o P → (x : T) × P x

@@ -8,5 +8,5 @@ use Rattle.imdf_read.proofs.PlainRules.{ordinal_rule}
 use Rattle.imdf_read.proofs.plain_rules.breaks_ordinal.Goals as goal
 
 pub returns-then-eq : goal.returns-then-eq
-returns-then-eq c = ordinal_rule c.args.file (tree_view c.args.item.now) (seen c.further.result) c.is_ordinal.result
-    (same_true the_type (search rules) c.args.file file.Level (sym c.if-eq.ensures)) c.requires c.further.ensures c.is_ordinal.ensures
+returns-then-eq c = ordinal_rule c.args.file (tree_view c.args.item.now) (seen c.unlisted_property.result) c.is_ordinal.result
+    (same_true the_type (search rules) c.args.file file.Level (sym c.if-eq.ensures)) c.requires c.unlisted_property.ensures c.is_ordinal.ensures

@@ -4,11 +4,11 @@ use Rattle.imdf_forms.specs.Values.{seen}
 use Rattle.imdf_rows.proofs.Billionths.{one_ordinal}
 use Rattle.imdf_rows.proofs.ordinals.ordinal_field.Goals as goal
 
-pub returns-in-Some : goal.returns-in-Some
-returns-in-Some c = λ m w.
+pub returns-in-Some-clause-some : goal.returns-in-Some-clause-some
+returns-in-Some-clause-some c = λ m w.
     let fits : SFits w16 c.in-Some.n = search rules in
     let same : c.in-Some.n ≡ m = one_ordinal c.has_one_value.ensures (seen c.args.value) c.in-Some.n m c.in-Some.ensures.some w in
     omega (arith, ints)
 
-pub returns-in-None : goal.returns-in-None
-returns-in-None c = λ n w. absurd (c.in-None.ensures.none n w)
+pub returns-in-None-clause-some : goal.returns-in-None-clause-some
+returns-in-None-clause-some c = λ n w. absurd (c.in-None.ensures.none n w)

@@ -20,7 +20,7 @@ pub later_findings-requires : goal.later_findings-requires
 later_findings-requires c =
     let out = c.in_ok-features.field-0 in
     let none = empty c.is_empty.result out.findings c.is_empty.ensures c.if-not-is_empty.false in
-    c.sound_reading.ensures c.args.files.now out.features c.requires
+    c.sound_reading_law.ensures c.args.files.now out.features c.requires
     (nothing (IsBroken c.args.files.now) out.findings none c.in_ok-features.ensures.findings) (c.in_ok-features.ensures.rows none)
 
 pub returns-then-not-is_empty-2 : goal.returns-then-not-is_empty-2
@@ -39,7 +39,7 @@ new-requires c =
     let first = empty c.is_empty.result out.findings c.is_empty.ensures c.if-not-is_empty.false in
     let none = empty c.is_empty-2.result c.in_ok-later.later c.is_empty-2.ensures c.if-not-is_empty-2.false in
     let valid : AreValid out.features settings = record {
-      sound = c.sound_reading.ensures files out.features c.requires (nothing (IsBroken files) out.findings first c.in_ok-features.ensures.findings) (c.in_ok-features.ensures.rows first);
+      sound = c.sound_reading_law.ensures files out.features c.requires (nothing (IsBroken files) out.findings first c.in_ok-features.ensures.findings) (c.in_ok-features.ensures.rows first);
       unbroken = nothing (IsLaterBroken out.features settings) c.in_ok-later.later none c.in_ok-later.ensures;
     } in
     subst (λ (s : Settings). AreValid out.features s) (sym c.in_ok-kept.ensures) valid

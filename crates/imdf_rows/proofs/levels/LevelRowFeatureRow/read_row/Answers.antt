@@ -12,7 +12,7 @@ returns c = λ texts figure. record {
   ordinal = λ n w.
       let fits : SFits w16 c.ordinal_field.result = search rules in
       let P : Json → Type 0 = λ j. IsOrdinal j n in
-      let same : c.ordinal_field.result ≡ n = c.ordinal_field.ensures n (subst P (sym c.further.ensures) w) in
+      let same : c.ordinal_field.result ≡ n = c.ordinal_field.ensures.some n (subst P (sym c.unlisted_property.ensures) w) in
       omega (arith, ints);
   shape = search rules;
 }
