@@ -1,6 +1,7 @@
 //! Predicates on positions, segments and shapes of the plane, and lengths, all exact in whole numbers.
 #![tactic(auto)]
 
+mod band_laws;
 mod borders;
 mod laws;
 mod lengths;
@@ -8,6 +9,7 @@ mod numbers;
 mod rays;
 mod segments;
 
+pub use band_laws::{crossing_law, even_ray_law, near_line_law, ray_law};
 pub use borders::{near, near_ring};
 pub use laws::{length_law, near_edge_law};
 pub use lengths::length_cm;
