@@ -7,5 +7,6 @@ pub mod BorderLemmas
 pub mod RayLemmas
 pub mod ParityLemmas
 pub mod PolynomialLemmas
+pub mod SlantLemmas
 pub mod NearLaw
 pub mod BoxLemmas

@@ -15,7 +15,7 @@ kept true m n all e f = omega arith
 kept false m n all e f = omega arith
 
 -- one more edge
-crossings-cons : (p : Point) (edge : Edge) (more : List Edge) (m : Bool) → meets_ray p edge ≡ m → crossings p (edge ∷ more) ≡ cond m 1 0 + crossings p more
+pub crossings-cons : (p : Point) (edge : Edge) (more : List Edge) (m : Bool) → meets_ray p edge ≡ m → crossings p (edge ∷ more) ≡ cond m 1 0 + crossings p more
 crossings-cons p edge more m e = sum_by-append (λ edge. cond (meets_ray p edge) 1 0) (edge ∷ []) more ∙ ap (λ n. n + crossings p more) (rw e (zero-add (cond m 1 0)))
 
 pub chain_met : (p a : Point) (rest : List Point) (i : ℕ) (d : Point) (odd odd' : Bool) (all : ℕ) → i < length rest → meets_ray p (record { from = a; to = get_or rest i d }) ≡ true → odd' ≡ not odd → (cond odd 1 0 + crossings p (edges_from a (drop i rest))) % 2 ≡ all → (cond odd' 1 0 + crossings p (edges_from (get_or rest i d) (drop (i + 1) rest))) % 2 ≡ all
