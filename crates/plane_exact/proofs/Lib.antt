@@ -8,5 +8,8 @@ pub mod RayLemmas
 pub mod ParityLemmas
 pub mod PolynomialLemmas
 pub mod SlantLemmas
+pub mod LineLemmas
 pub mod NearLaw
+pub mod NearLineLemmas
+pub mod CrossingLemmas
 pub mod BoxLemmas

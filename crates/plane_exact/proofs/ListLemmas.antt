@@ -15,7 +15,7 @@ any_here P x xs h = (0, x, omega arith, refl, h)
 pub any_later : {X : Type 0} (P : X → Type 0) (x : X) (xs : List X) → Any P xs → Any P (x ∷ xs)
 any_later P x xs (k, y, within, at, h) = (suc k, y, omega arith, at, h)
 
-any_of_cons : {X : Type 0} (P : X → Type 0) (x : X) (xs : List X) → Any P (x ∷ xs) → P x ⊎ Any P xs
+pub any_of_cons : {X : Type 0} (P : X → Type 0) (x : X) (xs : List X) → Any P (x ∷ xs) → P x ⊎ Any P xs
 any_of_cons P x xs (zero, y, within, at, h) = inl (subst P (sym at) h)
 any_of_cons P x xs (suc k, y, within, at, h) = inr (k, y, omega arith, at, h)
 
@@ -27,11 +27,11 @@ pub any_left : {X : Type 0} (P : X → Type 0) (xs ys : List X) → Any P xs →
 any_left P [] ys (k, y, within, at, h) = absurd (omega (arith, within))
 any_left P (x ∷ xs) ys a = elim (any_of_cons P x xs a) [ inl h ↦ any_here P x (xs ++ ys) h | inr rest ↦ any_later P x (xs ++ ys) (any_left P xs ys rest) ]
 
-any_right : {X : Type 0} (P : X → Type 0) (xs ys : List X) → Any P ys → Any P (xs ++ ys)
+pub any_right : {X : Type 0} (P : X → Type 0) (xs ys : List X) → Any P ys → Any P (xs ++ ys)
 any_right P [] ys a = a
 any_right P (x ∷ xs) ys a = any_later P x (xs ++ ys) (any_right P xs ys a)
 
-any_of_append : {X : Type 0} (P : X → Type 0) (xs ys : List X) → Any P (xs ++ ys) → Any P xs ⊎ Any P ys
+pub any_of_append : {X : Type 0} (P : X → Type 0) (xs ys : List X) → Any P (xs ++ ys) → Any P xs ⊎ Any P ys
 any_of_append P [] ys a = inr a
 any_of_append P (x ∷ xs) ys a = elim (any_of_cons P x (xs ++ ys) a) [
   | inl h ↦ inl (any_here P x xs h)
