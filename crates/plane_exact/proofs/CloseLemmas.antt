@@ -1,5 +1,6 @@
 -- Which positions are close, from the closeness of all.
 use Rattle.std.proofs.Common.{◌≡◌, ℕ, zero, suc, ◌+◌, ◌<◌, List, ◌∷◌, ◌++◌, length, drop, get_or, Contains, flat_map, refl, subst, arith}
+use Rattle.std.proofs.lemmas.List.{get_or_default}
 use Rattle.std.proofs.lemmas.List.Elements.{Contains-append_left, Contains-append_right}
 use Rattle.venue_types.specs.declared.point.Point.{Point}
 use Rattle.plane_exact.specs.Plane.{IsClose}
@@ -52,3 +53,8 @@ item_close f p xs i x d within at h = AllClose-left p (f x) (flat_map f (drop (i
 
 pub items_step : {X : Type 0} (f : X → List Point) (p : Point) (xs : List X) (i : ℕ) (x d : X) → i < length xs → get_or xs i d ≡ x → AllClose (p ∷ flat_map f (drop i xs)) → AllClose (p ∷ flat_map f (drop (i + 1) xs))
 items_step f p xs i x d within at h = AllClose-right p (f x) (flat_map f (drop (i + 1) xs)) (items_ahead f p xs i x d within at h)
+
+-- ---- along a line from an origin
+
+pub point_close : (origin start : Point) (rest : List Point) (i : ℕ) (d : Point) → i < length rest → AllClose (origin ∷ start ∷ rest) → IsClose origin (get_or rest i d)
+point_close origin start rest i d within h = h.close origin (get_or rest i d) (0, omega arith, refl) (suc (suc i), omega arith, get_or_default rest i (get_or rest i d) d within)

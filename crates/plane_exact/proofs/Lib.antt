@@ -12,4 +12,5 @@ pub mod LineLemmas
 pub mod NearLaw
 pub mod NearLineLemmas
 pub mod CrossingLemmas
+pub mod OctagonLemmas
 pub mod BoxLemmas

@@ -2,6 +2,7 @@ pub mod Plane
 pub mod Segment
 pub mod Figure
 pub mod Line
+pub mod Octagons
 pub mod Opening
 pub mod Length
 pub mod Testing

@@ -6,6 +6,7 @@ mod borders;
 mod laws;
 mod lengths;
 mod numbers;
+mod octagons;
 mod rays;
 mod segments;
 
