@@ -7,13 +7,13 @@ use Rattle.plane_exact.specs.Plane.{IsClose}
 use Rattle.plane_exact.specs.Figure.{AllClose}
 use Rattle.plane_exact.proofs.ListLemmas.{drop_at}
 
-AllClose-fewer : (xs ys : List Point) → ((x : Point) → Contains xs x → Contains ys x) → AllClose ys → AllClose xs
+pub AllClose-fewer : (xs ys : List Point) → ((x : Point) → Contains xs x → Contains ys x) → AllClose ys → AllClose xs
 AllClose-fewer xs ys within h = record { close = λ a b p q. h.close a b (within a p) (within b q) }
 
-Contains-later : (x y : Point) (xs : List Point) → Contains xs x → Contains (y ∷ xs) x
+pub Contains-later : (x y : Point) (xs : List Point) → Contains xs x → Contains (y ∷ xs) x
 Contains-later x y xs (k, within, at) = (suc k, omega arith, at)
 
-Contains-both : (p x : Point) (xs ys : List Point) → ((y : Point) → Contains xs y → Contains ys y) → Contains (p ∷ xs) x → Contains (p ∷ ys) x
+pub Contains-both : (p x : Point) (xs ys : List Point) → ((y : Point) → Contains xs y → Contains ys y) → Contains (p ∷ xs) x → Contains (p ∷ ys) x
 Contains-both p x xs ys within (zero, below, at) = (zero, omega arith, at)
 Contains-both p x xs ys within (suc k, below, at) = Contains-later x p ys (within x (k, omega arith, at))
 
@@ -58,3 +58,7 @@ items_step f p xs i x d within at h = AllClose-right p (f x) (flat_map f (drop (
 
 pub point_close : (origin start : Point) (rest : List Point) (i : ℕ) (d : Point) → i < length rest → AllClose (origin ∷ start ∷ rest) → IsClose origin (get_or rest i d)
 point_close origin start rest i d within h = h.close origin (get_or rest i d) (0, omega arith, refl) (suc (suc i), omega arith, get_or_default rest i (get_or rest i d) d within)
+
+-- of fewer points each is close to p
+pub AllClose-within : (p : Point) (xs ys : List Point) → ((q : Point) → Contains xs q → Contains ys q) → AllClose (p ∷ ys) → AllClose (p ∷ xs)
+AllClose-within p xs ys within h = AllClose-fewer (p ∷ xs) (p ∷ ys) (λ q. Contains-both p q xs ys within) h

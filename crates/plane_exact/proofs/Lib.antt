@@ -13,4 +13,6 @@ pub mod NearLaw
 pub mod NearLineLemmas
 pub mod CrossingLemmas
 pub mod OctagonLemmas
+pub mod TreeLemmas
+pub mod SightLemmas
 pub mod BoxLemmas

@@ -3,6 +3,7 @@ pub mod Segment
 pub mod Figure
 pub mod Line
 pub mod Octagons
+pub mod Trees
 pub mod Opening
 pub mod Length
 pub mod Testing

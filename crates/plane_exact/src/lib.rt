@@ -8,6 +8,10 @@ mod lengths;
 mod numbers;
 mod octagons;
 mod rays;
+mod run_borders;
+mod run_crossings;
+mod run_rays;
+mod runs;
 mod segments;
 
 pub use band_laws::{crossing_law, even_ray_law, near_line_law, ray_law};
