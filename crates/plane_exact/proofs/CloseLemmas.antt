@@ -1,7 +1,7 @@
 -- Which positions are close, from the closeness of all.
-use Rattle.std.proofs.Common.{◌≡◌, ℕ, zero, suc, ◌+◌, ◌<◌, List, ◌∷◌, ◌++◌, length, drop, get_or, Contains, flat_map, refl, subst, arith}
+use Rattle.std.proofs.Common.{◌≡◌, ℕ, zero, suc, ◌+◌, ◌<◌, List, ◌∷◌, ◌++◌, length, drop, get_or, Contains, ◌⊎◌, inl, inr, flat_map, refl, subst, arith}
 use Rattle.std.proofs.lemmas.List.{get_or_default}
-use Rattle.std.proofs.lemmas.List.Elements.{Contains-append_left, Contains-append_right}
+use Rattle.std.proofs.lemmas.List.Elements.{Contains-append_left, Contains-append_right, Contains-append_cases, Contains-get_or}
 use Rattle.venue_types.specs.declared.point.Point.{Point}
 use Rattle.plane_exact.specs.Plane.{IsClose}
 use Rattle.plane_exact.specs.Figure.{AllClose}
@@ -62,3 +62,37 @@ point_close origin start rest i d within h = h.close origin (get_or rest i d) (0
 -- of fewer points each is close to p
 pub AllClose-within : (p : Point) (xs ys : List Point) → ((q : Point) → Contains xs q → Contains ys q) → AllClose (p ∷ ys) → AllClose (p ∷ xs)
 AllClose-within p xs ys within h = AllClose-fewer (p ∷ xs) (p ∷ ys) (λ q. Contains-both p q xs ys within) h
+
+-- ---- two lines
+
+pub Contains-next : (start : Point) (rest : List Point) (i : ℕ) (d : Point) → i < length rest → Contains (start ∷ rest) (get_or rest i d)
+Contains-next start rest i d within = Contains-later (get_or rest i d) start rest (Contains-get_or rest i d within)
+
+-- the edge ab and an edge of the line
+pub among_close : (a b x y : Point) (points : List Point) → Contains points x → Contains points y → AllClose (a ∷ b ∷ points) → (IsClose a b) × (IsClose x y) × (IsClose a x) × (IsClose a y) × (IsClose b x)
+among_close a b x y points has_x has_y h =
+    let later : (q : Point) → Contains points q → Contains (a ∷ b ∷ points) q = λ q k. Contains-later q a (b ∷ points) (Contains-later q b points k) in
+    let at_a : Contains (a ∷ b ∷ points) a = (0, omega arith, refl) in
+    let at_b : Contains (a ∷ b ∷ points) b = (1, omega arith, refl) in
+    (h.close a b at_a at_b, h.close x y (later x has_x) (later y has_y), h.close a x at_a (later x has_x), h.close a y at_a (later y has_y), h.close b x at_b (later x has_x))
+
+edge_and_line : (a b q : Point) (xs ys : List Point) → Contains xs a → Contains xs b → Contains (a ∷ b ∷ ys) q → Contains (xs ++ ys) q
+edge_and_line a b q xs ys has_a has_b (zero, within, at) = subst (λ (x : Point). Contains (xs ++ ys) x) at (Contains-append_left xs ys a has_a)
+edge_and_line a b q xs ys has_a has_b (suc zero, within, at) = subst (λ (x : Point). Contains (xs ++ ys) x) at (Contains-append_left xs ys b has_b)
+edge_and_line a b q xs ys has_a has_b (suc (suc k), within, at) = Contains-append_right xs ys q (k, omega arith, at)
+
+pub edge_with_line : (a b : Point) (xs ys : List Point) → Contains xs a → Contains xs b → AllClose (xs ++ ys) → AllClose (a ∷ b ∷ ys)
+edge_with_line a b xs ys has_a has_b h = AllClose-fewer (a ∷ b ∷ ys) (xs ++ ys) (λ q. edge_and_line a b q xs ys has_a has_b) h
+
+by_part : (xs ys us vs : List Point) → ((q : Point) → Contains us q → Contains xs q) → ((q : Point) → Contains vs q → Contains ys q) → (q : Point) → Contains (us ++ vs) q → Contains (xs ++ ys) q
+by_part xs ys us vs f g q h = elim (Contains-append_cases us vs q h) [ inl k ↦ Contains-append_left xs ys q (f q k) | inr k ↦ Contains-append_right xs ys q (g q k) ]
+
+-- of fewer points of both
+pub AllClose-parts : (xs ys us vs : List Point) → ((q : Point) → Contains us q → Contains xs q) → ((q : Point) → Contains vs q → Contains ys q) → AllClose (xs ++ ys) → AllClose (us ++ vs)
+AllClose-parts xs ys us vs f g h = AllClose-fewer (us ++ vs) (xs ++ ys) (by_part xs ys us vs f g) h
+
+both_within : (xs us vs : List Point) → ((q : Point) → Contains us q → Contains xs q) → ((q : Point) → Contains vs q → Contains xs q) → (q : Point) → Contains (us ++ vs) q → Contains xs q
+both_within xs us vs f g q h = elim (Contains-append_cases us vs q h) [ inl k ↦ f q k | inr k ↦ g q k ]
+
+pub AllClose-both : (xs us vs : List Point) → ((q : Point) → Contains us q → Contains xs q) → ((q : Point) → Contains vs q → Contains xs q) → AllClose xs → AllClose (us ++ vs)
+AllClose-both xs us vs f g h = AllClose-fewer (us ++ vs) xs (both_within xs us vs f g) h

@@ -15,4 +15,5 @@ pub mod CrossingLemmas
 pub mod OctagonLemmas
 pub mod TreeLemmas
 pub mod SightLemmas
+pub mod RunLemmas
 pub mod BoxLemmas

@@ -27,6 +27,10 @@ abbrev pub octagons_of : ℕ → ℕ
 octagons_of zero = 1
 octagons_of (suc depth) = suc (octagons_of depth + octagons_of depth)
 
+-- the new octagons are the old ones and a tree of the line
+abbrev pub AddsTree : ℕ → Point → Point → List Point → List Octagon → List Octagon → Type 0
+AddsTree depth origin start rest old new = (added : List Octagon) × (new ≡ old ++ added) × (length added ≡ octagons_of depth) × IsTree depth origin added start rest
+
 -- the points of a run
 abbrev pub run_points : Run → List Point
 run_points run = run.start ∷ run.rest.now

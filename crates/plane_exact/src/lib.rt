@@ -3,6 +3,7 @@
 
 mod band_laws;
 mod borders;
+mod growing;
 mod laws;
 mod lengths;
 mod numbers;

@@ -35,6 +35,19 @@ pub struct Octagon {
     pub difference: Band,
 }
 
+/// Stands where an octagon will be.
+pub const UNKNOWN: Octagon = Octagon {
+    x: NO_BAND,
+    y: NO_BAND,
+    sum: NO_BAND,
+    difference: NO_BAND,
+};
+
+const NO_BAND: Band = Band {
+    least: 0,
+    greatest: 0,
+};
+
 /// Where an octagon lies as seen from a place, toward greater longitude.
 pub enum Sight {
     /// The ray meets nothing in it.

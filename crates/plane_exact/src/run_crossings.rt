@@ -18,9 +18,13 @@ pub fn crosses_itself(origin: Point, run: Run) -> bool
     match halves(run) {
         None => lines_cross(run.start, run.rest, run.start, run.rest),
         Some((front, back)) => {
-            crosses_itself(origin, front)
-                || crosses_itself(origin, back)
-                || runs_cross(origin, front, back)
+            if crosses_itself(origin, front) {
+                return true;
+            }
+            if crosses_itself(origin, back) {
+                return true;
+            }
+            runs_cross(origin, front, back)
         }
     }
 }
@@ -52,9 +56,12 @@ fn runs_cross(origin: Point, one: Run, other: Run) -> bool
 fn lie_apart(one: Run, other: Run) -> bool
     ensures { IsTrue result → (origin : Point) → IsSound origin one.entry → IsSound origin other.entry → ¬ CrossEachOther (run_edges one.entry) (run_edges other.entry) }
 {
-    match (one.octagons, other.octagons) {
-        ([first, ..], [second, ..]) => first.is_apart(second),
-        _ => false,
+    match one.octagons {
+        [] => false,
+        [first, ..] => match other.octagons {
+            [] => false,
+            [second, ..] => first.is_apart(second),
+        },
     }
 }
 
