@@ -16,4 +16,5 @@ pub mod OctagonLemmas
 pub mod TreeLemmas
 pub mod SightLemmas
 pub mod RunLemmas
+pub mod GrowLemmas
 pub mod BoxLemmas

@@ -31,6 +31,11 @@ octagons_of (suc depth) = suc (octagons_of depth + octagons_of depth)
 abbrev pub AddsTree : ℕ → Point → Point → List Point → List Octagon → List Octagon → Type 0
 AddsTree depth origin start rest old new = (added : List Octagon) × (new ≡ old ++ added) × (length added ≡ octagons_of depth) × IsTree depth origin added start rest
 
+-- a tree of the line through the points, counted from the first
+abbrev pub IsTreeOf : ℕ → List Octagon → List Point → Type 0
+IsTreeOf depth octagons [] = Unit {0}
+IsTreeOf depth octagons (start ∷ rest) = IsTree depth start octagons start rest
+
 -- the points of a run
 abbrev pub run_points : Run → List Point
 run_points run = run.start ∷ run.rest.now

@@ -9,6 +9,7 @@ mod lengths;
 mod numbers;
 mod octagons;
 mod rays;
+mod ring_bands;
 mod run_borders;
 mod run_crossings;
 mod run_rays;
@@ -20,6 +21,7 @@ pub use borders::{near, near_ring};
 pub use laws::{length_law, near_edge_law};
 pub use lengths::length_cm;
 pub use rays::{inside, inside_ring};
+pub use ring_bands::{RingBands, ring_crosses};
 pub use segments::{crosses, near_edge, side};
 
 #[cfg(test)]
