@@ -1,5 +1,5 @@
 -- Which positions are close, from the closeness of all.
-use Rattle.std.proofs.Common.{◌≡◌, ℕ, zero, suc, ◌+◌, ◌<◌, List, ◌∷◌, ◌++◌, length, drop, get_or, Contains, ◌⊎◌, inl, inr, flat_map, refl, subst, arith}
+use Rattle.std.proofs.Common.{◌≡◌, ℕ, zero, suc, ◌+◌, ◌<◌, ◌≤◌, List, [], ◌∷◌, ◌++◌, length, drop, get_or, Contains, ◌⊎◌, inl, inr, flat_map, refl, subst, sym, arith}
 use Rattle.std.proofs.lemmas.List.{get_or_default}
 use Rattle.std.proofs.lemmas.List.Elements.{Contains-append_left, Contains-append_right, Contains-append_cases, Contains-get_or}
 use Rattle.venue_types.specs.declared.point.Point.{Point}
@@ -96,3 +96,19 @@ both_within xs us vs f g q h = elim (Contains-append_cases us vs q h) [ inl k �
 
 pub AllClose-both : (xs us vs : List Point) → ((q : Point) → Contains us q → Contains xs q) → ((q : Point) → Contains vs q → Contains xs q) → AllClose xs → AllClose (us ++ vs)
 AllClose-both xs us vs f g h = AllClose-fewer (us ++ vs) xs (both_within xs us vs f g) h
+
+-- the first of the points that are read
+pub first_close : (p d : Point) (points read : List Point) → read ≡ points → 1 ≤ length read → AllClose (p ∷ points) → IsClose (get_or read 0 d) p
+first_close p d points [] e some h = absurd (omega (arith, some))
+first_close p d points (a ∷ rest) e some h = start_close p a rest (subst (λ (xs : List Point). AllClose (p ∷ xs)) (sym e) h)
+
+-- with one of the points as origin
+with_origin : (origin q : Point) (points : List Point) → Contains points origin → Contains (origin ∷ points) q → Contains points q
+with_origin origin q points has (zero, within, at) = subst (λ (x : Point). Contains points x) at has
+with_origin origin q points has (suc k, within, at) = (k, omega arith, at)
+
+pub AllClose-origin : (origin : Point) (points : List Point) → Contains points origin → AllClose points → AllClose (origin ∷ points)
+AllClose-origin origin points has h = AllClose-fewer (origin ∷ points) points (λ q. with_origin origin q points has) h
+
+pub origin_close : (p origin : Point) (points : List Point) → Contains points origin → AllClose (p ∷ points) → IsClose origin p
+origin_close p origin points has h = h.close origin p (Contains-later origin p points has) (0, omega arith, refl)

@@ -17,4 +17,5 @@ pub mod TreeLemmas
 pub mod SightLemmas
 pub mod RunLemmas
 pub mod GrowLemmas
+pub mod GroveLemmas
 pub mod BoxLemmas

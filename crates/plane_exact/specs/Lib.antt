@@ -4,6 +4,7 @@ pub mod Figure
 pub mod Line
 pub mod Octagons
 pub mod Trees
+pub mod Groves
 pub mod Opening
 pub mod Length
 pub mod Testing

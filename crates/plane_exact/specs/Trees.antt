@@ -1,6 +1,7 @@
 -- How the code keeps runs of edges and their octagons: machinery of `Bands`, named by no public clause.
 use Rattle.std.specs.Prelude.{◌≡◌, ℕ, zero, suc, ◌+◌, ◌*◌, ◌/◌, ◌%◌, ◌<◌, ◌↔◌, Option, Some, None, List, [], ◌∷◌, ◌++◌, length, take, drop, Any, Contains, pos}
 use Rattle.venue_types.specs.declared.point.Point.{Point}
+use Rattle.venue_types.specs.declared.point.Ring.{Ring}
 use Rattle.plane_exact.specs.declared.octagons.Octagon.{Octagon}
 use Rattle.plane_exact.specs.declared.octagons.Sight.{Sight}
 use Rattle.plane_exact.specs.declared.octagons.Sight.TheVariants.{Missed, Before, Among}
@@ -8,8 +9,8 @@ use Rattle.plane_exact.specs.declared.runs.Run.{Run}
 use Rattle.plane_exact.specs.declared.runs.Asked.{Asked}
 use Rattle.plane_exact.specs.Plane.{IsWithin}
 use Rattle.plane_exact.specs.Segment.{Crosses}
-use Rattle.plane_exact.specs.Figure.{Edge, edges_from, crossings}
-use Rattle.plane_exact.specs.Line.{Direction, last_from, IsBetween}
+use Rattle.plane_exact.specs.Figure.{Edge, edges_from, crossings, ring_points}
+use Rattle.plane_exact.specs.Line.{Direction, last_from, IsBetween, IsClosed}
 use Rattle.plane_exact.specs.Octagons.{IsPlace, IsRound, kept}
 
 -- the first octagon lies round the line, those of the first half of the others round the first half of its edges, and so on
@@ -76,3 +77,23 @@ CrossesSome a b list = Any (λ edge. Crosses a b edge.from edge.to) list
 -- some edge of the one row crosses some edge of the other
 abbrev pub CrossEachOther : List Edge → List Edge → Type 0
 CrossEachOther one other = Any (λ edge. CrossesSome edge.from edge.to other) one
+
+-- ---- rings
+
+-- the last point of the ring equals its first
+abbrev pub IsClosedRing : Ring → Type 0
+IsClosedRing ring = IsClosed ring.points
+
+-- the first octagon lies round the rings, those of the first half of the others round the first half of the rings, and so on
+unfoldable pub IsGrove : ℕ → Point → List Octagon → List Ring → Type 0
+IsGrove zero origin [] list = Unit {0}
+IsGrove zero origin (octagon ∷ below) list = IsRound octagon origin (ring_points list)
+IsGrove (suc depth) origin [] list = Unit {0}
+IsGrove (suc depth) origin (octagon ∷ below) list =
+    IsRound octagon origin (ring_points list)
+    × IsGrove depth origin (take (length below / 2) below) (take (length list / 2) list)
+    × IsGrove depth origin (drop (length below / 2) below) (drop (length list / 2) list)
+
+-- the new octagons are the old ones and a grove of the rings
+abbrev pub AddsGrove : ℕ → Point → List Ring → List Octagon → List Octagon → Type 0
+AddsGrove depth origin list old new = (added : List Octagon) × (new ≡ old ++ added) × (length added ≡ octagons_of depth) × IsGrove depth origin added list

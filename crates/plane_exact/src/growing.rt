@@ -6,7 +6,7 @@ ghost use Rattle.plane_exact.specs.Figure.{AllClose};
 ghost use Rattle.plane_exact.specs.Octagons.{IsRound};
 ghost use Rattle.plane_exact.specs.Trees.{IsTree, AddsTree};
 
-use crate::octagons::{Octagon, UNKNOWN, octagon_of};
+use crate::octagons::{NOTHING, Octagon, octagon_of};
 use crate::runs::last_of;
 use std::alloc::Global;
 use venue_types::{OutOfMemory, Point};
@@ -61,7 +61,7 @@ fn add_tree(
         return Ok(octagon);
     }
     let place = octagons.len();
-    octagons.push(UNKNOWN)?;
+    octagons.push(NOTHING)?;
     let (front, back) = rest.split_at(rest.len() / 2);
     let first = add_tree(origin, start, front, depth - 1, octagons)?;
     let second = add_tree(origin, last_of(start, front), back, depth - 1, octagons)?;

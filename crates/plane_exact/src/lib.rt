@@ -2,12 +2,17 @@
 #![tactic(auto)]
 
 mod band_laws;
+mod bands;
 mod borders;
+mod grove_borders;
+mod grove_rays;
+mod groves;
 mod growing;
 mod laws;
 mod lengths;
 mod numbers;
 mod octagons;
+mod over;
 mod rays;
 mod ring_bands;
 mod run_borders;
@@ -17,6 +22,7 @@ mod runs;
 mod segments;
 
 pub use band_laws::{crossing_law, even_ray_law, near_line_law, ray_law};
+pub use bands::Bands;
 pub use borders::{near, near_ring};
 pub use laws::{length_law, near_edge_law};
 pub use lengths::length_cm;

@@ -35,17 +35,17 @@ pub struct Octagon {
     pub difference: Band,
 }
 
-/// Stands where an octagon will be.
-pub const UNKNOWN: Octagon = Octagon {
-    x: NO_BAND,
-    y: NO_BAND,
-    sum: NO_BAND,
-    difference: NO_BAND,
+/// The octagon round no position.
+pub const NOTHING: Octagon = Octagon {
+    x: NO_NUMBER,
+    y: NO_NUMBER,
+    sum: NO_NUMBER,
+    difference: NO_NUMBER,
 };
 
-const NO_BAND: Band = Band {
-    least: 0,
-    greatest: 0,
+const NO_NUMBER: Band = Band {
+    least: 9_223_372_036_854_775_807,
+    greatest: -9_223_372_036_854_775_808,
 };
 
 /// Where an octagon lies as seen from a place, toward greater longitude.

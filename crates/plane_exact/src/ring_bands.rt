@@ -1,14 +1,16 @@
 //! A ring made ready for many questions, and whether a ring crosses itself.
 
-ghost use Rattle.std.specs.Prelude.{◌≡◌, ◌∷◌, ◌≤◌, ◌%◌, ◌↔◌, IsTrue, IfOk};
+ghost use Rattle.std.specs.Prelude.{◌≡◌, ◌∷◌, ◌≤◌, ◌%◌, ◌↔◌, IsTrue, IfOk, IfSome, Contains};
 ghost use Rattle.plane_exact.specs.Figure.{AllClose, edges, crossings, IsNearSome, HaveCrossing};
+ghost use Rattle.plane_exact.specs.Octagons.{IsRound};
+ghost use Rattle.plane_exact.specs.Trees.{IsClosedRing};
 
 use crate::growing::{Tree, tree_of};
-use crate::octagons::Octagon;
+use crate::octagons::{NOTHING, Octagon, octagon_of};
 use crate::run_borders::is_near_run;
 use crate::run_crossings::crosses_itself;
 use crate::run_rays::is_odd_at_run;
-use crate::runs::{Asked, Run};
+use crate::runs::{Asked, Run, last_of};
 use std::alloc::Global;
 use std::marker::Model;
 use venue_types::{OutOfMemory, Point, Ring};
@@ -95,6 +97,40 @@ impl<'a> RingBands<'a> {
                 };
                 is_near_run(&Asked::of(*first, p), run, t)
             }
+        }
+    }
+
+    /// The octagon round the ring, counted from the origin.
+    pub(crate) fn octagon(&self, origin: Point) -> Octagon
+        requires { AllClose (origin ∷ self.now.points) }
+        ensures { IsRound result origin self.now.points }
+    {
+        let ring = self.ring;
+        match ring.points.as_slice() {
+            [] => NOTHING,
+            [first, rest @ ..] => octagon_of(origin, *first, rest),
+        }
+    }
+
+    /// The first point of the ring.
+    pub(crate) fn first(&self) -> Option<Point>
+        ensures { IfSome result (λ q. Contains self.now.points q) }
+    {
+        let ring = self.ring;
+        match ring.points.as_slice() {
+            [] => None,
+            [first, ..] => Some(*first),
+        }
+    }
+
+    /// Whether the last point of the ring equals its first.
+    pub(crate) fn is_closed(&self) -> bool
+        ensures { IsTrue result → IsClosedRing self.now }
+    {
+        let ring = self.ring;
+        match ring.points.as_slice() {
+            [] => true,
+            [first, rest @ ..] => last_of(*first, rest) == *first,
         }
     }
 }
