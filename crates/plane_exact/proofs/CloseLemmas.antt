@@ -112,3 +112,20 @@ AllClose-origin origin points has h = AllClose-fewer (origin ∷ points) points 
 
 pub origin_close : (p origin : Point) (points : List Point) → Contains points origin → AllClose (p ∷ points) → IsClose origin p
 origin_close p origin points has h = h.close origin p (Contains-later origin p points has) (0, omega arith, refl)
+
+-- ---- of joined lists
+
+pub plain_left : (xs ys : List Point) → AllClose (xs ++ ys) → AllClose xs
+plain_left xs ys h = AllClose-fewer xs (xs ++ ys) (λ q. Contains-append_left xs ys q) h
+
+pub plain_right : (xs ys : List Point) → AllClose (xs ++ ys) → AllClose ys
+plain_right xs ys h = AllClose-fewer ys (xs ++ ys) (λ q. Contains-append_right xs ys q) h
+
+plain_ahead : {X : Type 0} (f : X → List Point) (xs : List X) (i : ℕ) (x d : X) → i < length xs → get_or xs i d ≡ x → AllClose (flat_map f (drop i xs)) → AllClose (f x ++ flat_map f (drop (i + 1) xs))
+plain_ahead {X} f xs i x d within at h = let P : List X → Type 0 = λ ys. AllClose (flat_map f ys) in subst P (drop_at xs i x d within at) h
+
+pub plain_item : {X : Type 0} (f : X → List Point) (xs : List X) (i : ℕ) (x d : X) → i < length xs → get_or xs i d ≡ x → AllClose (flat_map f (drop i xs)) → AllClose (f x)
+plain_item f xs i x d within at h = plain_left (f x) (flat_map f (drop (i + 1) xs)) (plain_ahead f xs i x d within at h)
+
+pub plain_step : {X : Type 0} (f : X → List Point) (xs : List X) (i : ℕ) (x d : X) → i < length xs → get_or xs i d ≡ x → AllClose (flat_map f (drop i xs)) → AllClose (flat_map f (drop (i + 1) xs))
+plain_step f xs i x d within at h = plain_right (f x) (flat_map f (drop (i + 1) xs)) (plain_ahead f xs i x d within at h)

@@ -1,5 +1,6 @@
 -- Many rings: what octagons round them tell, and the halves of their groves.
 use Rattle.std.proofs.Common.{◌≡◌, ℕ, zero, suc, ◌+◌, ◌-◌, ◌*◌, ◌/◌, ◌%◌, ◌<◌, ◌≤◌, ℤ, pos, negsuc, ◌<ℤ◌, cond, List, [], ◌∷◌, ◌++◌, length, take, drop, get_or, set, All, Any, Contains, flat_map, IsTrue, ◌⊎◌, inl, inr, length-append, refl, sym, ap, ap₂, subst, ◌∙◌, arith}
+use Rattle.std.proofs.lemmas.List.{take_more}
 use Rattle.std.proofs.lemmas.List.Concat.{flat_map-append}
 use Rattle.std.proofs.lemmas.List.Sums.{sum_by-append}
 use Rattle.std.proofs.lemmas.List.Elements.{All-nil, All-cons, All-head, All-tail}
@@ -15,6 +16,7 @@ use Rattle.plane_exact.specs.Trees.{IsClosedRing, IsGrove, AddsGrove, octagons_o
 use Rattle.plane_exact.proofs.ListLemmas.{any_of_append}
 use Rattle.plane_exact.proofs.CloseLemmas.{AllClose-left, AllClose-right}
 use Rattle.plane_exact.proofs.SlantLemmas.{ray_closed}
+use Rattle.plane_exact.proofs.OctagonLemmas.{IsRound-wider, IsRound-append}
 use Rattle.plane_exact.proofs.SightLemmas.{slant_x, slant_sum, slant_difference, all_before, missed_seen}
 use Rattle.plane_exact.proofs.RunLemmas.{near_at_band}
 use Rattle.plane_exact.proofs.GrowLemmas.{take_half, drop_half, written}
@@ -144,3 +146,18 @@ join_grove depth before place origin list front back octagon free old pushed fir
       grove_of_halves before origin list octagon l r n1 n2 round (subst (λ (xs : List Ring). IsGrove before origin l xs) a t1) (subst (λ (xs : List Ring). IsGrove before origin r xs) b t2),
     ) in
     subst (λ (n : ℕ). AddsGrove n origin list old (set second place octagon)) (sym e) (subst (λ (n : ℕ). AddsGrove (suc before) origin list old (set second n octagon)) (sym p) whole)
+
+-- ---- rings one by one
+
+pub rings_more : (one at both : Octagon) (origin : Point) (xs : List Ring) (i : ℕ) (x d : Ring) → i < length xs → get_or xs i d ≡ x → IsRound at origin x.points → ((way : Direction) (m : ℤ) → IsInBand (band way one) m → IsInBand (band way both) m) → ((way : Direction) (m : ℤ) → IsInBand (band way at) m → IsInBand (band way both) m) → IsRound one origin (ring_points (take i xs)) → IsRound both origin (ring_points (take (i + 1) xs))
+rings_more one at both origin xs i x d within e here first second h =
+    let split : ring_points (take (i + 1) xs) ≡ ring_points (take i xs) ++ ring_points (x ∷ []) = ap ring_points (take_more xs i d within ∙ ap (λ (y : Ring). take i xs ++ y ∷ []) e) ∙ flat_map-append (λ (ring : Ring). ring.points) (take i xs) (x ∷ []) in
+    let none : IsRound both origin [] = λ way. All-nil (λ q. IsInBand (band way both) (offset way origin q)) in
+    let last = IsRound-append both origin x.points [] (IsRound-wider at both origin x.points second here) none in
+    subst (λ (ys : List Point). IsRound both origin ys) (sym split) (IsRound-append both origin (ring_points (take i xs)) (ring_points (x ∷ [])) (IsRound-wider one both origin (ring_points (take i xs)) first h) last)
+
+pub rings_joined : (one other both : Octagon) (origin : Point) (whole front back : List Ring) → whole ≡ front ++ back → ((way : Direction) (m : ℤ) → IsInBand (band way one) m → IsInBand (band way both) m) → ((way : Direction) (m : ℤ) → IsInBand (band way other) m → IsInBand (band way both) m) → IsRound one origin (ring_points front) → IsRound other origin (ring_points back) → IsRound both origin (ring_points whole)
+rings_joined one other both origin whole front back e first second h k = subst (λ (ys : List Point). IsRound both origin ys) (sym (rings_points whole front back e)) (IsRound-append both origin (ring_points front) (ring_points back) (IsRound-wider one both origin (ring_points front) first h) (IsRound-wider other both origin (ring_points back) second k))
+
+pub whole_grove : (depth : ℕ) (origin : Point) (list : List Ring) (old new : List Octagon) → old ≡ [] → AddsGrove depth origin list old new → IsGrove depth origin new list
+whole_grove depth origin list old new e (added, f, n, h) = subst (λ (xs : List Octagon). IsGrove depth origin xs list) (sym (f ∙ ap (λ xs. xs ++ added) e)) h

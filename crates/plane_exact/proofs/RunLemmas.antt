@@ -1,5 +1,5 @@
 -- Steps of the walks over runs: what two parts answer makes up what the whole answers.
-use Rattle.std.proofs.Common.{◌≡◌, ℕ, zero, suc, ◌+◌, ◌*◌, ◌<◌, ℤ, pos, ◌+ℤ◌, ◌-ℤ◌, ◌≤ℤ◌, ◌<ℤ◌, Bool, true, false, IsTrue, ◌↔◌, ◌⊎◌, inl, inr, List, [], ◌∷◌, ◌++◌, length, drop, get_or, All, Any, Contains, refl, sym, ap, subst, ◌∙◌, arith}
+use Rattle.std.proofs.Common.{◌≡◌, ℕ, zero, suc, ◌+◌, ◌*◌, ◌<◌, ℤ, pos, ◌+ℤ◌, ◌-ℤ◌, ◌≤ℤ◌, ◌<ℤ◌, Bool, true, false, IsTrue, ◌↔◌, ◌⊎◌, inl, inr, List, [], ◌∷◌, ◌++◌, length, drop, get_or, All, Any, Contains, Option, Some, IfSome, refl, sym, ap, subst, ◌∙◌, arith}
 use Rattle.std.proofs.lemmas.Int.{ints}
 use Rattle.std.proofs.lemmas.Bool.{false≢true}
 use Rattle.std.proofs.lemmas.List.Elements.{All-weaker}
@@ -143,3 +143,8 @@ line_here Q a rest i d within h = rw (drop_at rest i (get_or rest i d) d within 
 
 pub line_past : (Q : Point → Point → Type 0) (a : Point) (rest : List Point) (i : ℕ) (d : Point) → i < length rest → ¬ Q a (get_or rest i d) → Any (λ (edge : Edge). Q edge.from edge.to) (edges_from (get_or rest i d) (drop (i + 1) rest)) ↔ Any (λ (edge : Edge). Q edge.from edge.to) (edges_from a (drop i rest))
 line_past Q a rest i d within none = rw (drop_at rest i (get_or rest i d) d within refl) (any_past (λ (edge : Edge). Q edge.from edge.to) (record { from = a; to = get_or rest i d }) (edges_from (get_or rest i d) (drop (i + 1) rest)) none)
+
+-- ---- what is kept of an option
+
+pub IfSome-at : {X : Type 0} (o : Option X) (x : X) (P : X → Type 0) → o ≡ Some x → IfSome o P → P x
+IfSome-at {X} o x P e h = let Q : Option X → Type 0 = λ v. IfSome v P in subst Q e h

@@ -18,7 +18,7 @@ use venue_types::{OutOfMemory, Part, Point, Shape};
 #[derive(Drop)]
 pub struct Bands<'a> {
     shape: &'a Shape,
-    rings: Vec<RingBands<'a>>,
+    banded: Vec<RingBands<'a>>,
     over: Option<Over>,
 }
 
@@ -32,7 +32,7 @@ impl<'a> Model for Bands<'a> {
 
     ghost view = { λ a. a.shape.now };
 
-    ghost invariant = { λ a. (a.rings.items ≡ rings a.shape.now) × IfSome a.over (λ over. IsOver a.rings.items over) };
+    ghost invariant = { λ a. (a.banded.items ≡ rings a.shape.now) × IfSome a.over (λ over. IsOver a.banded.items over) };
 }
 
 impl<'a> Bands<'a> {
@@ -41,9 +41,13 @@ impl<'a> Bands<'a> {
         requires { AllClose (vertices shape.now) }
         ensures { IfOk result (λ bands. bands ≡ shape.now) }
     {
-        let rings = bands_of(alloc, shape)?;
-        let over = over_of(alloc, rings.as_slice())?;
-        Ok(Bands { shape, rings, over })
+        let banded = bands_of(alloc, shape)?;
+        let over = over_of(alloc, banded.as_slice())?;
+        Ok(Bands {
+            shape,
+            banded,
+            over,
+        })
     }
 
     /// Whether `p` is inside the shape, as `inside` says. On most shapes looks at a number of octagons that grows as the logarithm
@@ -53,10 +57,10 @@ impl<'a> Bands<'a> {
         ensures { IsTrue result ↔ IsInside p self.now }
     {
         match &self.over {
-            None => is_odd_at_bands(p, self.rings.as_slice()),
+            None => is_odd_at_bands(p, self.banded.as_slice()),
             Some(over) => {
                 let grove = Grove {
-                    rings: self.rings.as_slice(),
+                    rings: self.banded.as_slice(),
                     depth: over.depth,
                     octagons: over.octagons.as_slice(),
                 };
@@ -72,10 +76,10 @@ impl<'a> Bands<'a> {
         ensures { IsTrue result ↔ IsNear p self.now t }
     {
         match &self.over {
-            None => is_near_bands(p, self.rings.as_slice(), t),
+            None => is_near_bands(p, self.banded.as_slice(), t),
             Some(over) => {
                 let grove = Grove {
-                    rings: self.rings.as_slice(),
+                    rings: self.banded.as_slice(),
                     depth: over.depth,
                     octagons: over.octagons.as_slice(),
                 };
