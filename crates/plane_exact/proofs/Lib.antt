@@ -7,15 +7,5 @@ pub mod BorderLemmas
 pub mod RayLemmas
 pub mod ParityLemmas
 pub mod PolynomialLemmas
-pub mod SlantLemmas
-pub mod LineLemmas
 pub mod NearLaw
-pub mod NearLineLemmas
-pub mod CrossingLemmas
-pub mod OctagonLemmas
-pub mod TreeLemmas
-pub mod SightLemmas
-pub mod RunLemmas
-pub mod GrowLemmas
-pub mod GroveLemmas
 pub mod BoxLemmas

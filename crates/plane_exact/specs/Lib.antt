@@ -1,10 +1,6 @@
 pub mod Plane
 pub mod Segment
 pub mod Figure
-pub mod Line
-pub mod Octagons
-pub mod Trees
-pub mod Groves
 pub mod Opening
 pub mod Length
 pub mod Testing

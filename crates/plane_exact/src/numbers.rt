@@ -6,7 +6,7 @@ ghost use Rattle.plane_exact.specs.Plane.{IsWithin, IsClose, side, along, square
 use venue_types::Point;
 
 /// From a to b along the axis of longitude.
-pub fn x_step(a: Point, b: Point) -> i64
+fn x_step(a: Point, b: Point) -> i64
     requires { IsClose a b }
     ensures value { result ≡ b.x -ℤ a.x }
     ensures range { IsWithin 200000000 result (pos 0) }
@@ -15,7 +15,7 @@ pub fn x_step(a: Point, b: Point) -> i64
 }
 
 /// From a to b along the axis of latitude.
-pub fn y_step(a: Point, b: Point) -> i64
+fn y_step(a: Point, b: Point) -> i64
     requires { IsClose a b }
     ensures value { result ≡ b.y -ℤ a.y }
     ensures range { IsWithin 200000000 result (pos 0) }

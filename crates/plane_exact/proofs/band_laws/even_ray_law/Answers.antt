@@ -1,5 +1,0 @@
-use Rattle.plane_exact.proofs.SlantLemmas.{ray_closed}
-use Rattle.plane_exact.proofs.band_laws.even_ray_law.Goals as goal
-
-pub returns : goal.returns
-returns c k p points closed all = ray_closed k p points closed all
