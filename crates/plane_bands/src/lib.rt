@@ -19,3 +19,5 @@ pub use band_laws::{crossing_law, even_ray_law, near_line_law, ray_law};
 pub use bands::Bands;
 pub use ring_bands::{RingBands, ring_crosses};
 
+#[cfg(test)]
+mod tests;

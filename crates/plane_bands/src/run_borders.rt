@@ -4,8 +4,8 @@ ghost use Rattle.std.specs.Prelude.{◌∷◌, ◌≤◌, ◌↔◌, IsTrue};
 ghost use Rattle.plane_exact.specs.Figure.{AllClose, IsNearSome};
 ghost use Rattle.plane_bands.specs.Trees.{run_points, run_edges, IsSound, IsMeasured};
 
-use plane_exact::near_chain;
 use crate::runs::{Asked, Run, halves};
+use plane_exact::near_chain;
 
 /// Whether the position is at most `t` from some edge of the run.
 pub fn is_near_run(asked: &Asked, run: Run, t: u32) -> bool

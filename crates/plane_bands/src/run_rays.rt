@@ -6,8 +6,8 @@ ghost use Rattle.plane_bands.specs.Line.{IsBetween};
 ghost use Rattle.plane_bands.specs.Trees.{run_points, run_edges, IsSound, IsMeasured, IsToldOf};
 
 use crate::octagons::Sight;
-use plane_exact::is_odd_at_chain;
 use crate::runs::{Asked, Run, halves, last_of};
+use plane_exact::is_odd_at_chain;
 use venue_types::Point;
 
 /// Whether an odd number of the run's edges meets the ray from the position.

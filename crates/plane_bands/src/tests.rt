@@ -54,29 +54,47 @@ fn shape(alloc: Global, outer: &[(i64, i64)], hole: &[(i64, i64)]) -> Result<Sha
     })
 }
 
-/// Squares in a row, each with a square hole, and as the last part a line that isn't closed where `open` is true.
-fn row(alloc: Global, open: bool) -> Result<Shape, AllocError>
+fn add_part(
+    alloc: Global,
+    parts: &mut Vec<Part>,
+    outer: &[(i64, i64)],
+    hole: &[(i64, i64)],
+) -> Result<(), AllocError>
+    requires { All IsInBox (flat_map part_points parts.old.items) }
+    ensures { OnOk result (All IsInBox (flat_map part_points parts.new.items)) }
+{
+    parts.push(part(alloc, outer, hole)?)?;
+    Ok(())
+}
+
+fn add_square(alloc: Global, parts: &mut Vec<Part>, i: i64) -> Result<(), AllocError>
+    requires { All IsInBox (flat_map part_points parts.old.items) }
+    ensures { OnOk result (All IsInBox (flat_map part_points parts.new.items)) }
+{
+    let x = i.saturating_mul(5000);
+    let left = x.saturating_add(1000);
+    let right = x.saturating_add(2000);
+    let end = x.saturating_add(3000);
+    let outer = [(x, 0), (end, 0), (end, 3000), (x, 3000), (x, 0)];
+    let hole = [
+        (left, 1000),
+        (left, 2000),
+        (right, 2000),
+        (right, 1000),
+        (left, 1000),
+    ];
+    add_part(alloc, parts, &outer, &hole)
+}
+
+/// Nine squares in a row, each with a square hole, and as the last part `more`.
+fn row(alloc: Global, more: &[(i64, i64)]) -> Result<Shape, AllocError>
     ensures { IfOk result (λ shape. All IsInBox (vertices shape)) }
 {
     let mut parts = Vec::new(alloc);
     for i in 0..9i64 {
-        let x = i.saturating_mul(5000);
-        let left = x.saturating_add(1000);
-        let right = x.saturating_add(2000);
-        let end = x.saturating_add(3000);
-        let outer = [(x, 0), (end, 0), (end, 3000), (x, 3000), (x, 0)];
-        let hole = [
-            (left, 1000),
-            (left, 2000),
-            (right, 2000),
-            (right, 1000),
-            (left, 1000),
-        ];
-        parts.push(part(alloc, &outer, &hole)?)?;
+        add_square(alloc, &mut parts, i)?;
     }
-    if open {
-        parts.push(part(alloc, &[(50_000, 0), (51_000, 1500), (52_000, 2000)], &[])?)?;
-    }
+    add_part(alloc, &mut parts, more, &[])?;
     Ok(Shape {
         parts: List::from_vec(parts),
     })
@@ -100,7 +118,11 @@ fn comb(i: i64) -> (i64, i64) {
         198 => (0, -1000),
         _ => (
             i.wrapping_mul(500),
-            if (i.wrapping_add(1) / 2) % 2 == 0 { 0 } else { 90_000 },
+            if (i.wrapping_add(1) / 2) % 2 == 0 {
+                0
+            } else {
+                90_000
+            },
         ),
     }
 }
@@ -109,7 +131,10 @@ fn comb(i: i64) -> (i64, i64) {
 fn corner(form: Form, i: i64, c: i64, s: i64, random: i64) -> (i64, i64) {
     match form {
         Form::Staircase if i == 198 => (0, 99_000),
-        Form::Staircase => ((i.wrapping_add(1) / 2).wrapping_mul(1000), (i / 2).wrapping_mul(1000)),
+        Form::Staircase => (
+            (i.wrapping_add(1) / 2).wrapping_mul(1000),
+            (i / 2).wrapping_mul(1000),
+        ),
         Form::Comb => comb(i),
         Form::CombTurnedHalfRight => {
             let (x, y) = comb(i);
@@ -176,7 +201,7 @@ fn drawn(alloc: Global, form: Form) -> Result<Vec<(i64, i64)>, AllocError> {
 
 /// Whether the plain and the banded calls agree on a shape at the position.
 fn agree(shape: &Shape, bands: &Bands, p: (i64, i64)) -> bool
-    requires box { All IsInBox (vertices shape.now) }
+    requires boxed { All IsInBox (vertices shape.now) }
     requires same { bands.now ≡ shape.now }
 {
     let p = at(p);
@@ -194,7 +219,7 @@ fn agree(shape: &Shape, bands: &Bands, p: (i64, i64)) -> bool
 
 /// Whether they agree on a ring at the position.
 fn agree_on_ring(ring: &Ring, bands: &RingBands, p: (i64, i64)) -> bool
-    requires box { All IsInBox ring.now.points }
+    requires boxed { All IsInBox ring.now.points }
     requires same { bands.now ≡ ring.now }
 {
     let p = at(p);
@@ -276,7 +301,13 @@ fn rings_that_cross(rt: HostRuntime) -> Result<(), Fail> {
     assert!(rt; !crosses_at(alloc, &[(7, 7); 30])?, "one place");
     assert!(rt; !crosses_at(alloc, &[(7, 7)])?, "one point");
     assert!(rt; !crosses_at(alloc, &[])?, "no point");
-    let wide = [(-FAR, -FAR), (FAR, FAR), (-FAR, FAR), (FAR, -FAR), (-FAR, -FAR)];
+    let wide = [
+        (-FAR, -FAR),
+        (FAR, FAR),
+        (-FAR, FAR),
+        (FAR, -FAR),
+        (-FAR, -FAR),
+    ];
     assert!(rt; crosses_at(alloc, &wide)?, "wide");
     Ok(())
 }
@@ -285,7 +316,8 @@ fn rings_that_cross(rt: HostRuntime) -> Result<(), Fail> {
 fn many_rings(rt: HostRuntime) -> Result<(), Fail> {
     let alloc = rt.alloc();
     for open in [false, true] {
-        let many = row(alloc, open)?;
+        let line = [(50_000, 0), (51_000, 1500), (52_000, 2000)];
+        let many = row(alloc, if open { &line } else { &[] })?;
         let bands = Bands::of(alloc, &many)?;
         // In the hole of the second square, west of all, in the first square and on its border, between two squares.
         let table = [
@@ -298,7 +330,11 @@ fn many_rings(rt: HostRuntime) -> Result<(), Fail> {
             ((40_500, 500), true),
         ];
         for (p, want) in table {
-            assert_eq!(rt; bands.inside(at(p)), want != (open && p.0 < 50_000), "{p:?}");
+            assert_eq!(rt;
+                bands.inside(at(p)),
+                want != (open && p.0 < 50_000),
+                "{p:?}"
+            );
         }
         for x in -2..130i64 {
             for y in -2..9i64 {
@@ -312,7 +348,13 @@ fn many_rings(rt: HostRuntime) -> Result<(), Fail> {
     }
     let wide = shape(
         alloc,
-        &[(-FAR, -FAR), (FAR, -FAR), (FAR, FAR), (-FAR, FAR), (-FAR, -FAR)],
+        &[
+            (-FAR, -FAR),
+            (FAR, -FAR),
+            (FAR, FAR),
+            (-FAR, FAR),
+            (-FAR, -FAR),
+        ],
         &[],
     )?;
     let bands = Bands::of(alloc, &wide)?;
@@ -320,6 +362,9 @@ fn many_rings(rt: HostRuntime) -> Result<(), Fail> {
     assert!(rt; !bands.inside(at((FAR, FAR))), "far corner");
     assert!(rt; bands.near(at((FAR, FAR)), 0), "far corner");
     assert!(rt; bands.near(at((FAR - 1_000_000, 0)), 1_000_000), "near");
-    assert!(rt; !bands.near(at((FAR - 1_000_001, 0)), 1_000_000), "not near");
+    assert!(rt;
+        !bands.near(at((FAR - 1_000_001, 0)), 1_000_000),
+        "not near"
+    );
     Ok(())
 }
