@@ -36,3 +36,7 @@ two_polygons outer hole notch holes none parts e f g h k l =
     let Q : List Ring → List Ring → Type 0 = λ first second. P (record { outer = outer; holes = first } ∷ record { outer = notch; holes = second } ∷ []) in
     let whole : Q (hole ∷ []) [] = All-append IsInBox outer.points _ h (All-append IsInBox hole.points _ k (All-append IsInBox notch.points _ l (All-nil IsInBox))) in
     subst P (sym e) (subst₂ Q (sym f) (sym g) whole)
+
+-- of the points alone
+pub points_close : (points : List Point) → All IsInBox points → AllClose points
+points_close points all = record { close = λ a b inside_a inside_b. box_close a b (All-contains IsInBox points a all inside_a) (All-contains IsInBox points b all inside_b) }

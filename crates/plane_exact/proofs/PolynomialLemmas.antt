@@ -5,25 +5,25 @@ use Rattle.std.proofs.lemmas.Int.{ints}
 use Rattle.std.proofs.Math.Nat.{mul-le-mul_left, le_of_mul-le-mul_left}
 
 -- z is u - v
-record Rep (z : ℤ) (u v : ℕ) : Type 0 where
-  is : up z + v ≡ down z + u
+pub record Rep (z : ℤ) (u v : ℕ) : Type 0 where
+  pub is : up z + v ≡ down z + u
 
-rep : (z : ℤ) → Rep z (up z) (down z)
+pub rep : (z : ℤ) → Rep z (up z) (down z)
 rep z = record { is = omega arith }
 
-rep-pos : (n : ℕ) → Rep (pos n) n 0
+pub rep-pos : (n : ℕ) → Rep (pos n) n 0
 rep-pos n = record { is = omega arith }
 
-rep-add : {x y : ℤ} {a b c d : ℕ} → Rep x a b → Rep y c d → Rep (x +ℤ y) (a + c) (b + d)
+pub rep-add : {x y : ℤ} {a b c d : ℕ} → Rep x a b → Rep y c d → Rep (x +ℤ y) (a + c) (b + d)
 rep-add {x} {y} r s = record { is = omega (arith, ints) }
 
-rep-sub : {x y : ℤ} {a b c d : ℕ} → Rep x a b → Rep y c d → Rep (x -ℤ y) (a + d) (b + c)
+pub rep-sub : {x y : ℤ} {a b c d : ℕ} → Rep x a b → Rep y c d → Rep (x -ℤ y) (a + d) (b + c)
 rep-sub {x} {y} r s = record { is = omega (arith, ints) }
 
-rep-neg : {x : ℤ} {a b : ℕ} → Rep x a b → Rep (neg_ℤ x) b a
+pub rep-neg : {x : ℤ} {a b : ℕ} → Rep x a b → Rep (neg_ℤ x) b a
 rep-neg {x} r = record { is = omega (arith, ints) }
 
-rep-mul : {x y : ℤ} {a b c d : ℕ} → Rep x a b → Rep y c d → Rep (x *ℤ y) (a * c + b * d) (a * d + b * c)
+pub rep-mul : {x y : ℤ} {a b c d : ℕ} → Rep x a b → Rep y c d → Rep (x *ℤ y) (a * c + b * d) (a * d + b * c)
 rep-mul {x} {y} {a} {b} {c} {d} r s =
     let e1 : up y * (up x + b) ≡ up y * (down x + a) = ap (λ k. up y * k) r.is in
     let e2 : down y * (up x + b) ≡ down y * (down x + a) = ap (λ k. down y * k) r.is in
@@ -31,7 +31,7 @@ rep-mul {x} {y} {a} {b} {c} {d} r s =
     let e4 : b * (up y + d) ≡ b * (down y + c) = ap (λ k. b * k) s.is in
     record { is = omega (arith, ints) }
 
-rep-same : {x y : ℤ} {a b c d : ℕ} → Rep x a b → Rep y c d → a + d ≡ c + b → x ≡ y
+pub rep-same : {x y : ℤ} {a b c d : ℕ} → Rep x a b → Rep y c d → a + d ≡ c + b → x ≡ y
 rep-same {x} {y} r s e = omega (arith, ints)
 
 -- ---- the products of vectors

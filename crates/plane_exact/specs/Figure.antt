@@ -6,7 +6,7 @@ use Rattle.venue_types.specs.declared.point.Ring.{Ring}
 use Rattle.venue_types.specs.declared.point.Part.{Part}
 use Rattle.venue_types.specs.declared.point.Shape.{Shape}
 use Rattle.plane_exact.specs.Plane.{side, IsClose}
-use Rattle.plane_exact.specs.Segment.{IsNearEdge}
+use Rattle.plane_exact.specs.Segment.{IsNearEdge, Crosses}
 
 -- a straight line between two neighbours of a ring
 pub record Edge : Type 0 where
@@ -86,3 +86,11 @@ IsNear p shape t = IsNearSome p t (all_edges shape)
 -- any two of the positions are close
 pub record AllClose (points : List Point) : Type 0 where
   pub close : (a b : Point) → Contains points a → Contains points b → IsClose a b
+
+-- two of the edges cross
+pub record HaveCrossing (list : List Edge) : Type 0 where
+  pub one : Edge
+  pub other : Edge
+  pub has_one : Contains list one
+  pub has_other : Contains list other
+  pub cross : Crosses one.from one.to other.from other.to

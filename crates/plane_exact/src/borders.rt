@@ -65,7 +65,7 @@ pub fn near_ring(p: Point, ring: &Ring, t: u32) -> bool
 }
 
 /// Whether `p` is at most `t` from some edge of the line from `start` through `rest`.
-fn near_chain(p: Point, start: Point, rest: &[Point], t: u32) -> bool
+pub fn near_chain(p: Point, start: Point, rest: &[Point], t: u32) -> bool
     requires close { AllClose (p ∷ start ∷ rest.now) }
     requires tolerance { t ≤ 1000000 }
     ensures { IsTrue result ↔ IsNearSome p t (edges_from start rest.now) }

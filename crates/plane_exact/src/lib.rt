@@ -8,10 +8,10 @@ mod numbers;
 mod rays;
 mod segments;
 
-pub use borders::{near, near_ring};
+pub use borders::{near, near_chain, near_ring};
 pub use laws::{length_law, near_edge_law};
 pub use lengths::length_cm;
-pub use rays::{inside, inside_ring};
+pub use rays::{inside, inside_ring, is_odd_at_chain};
 pub use segments::{crosses, near_edge, side};
 
 #[cfg(test)]

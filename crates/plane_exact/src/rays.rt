@@ -64,7 +64,7 @@ pub fn inside_ring(p: Point, ring: &Ring) -> bool
 }
 
 /// Whether an odd number of the edges of the line from `start` through `rest` meets the ray from `p`.
-fn is_odd_at_chain(p: Point, start: Point, rest: &[Point]) -> bool
+pub fn is_odd_at_chain(p: Point, start: Point, rest: &[Point]) -> bool
     requires { AllClose (p ∷ start ∷ rest.now) }
     ensures { IsTrue result ↔ (crossings p (edges_from start rest.now) % 2 ≡ 1) }
 {

@@ -1,0 +1,10 @@
+pub mod SlantLemmas
+pub mod LineLemmas
+pub mod NearLineLemmas
+pub mod CrossingLemmas
+pub mod OctagonLemmas
+pub mod TreeLemmas
+pub mod SightLemmas
+pub mod RunLemmas
+pub mod GrowLemmas
+pub mod GroveLemmas

@@ -1,0 +1,4 @@
+pub mod Line
+pub mod Octagons
+pub mod Trees
+pub mod Groves
