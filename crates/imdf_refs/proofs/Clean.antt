@@ -10,7 +10,7 @@ use Rattle.imdf_forms.specs.declared.files.File.{File}
 use Rattle.imdf_forms.specs.declared.files.File.TheVariants as file
 use Rattle.imdf_forms.specs.declared.forms.Form.TheVariants as form
 use Rattle.imdf_forms.specs.declared.table.Property.TheVariants as property
-use Rattle.imdf_forms.specs.declared.table.Named.TheVariants as named
+use Rattle.imdf_forms.specs.declared.table.ReferenceTarget.TheVariants as named
 use Rattle.imdf_forms.specs.declared.table.PropertyRow.{PropertyRow}
 use Rattle.imdf_forms.specs.Files.{file_number}
 use Rattle.imdf_forms.specs.Properties.{properties}

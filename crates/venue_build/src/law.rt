@@ -5,7 +5,10 @@ ghost use Rattle.venue_types.specs.declared.files.Files.{Files};
 ghost use Rattle.venue_types.specs.declared.settings.Settings.{Settings};
 ghost use Rattle.venue_types.specs.declared.finding.Finding.{Finding};
 ghost use Rattle.venue_types.specs.declared.finding.Report.{Report};
+ghost use Rattle.plane_exact.specs.Figure.{AllClose};
+ghost use Rattle.sound_rows.specs.Figures.{judged_positions};
 ghost use Rattle.sound_rows.specs.Sound.{AreSound};
+ghost use Rattle.imdf_refs.specs.Laws.{OpeningsHaveLevels, UnitsHaveLevels, AnchorsHaveUnits, AmenitiesHaveUnits, OccupantsHaveAnchors};
 ghost use Rattle.imdf_refs.specs.Rules.{IsMisnamed};
 ghost use Rattle.ring_rules.specs.Rules.{BreaksSpread};
 ghost use Rattle.contain_rules.specs.Phases.{IsMisplaced};
@@ -14,6 +17,10 @@ ghost use Rattle.venue_build.specs.Built.{IsRejected, IsVenueOf};
 ghost use Rattle.venue_build.specs.Report.{IsLaterBroken};
 
 use crate::Venue;
+use imdf_refs::{
+    amenity_unit_law, anchor_unit_law, occupant_anchor_law, opening_level_law, unit_level_law,
+};
+use ring_rules::no_spread_law;
 use sound_reading::one_reading_law;
 
 /// The rows of a venue are sound, and under its settings no phase finds anything in them: each identifier stands for one
@@ -25,6 +32,25 @@ pub fn every_venue(venue: &Venue)
     ensures close { (x : Finding) → ¬ BreaksSpread venue.now.features x }
     ensures placed { (x : Finding) → ¬ IsMisplaced venue.now.features venue.now.settings.contain_tol x }
 {}
+
+/// What the features of a venue name is there: the level of each opening and unit, the unit of each anchor, the units of each
+/// amenity and the anchor of each occupant, each the only one of its identifier. And any two of its positions are close.
+pub fn every_name(venue: &Venue)
+    ensures openings { OpeningsHaveLevels venue.now.features }
+    ensures units { UnitsHaveLevels venue.now.features }
+    ensures anchors { AnchorsHaveUnits venue.now.features }
+    ensures amenities { AmenitiesHaveUnits venue.now.features }
+    ensures occupants { OccupantsHaveAnchors venue.now.features }
+    ensures close { AllClose (judged_positions venue.now.features) }
+{
+    every_venue(venue);
+    opening_level_law();
+    unit_level_law();
+    anchor_unit_law();
+    amenity_unit_law();
+    occupant_anchor_law();
+    no_spread_law();
+}
 
 /// Under the same settings no folder is both rejected and a venue, it is rejected with one report, and it makes one venue.
 pub fn one_outcome()

@@ -8,5 +8,5 @@ mod venue;
 
 pub use building::build;
 pub use built::Built;
-pub use law::{every_venue, one_outcome};
+pub use law::{every_name, every_venue, one_outcome};
 pub use venue::Venue;
