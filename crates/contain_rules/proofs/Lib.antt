@@ -1,4 +1,3 @@
-mod Planes
 mod Boxes
 mod Closeness
 mod Framing

@@ -1,3 +1,4 @@
 mod Outcomes
 mod Phases
 mod Venues
+mod Planes

@@ -9,7 +9,7 @@ use Rattle.sound_rows.specs.Sound.{AreSound}
 use Rattle.imdf_read.specs.Broken.{IsBroken}
 use Rattle.imdf_read.specs.Noted.{IsNoted}
 use Rattle.imdf_refs.specs.Rules.{IsMisnamed}
-use Rattle.contain_rules.specs.Phases.{IsPlaneBroken}
+use Rattle.venue_build.specs.Phases.{IsPlaneBroken}
 
 -- the phases after the first, which judge rows: identifiers and references, then positions on the plane
 abbrev pub IsLaterBroken : Features → Settings → Finding → Type 0

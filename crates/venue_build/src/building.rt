@@ -6,8 +6,8 @@ ghost use Rattle.report_laws.specs.Reports.{IsReport};
 ghost use Rattle.venue_build.specs.Report.{IsLaterBroken};
 ghost use Rattle.venue_build.specs.Built.{IsBuilt};
 
+use crate::plane::plane_findings;
 use crate::{Built, Venue};
-use contain_rules::plane_findings;
 use imdf_read::{ReadOut, read_folder};
 use imdf_refs::{own_ids_law, reference_findings};
 use report_laws::shortened;

@@ -4,6 +4,7 @@
 mod building;
 mod built;
 mod law;
+mod plane;
 mod venue;
 
 pub use building::build;

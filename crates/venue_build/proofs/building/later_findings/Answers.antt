@@ -4,7 +4,7 @@ use Rattle.report_laws.specs.Order.{finding_cmp}
 use Rattle.report_laws.specs.Reports.{IsReport}
 use Rattle.report_laws.proofs.Phases.{First-stops, First-goes_on}
 use Rattle.imdf_refs.specs.Rules.{IsMisnamed}
-use Rattle.contain_rules.specs.Phases.{IsPlaneBroken}
+use Rattle.venue_build.specs.Phases.{IsPlaneBroken}
 use Rattle.venue_build.proofs.Phases.{nothing, not_empty, empty}
 use Rattle.venue_build.proofs.building.later_findings.Goals as goal
 

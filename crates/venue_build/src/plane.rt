@@ -4,9 +4,9 @@ ghost use Rattle.std.specs.Prelude.{IfOk};
 ghost use Rattle.report_laws.specs.Reports.{IsReport};
 ghost use Rattle.sound_rows.specs.Rows.{HaveOwnIds};
 ghost use Rattle.sound_rows.specs.Sound.{AreSound};
-ghost use Rattle.contain_rules.specs.Phases.{IsPlaneBroken};
+ghost use Rattle.venue_build.specs.Phases.{IsPlaneBroken};
 
-use crate::holding::add_hold_findings;
+use contain_rules::add_hold_findings;
 use report_laws::in_order;
 use ring_rules::{SPREAD_RULE, add_ring_findings, is_spread};
 use std::alloc::Global;
@@ -23,7 +23,7 @@ const SPREAD: Finding = Finding {
 /// The third phase, and, where it has nothing, the fourth, over rows in which the phases before find nothing.
 ///
 /// The time is that of `add_ring_findings` and `add_hold_findings`, and n log n for n findings.
-pub fn plane_findings(
+pub(crate) fn plane_findings(
     alloc: Global,
     features: &Features,
     settings: &Settings,

@@ -11,7 +11,7 @@ use Rattle.report_laws.proofs.Passes.{Contains-found}
 use Rattle.report_laws.proofs.Phases.{Lists-same}
 use Rattle.ring_rules.specs.Rules.{IsSpread, BreaksSpread, BreaksInRing}
 use Rattle.contain_rules.specs.Rules.{BreaksHold}
-use Rattle.contain_rules.specs.Phases.{IsPlaneBroken}
+use Rattle.venue_build.specs.Phases.{IsPlaneBroken}
 
 abbrev pub spread_finding : Finding
 spread_finding = record { rule = 26; file = 0; index = 0; member = 0 }
