@@ -2,8 +2,10 @@
 
 ghost use Rattle.std.specs.Prelude.{◌≡◌, ℕ, ◌+◌, ◌*◌, ◌%◌, ℤ, pos, ◌+ℤ◌, ◌≤ℤ◌, ◌<ℤ◌, ◌↔◌, List, ◌∷◌, All, Contains};
 ghost use Rattle.venue_types.specs.declared.point.Point.{Point};
+ghost use Rattle.venue_types.specs.declared.point.Ring.{Ring};
+ghost use Rattle.venue_types.specs.declared.point.Shape.{Shape};
 ghost use Rattle.plane_exact.specs.Segment.{Crosses};
-ghost use Rattle.plane_exact.specs.Figure.{Edge, edges, edges_from, crossings, IsNearSome};
+ghost use Rattle.plane_exact.specs.Figure.{Edge, edges, edges_from, crossings, rings, vertices, IsInside, IsNearSome};
 ghost use Rattle.plane_bands.specs.Line.{last_from, slant, IsBetween, IsClosed, Direction, coordinate, stretch, HaveCommonPoint};
 
 /// A line whose points are all above a position, or none above it, or all to one side along a slant, meets the ray from it in
@@ -15,9 +17,11 @@ pub fn ray_law()
     ensures west { (k : ℤ) (p a : Point) (rest : List Point) → All (λ q. slant k p <ℤ slant k q) (a ∷ rest) → (crossings p (edges_from a rest) % 2 ≡ 1) ↔ IsBetween p a (last_from a rest) }
 {}
 
-/// A ring, all of whose points lie to the east of a position along a slant, meets the ray from it an even number of times.
+/// A ring, all of whose points lie to the east of a position along a slant, meets the ray from it an even number of times. So
+/// a position to the west of a shape of such rings is outside.
 pub fn even_ray_law()
-    ensures { (k : ℤ) (p : Point) (points : List Point) → IsClosed points → All (λ q. slant k p <ℤ slant k q) points → crossings p (edges points) % 2 ≡ 0 }
+    ensures ring { (k : ℤ) (p : Point) (points : List Point) → IsClosed points → All (λ q. slant k p <ℤ slant k q) points → crossings p (edges points) % 2 ≡ 0 }
+    ensures shape { (k : ℤ) (p : Point) (shape : Shape) → All (λ (r : Ring). IsClosed r.points) (rings shape) → All (λ q. slant k p <ℤ slant k q) (vertices shape) → ¬ IsInside p shape }
 {}
 
 /// A position near a line is near the range of the line's points in each direction.

@@ -199,6 +199,22 @@ fn drawn(alloc: Global, form: Form) -> Result<Vec<(i64, i64)>, AllocError> {
     Ok(list)
 }
 
+fn inside_at(shape: &Shape, bands: &Bands, p: (i64, i64)) -> bool
+    requires boxed { All IsInBox (vertices shape.now) }
+    requires same { bands.now ≡ shape.now }
+{
+    let _ = shape;
+    bands.inside(at(p))
+}
+
+fn near_at(shape: &Shape, bands: &Bands, p: (i64, i64), t: u32) -> bool
+    requires boxed { All IsInBox (vertices shape.now) }
+    requires same { bands.now ≡ shape.now }
+{
+    let _ = shape;
+    bands.near(at(p), u32::min(t, 1_000_000))
+}
+
 /// Whether the plain and the banded calls agree on a shape at the position.
 fn agree(shape: &Shape, bands: &Bands, p: (i64, i64)) -> bool
     requires boxed { All IsInBox (vertices shape.now) }
@@ -331,7 +347,7 @@ fn many_rings(rt: HostRuntime) -> Result<(), Fail> {
         ];
         for (p, want) in table {
             assert_eq!(rt;
-                bands.inside(at(p)),
+                inside_at(&many, &bands, p),
                 want != (open && p.0 < 50_000),
                 "{p:?}"
             );
@@ -358,12 +374,15 @@ fn many_rings(rt: HostRuntime) -> Result<(), Fail> {
         &[],
     )?;
     let bands = Bands::of(alloc, &wide)?;
-    assert!(rt; bands.inside(at((-FAR, -FAR))), "corner");
-    assert!(rt; !bands.inside(at((FAR, FAR))), "far corner");
-    assert!(rt; bands.near(at((FAR, FAR)), 0), "far corner");
-    assert!(rt; bands.near(at((FAR - 1_000_000, 0)), 1_000_000), "near");
+    assert!(rt; inside_at(&wide, &bands, (-FAR, -FAR)), "corner");
+    assert!(rt; !inside_at(&wide, &bands, (FAR, FAR)), "far corner");
+    assert!(rt; near_at(&wide, &bands, (FAR, FAR), 0), "far corner");
     assert!(rt;
-        !bands.near(at((FAR - 1_000_001, 0)), 1_000_000),
+        near_at(&wide, &bands, (FAR - 1_000_000, 0), 1_000_000),
+        "near"
+    );
+    assert!(rt;
+        !near_at(&wide, &bands, (FAR - 1_000_001, 0), 1_000_000),
         "not near"
     );
     Ok(())
