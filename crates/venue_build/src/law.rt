@@ -11,7 +11,7 @@ ghost use Rattle.sound_rows.specs.Sound.{AreSound};
 ghost use Rattle.imdf_refs.specs.Laws.{OpeningsHaveLevels, UnitsHaveLevels, AnchorsHaveUnits, AmenitiesHaveUnits, OccupantsHaveAnchors};
 ghost use Rattle.imdf_refs.specs.Rules.{IsMisnamed};
 ghost use Rattle.ring_rules.specs.Rules.{BreaksSpread};
-ghost use Rattle.contain_rules.specs.Phases.{IsMisplaced};
+ghost use Rattle.venue_build.specs.Phases.{IsMisplaced};
 ghost use Rattle.venue_build.specs.declared.venue.Venue.{Venue as TheVenue};
 ghost use Rattle.venue_build.specs.Built.{IsRejected, IsVenueOf};
 ghost use Rattle.venue_build.specs.Report.{IsLaterBroken};

@@ -1,6 +1,6 @@
 use Rattle.imdf_refs.specs.Rules.{IsMisnamed}
 use Rattle.ring_rules.specs.Rules.{BreaksSpread}
-use Rattle.contain_rules.specs.Phases.{IsMisplaced, IsPlaneBroken}
+use Rattle.venue_build.specs.Phases.{IsMisplaced, IsPlaneBroken}
 use Rattle.venue_build.proofs.Phases.{first_silent, second_silent}
 use Rattle.venue_build.proofs.law.every_venue.Goals as goal
 
