@@ -1,9 +1,9 @@
 //! What it is to be the report of a predicate on places: these findings, each once, in this order, and no others.
 //!
 //! A phase of rules is a predicate `IsBroken : Finding → Type 0` of the layer above, and its promise is
-//! `IsReport IsBroken findings`; phases chain by `First`. `add` gathers what tests find, in words such as
-//! `found` and `over`, and `in_order` makes the report of what was gathered. `proofs.Finds` puts together what a
-//! gathering finds from what its parts find, and `Lists-gathered` there makes of that the phase's promise.
+//! `IsReport IsBroken findings`; phases chain by `First`. `add` gathers what tests find, each pass says with `Adds`
+//! what it adds to what was gathered before it, and `in_order` makes the report of what was gathered. `proofs.Adding`
+//! says what a test adds, one pass after another, and a loop over items.
 #![tactic(auto)]
 
 mod gathering;
