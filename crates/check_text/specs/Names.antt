@@ -1,6 +1,6 @@
 -- The printed names of rules, notes and files, by their numbers.
 use Rattle.std.specs.Prelude.{ℕ, List, [], ◌∷◌, ◌++◌, map, slice_get, unwrap_or, codes}
-use Rattle.imdf_forms.specs.Files.{type_name, feature_files}
+use Rattle.imdf_schema.specs.Files.{type_name, feature_files}
 
 -- what is printed for a number that has no name
 abbrev pub no_name : List ℕ

@@ -5,7 +5,7 @@ use Rattle.std.specs.Fmt.{decimal}
 use Rattle.venue_types.specs.declared.finding.Finding.{Finding}
 use Rattle.venue_types.specs.declared.finding.Note.{Note}
 use Rattle.venue_types.specs.declared.finding.Report.{Report}
-use Rattle.text_forms.specs.Lines.{line, word}
+use Rattle.line_forms.specs.Lines.{line, word}
 use Rattle.check_text.specs.Names.{rule_name, note_name, file_name}
 
 -- the line of a place: what it is, by which rule or note, in which file, at which index and member

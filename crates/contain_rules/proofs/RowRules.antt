@@ -11,7 +11,7 @@ use Rattle.venue_types.specs.declared.features.UnitRow.{UnitRow}
 use Rattle.venue_types.specs.declared.point.Point.{Point}
 use Rattle.plane_exact.specs.Figure.{vertices}
 use Rattle.contain_rules.specs.Rules.{IsHeld, UnitLeaves, AnchorLeaves, AmenityLeaves, OpeningLeaves}
-use Rattle.sound_rows.specs.Indexes.{IsOnlyRow}
+use Rattle.feature_rows.specs.Indexes.{IsOnlyRow}
 use Rattle.contain_rules.specs.Judging.{SomeLeaves, UnitHolds, OneHolds}
 use Rattle.contain_rules.proofs.Lists.{any_item, item_any}
 

@@ -6,13 +6,13 @@ use Rattle.venue_types.specs.declared.features.UnitRow.{UnitRow}
 use Rattle.venue_types.specs.declared.finding.Finding.{Finding}
 use Rattle.venue_types.specs.declared.point.Point.{Point}
 use Rattle.venue_types.specs.declared.point.Shape.{Shape}
-use Rattle.imdf_forms.specs.Files.{file_number}
-use Rattle.sound_rows.specs.Figures.{judged_positions}
+use Rattle.imdf_schema.specs.Files.{file_number}
+use Rattle.feature_rows.specs.Figures.{judged_positions}
 use Rattle.plane_exact.specs.Figure.{AllClose, vertices}
 use Rattle.contain_rules.specs.declared.rules.HoldRule.{HoldRule}
 use Rattle.contain_rules.specs.declared.holders.Holders.{Holders}
 use Rattle.contain_rules.specs.Holders.{AreHolders}
-use Rattle.sound_rows.specs.Named.{IsUnit}
+use Rattle.feature_rows.specs.Named.{IsUnit}
 use Rattle.contain_rules.specs.Rules.{IsHeld, hold_rule_number, file_judged}
 
 -- each of the positions is close to the shape

@@ -4,7 +4,7 @@ ghost use Rattle.std.specs.Prelude.{◌≡◌, ◌↔◌, pos, ◌+ℤ◌, ◌<�
 ghost use Rattle.plane_exact.specs.Figure.{ring_points, part_points};
 ghost use Rattle.contain_rules.specs.Frames.{IsBeyond, IsPast, Grows, IsFramed, AreFramed};
 
-use sound_rows::HasShape;
+use feature_rows::HasShape;
 use std::alloc::Global;
 use venue_types::{OutOfMemory, Part, Point, Ring, Shape};
 

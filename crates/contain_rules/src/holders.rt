@@ -1,13 +1,13 @@
 //! What holds others: levels and units by identifier, with the frames of their shapes.
 
 ghost use Rattle.std.specs.Prelude.{◌≢◌, IfOk, MatchOption, Contains, map};
-ghost use Rattle.sound_rows.specs.Rows.{HaveOwnIds};
-ghost use Rattle.sound_rows.specs.Indexes.{AreOnce, IsOnlyRow};
+ghost use Rattle.feature_rows.specs.Rows.{HaveOwnIds};
+ghost use Rattle.feature_rows.specs.Indexes.{AreOnce, IsOnlyRow};
 ghost use Rattle.contain_rules.specs.Frames.{IsFramed};
 ghost use Rattle.contain_rules.specs.Holders.{IsShapeIndex, AreHolders};
 
 use crate::frame::{Frame, frames_of};
-use sound_rows::{HasId, HasShape, Index, once_law, row_law};
+use feature_rows::{HasId, HasShape, Index, once_law, row_law};
 use std::alloc::Global;
 use venue_types::{FeatureId, Features, List, OutOfMemory};
 

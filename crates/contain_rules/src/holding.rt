@@ -2,9 +2,9 @@
 
 ghost use Rattle.std.specs.Prelude.{OnOk, ◌≤◌, length};
 ghost use Rattle.report_laws.specs.Passes.{Adds};
-ghost use Rattle.sound_rows.specs.Rows.{HaveOwnIds};
-ghost use Rattle.sound_rows.specs.Sound.{AreSound};
-ghost use Rattle.sound_rows.specs.Figures.{judged_positions};
+ghost use Rattle.feature_rows.specs.Rows.{HaveOwnIds};
+ghost use Rattle.feature_rows.specs.Sound.{AreSound};
+ghost use Rattle.feature_rows.specs.Figures.{judged_positions};
 ghost use Rattle.plane_exact.specs.Figure.{AllClose};
 ghost use Rattle.contain_rules.specs.Rules.{BreaksHold};
 ghost use Rattle.contain_rules.specs.Judging.{BreaksIn, CanJudge};

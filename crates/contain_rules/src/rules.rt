@@ -4,7 +4,7 @@ ghost use Rattle.std.specs.Prelude.{◌≡◌, ◌≤◌};
 ghost use Rattle.contain_rules.specs.Rules.{hold_rule_number, file_judged};
 ghost use Rattle.contain_rules.specs.Judging.{hold_finding};
 
-use imdf_forms::File;
+use imdf_schema::File;
 use venue_types::Finding;
 
 /// A rule on a feature and what is to hold it.

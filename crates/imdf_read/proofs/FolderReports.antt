@@ -13,10 +13,10 @@ use Rattle.report_laws.specs.Reports.{IsReport, IsNoteList}
 use Rattle.report_laws.proofs.Phases.{Lists-same}
 use Rattle.report_laws.proofs.Members.{Contains-nil}
 use Rattle.report_laws.specs.Order.{finding_cmp, note_cmp}
-use Rattle.imdf_forms.specs.declared.files.File.{File}
-use Rattle.imdf_forms.specs.declared.files.File.TheVariants as file
-use Rattle.imdf_forms.specs.Files.{file_number, feature_files}
-use Rattle.imdf_forms.specs.Contents.{IsContent, content_items}
+use Rattle.imdf_schema.specs.declared.files.File.{File}
+use Rattle.imdf_schema.specs.declared.files.File.TheVariants as file
+use Rattle.imdf_schema.specs.Files.{file_number, feature_files}
+use Rattle.imdf_schema.specs.Contents.{IsContent, content_items}
 use Rattle.imdf_rows.specs.Folder.{AreRows, AreFeatures}
 use Rattle.imdf_read.specs.declared.rules.Rule.{Rule}
 use Rattle.imdf_read.specs.declared.rules.Rule.TheVariants.{F1, F2, F3, F4, M1, M2, M3, C1, C2, C3, C4, C5, C6, V1, L1, Q1, S1, S2, S3, S4, G1, G2}
@@ -31,7 +31,7 @@ use Rattle.report_laws.specs.Passes.{Adds}
 use Rattle.imdf_read.specs.Gathering.{finding_at, note_at, FindsInFile}
 use Rattle.imdf_read.specs.Progress.{FoundUpTo, NotedUpTo, CountsUpTo, IsUpTo, HasRows, HaveRows}
 use Rattle.report_laws.proofs.Adding.{Adds-then}
-use Rattle.imdf_forms.proofs.FileNumbers.{up_to_16}
+use Rattle.imdf_schema.proofs.FileNumbers.{up_to_16}
 use Rattle.imdf_read.proofs.Folders.{finds_at}
 
 at_most_16 : (f : File) → file_number f ≤ 16

@@ -11,11 +11,11 @@ use Rattle.report_laws.proofs.Adding.{Below}
 use Rattle.venue_types.specs.declared.finding.Finding.{Finding}
 use Rattle.venue_types.specs.declared.finding.Note.{Note}
 use Rattle.exact_json.specs.Json.{Json}
-use Rattle.imdf_forms.specs.declared.files.File.{File}
-use Rattle.imdf_forms.specs.declared.files.Geometry.{Geometry}
-use Rattle.imdf_forms.specs.declared.files.Geometry.TheVariants as kind
-use Rattle.imdf_forms.specs.Files.{geometry_of}
-use Rattle.imdf_forms.specs.Items.{is_feature, geometry, fits_geometry}
+use Rattle.imdf_schema.specs.declared.files.File.{File}
+use Rattle.imdf_schema.specs.declared.files.Geometry.{Geometry}
+use Rattle.imdf_schema.specs.declared.files.Geometry.TheVariants as kind
+use Rattle.imdf_schema.specs.Files.{geometry_of}
+use Rattle.imdf_schema.specs.Items.{is_feature, geometry, fits_geometry}
 use Rattle.imdf_rows.specs.declared.figure.Figure.{Figure}
 use Rattle.imdf_rows.specs.Figures.{HasFigure}
 use Rattle.imdf_read.specs.declared.rules.Rule.TheVariants.{C2, C5, G1, G2}

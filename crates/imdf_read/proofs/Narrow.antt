@@ -6,13 +6,13 @@ use Rattle.std.proofs.lemmas.List.{length-map}
 use Rattle.exact_json.specs.Json.{Json, null, boolean, number, text, items, object, Items, no_items, item, Members, no_pairs, pair, items_list, last_member, first_of_two, member, members_list, IsNarrow, AreNarrow, HasNarrow, HasTexts, ItemsHaveTexts, MembersHaveTexts}
 use Rattle.exact_json.specs.View.{tree_view}
 use Rattle.exact_json.specs.declared.tree.Tree.{Tree}
-use Rattle.imdf_forms.specs.declared.forms.Form.{Form}
-use Rattle.imdf_forms.specs.declared.forms.Form.TheVariants as form
-use Rattle.imdf_forms.specs.Values.{listed}
-use Rattle.imdf_forms.specs.Forms.{items_of}
-use Rattle.imdf_forms.specs.Items.{property}
-use Rattle.imdf_forms.specs.Properties.{property_name}
-use Rattle.imdf_forms.specs.declared.table.Property.{Property}
+use Rattle.imdf_schema.specs.declared.forms.Form.{Form}
+use Rattle.imdf_schema.specs.declared.forms.Form.TheVariants as form
+use Rattle.imdf_schema.specs.Values.{listed}
+use Rattle.imdf_schema.specs.Forms.{items_of}
+use Rattle.imdf_schema.specs.Items.{property}
+use Rattle.imdf_schema.specs.Properties.{property_name}
+use Rattle.imdf_schema.specs.declared.table.Property.{Property}
 
 le_through : (a b c : ℕ) → a ≤ b → b ≤ c → a ≤ c
 le_through a b c p q = omega arith

@@ -3,8 +3,8 @@ use Rattle.std.proofs.Common.{◌≡◌, ◌∙◌, ℕ, List, [], ◌∷◌, Bo
 use Rattle.std.specs.Prelude.{Contains}
 use Rattle.venue_types.specs.declared.finding.Note.{Note}
 use Rattle.exact_json.specs.Json.{Json}
-use Rattle.imdf_forms.specs.declared.files.File.{File}
-use Rattle.imdf_forms.specs.Items.{is_feature}
+use Rattle.imdf_schema.specs.declared.files.File.{File}
+use Rattle.imdf_schema.specs.Items.{is_feature}
 use Rattle.imdf_read.specs.declared.rules.NoteKind.{NoteKind}
 use Rattle.imdf_read.specs.declared.rules.NoteKind.TheVariants.{N1, N2, N5}
 use Rattle.imdf_read.specs.Noted.{ItemNotes}

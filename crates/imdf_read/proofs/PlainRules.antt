@@ -3,9 +3,9 @@ use Rattle.std.proofs.Common.{◌≡◌, ◌∙◌, ℕ, ℤ, ◌+◌, ◌<◌, 
 use Rattle.std.specs.List.{list_all}
 use Rattle.venue_types.specs.declared.finding.Finding.{Finding}
 use Rattle.exact_json.specs.Json.{Json}
-use Rattle.imdf_forms.specs.declared.files.File.{File}
-use Rattle.imdf_forms.specs.declared.files.File.TheVariants as file
-use Rattle.imdf_forms.specs.Items.{is_feature, unlisted_property}
+use Rattle.imdf_schema.specs.declared.files.File.{File}
+use Rattle.imdf_schema.specs.declared.files.File.TheVariants as file
+use Rattle.imdf_schema.specs.Items.{is_feature, unlisted_property}
 use Rattle.imdf_rows.specs.Fields.{IsOrdinal}
 use Rattle.imdf_read.specs.declared.rules.Rule.{Rule}
 use Rattle.imdf_read.specs.declared.rules.Rule.TheVariants.{F1, F2, F3, F4, M1, M2, M3, C1, C2, C3, C4, C5, C6, V1, L1, Q1, S1, S2, S3, S4, G1, G2}

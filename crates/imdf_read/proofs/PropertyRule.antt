@@ -3,11 +3,11 @@ use Rattle.std.proofs.Common.{◌≡◌, ◌∙◌, ℕ, ◌+◌, ◌*◌, List,
 use Rattle.std.specs.Prelude.{slice_get}
 use Rattle.venue_types.specs.declared.finding.Finding.{Finding}
 use Rattle.exact_json.specs.Json.{Json}
-use Rattle.imdf_forms.specs.declared.files.File.{File}
-use Rattle.imdf_forms.specs.declared.table.PropertyRow.{PropertyRow}
-use Rattle.imdf_forms.specs.Properties.{property_number}
-use Rattle.imdf_forms.specs.Forms.{Fits, items_of, item_fits}
-use Rattle.imdf_forms.specs.Items.{property}
+use Rattle.imdf_schema.specs.declared.files.File.{File}
+use Rattle.imdf_schema.specs.declared.table.PropertyRow.{PropertyRow}
+use Rattle.imdf_schema.specs.Properties.{property_number}
+use Rattle.imdf_schema.specs.Forms.{Fits, items_of, item_fits}
+use Rattle.imdf_schema.specs.Items.{property}
 use Rattle.imdf_read.specs.declared.rules.Rule.TheVariants.{C6}
 use Rattle.report_laws.specs.Passes.{Adds}
 use Rattle.imdf_read.specs.Gathering.{finding_at, FindsBadItem, FindsMisformed, FindsMisformedOf}

@@ -7,17 +7,17 @@ use Rattle.venue_types.specs.declared.files.Files.{Files}
 use Rattle.venue_types.specs.declared.files.Slot.{Slot}
 use Rattle.venue_types.specs.declared.files.Slot.TheVariants.{Absent}
 use Rattle.venue_types.specs.declared.finding.Finding.{Finding}
-use Rattle.imdf_forms.specs.declared.files.File.{File}
-use Rattle.imdf_forms.specs.declared.files.File.TheVariants as file
-use Rattle.imdf_forms.specs.declared.files.Geometry.{Geometry}
-use Rattle.imdf_forms.specs.declared.files.Geometry.TheVariants as kind
-use Rattle.imdf_forms.specs.declared.table.PropertyRow.{PropertyRow}
-use Rattle.imdf_forms.specs.Files.{file_number, type_name, geometry_of, feature_files}
-use Rattle.imdf_forms.specs.Values.{is_null, is_object, is_text, is_word, is_id}
-use Rattle.imdf_forms.specs.Properties.{properties, property_number}
-use Rattle.imdf_forms.specs.Forms.{Fits, items_of, item_fits}
-use Rattle.imdf_forms.specs.Items.{is_collection, is_feature, items_in, geometry, property, unlisted_property, fits_geometry}
-use Rattle.imdf_forms.specs.Contents.{IsLarge, IsNoText, IsDeep, HasValue, IsSlotOf, HasContent, content_items}
+use Rattle.imdf_schema.specs.declared.files.File.{File}
+use Rattle.imdf_schema.specs.declared.files.File.TheVariants as file
+use Rattle.imdf_schema.specs.declared.files.Geometry.{Geometry}
+use Rattle.imdf_schema.specs.declared.files.Geometry.TheVariants as kind
+use Rattle.imdf_schema.specs.declared.table.PropertyRow.{PropertyRow}
+use Rattle.imdf_schema.specs.Files.{file_number, type_name, geometry_of, feature_files}
+use Rattle.imdf_schema.specs.Values.{is_null, is_object, is_text, is_word, is_id}
+use Rattle.imdf_schema.specs.Properties.{properties, property_number}
+use Rattle.imdf_schema.specs.Forms.{Fits, items_of, item_fits}
+use Rattle.imdf_schema.specs.Items.{is_collection, is_feature, items_in, geometry, property, unlisted_property, fits_geometry}
+use Rattle.imdf_schema.specs.Contents.{IsLarge, IsNoText, IsDeep, HasValue, IsSlotOf, HasContent, content_items}
 use Rattle.imdf_rows.specs.Fields.{IsOrdinal}
 use Rattle.imdf_read.specs.declared.rules.Rule.{Rule}
 use Rattle.imdf_read.specs.declared.rules.Rule.TheVariants.{F1, F2, F3, F4, M1, M2, M3, C1, C2, C3, C4, C5, C6, V1, L1, Q1, S1, S2, S3, S4, G1, G2}

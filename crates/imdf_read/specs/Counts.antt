@@ -4,15 +4,15 @@ use Rattle.std.specs.List.{AllZip}
 use Rattle.exact_json.specs.Json.{Json}
 use Rattle.geo_shapes.specs.Geometry.{point_places, line_places, shape_places, ring_places, longest_of}
 use Rattle.venue_types.specs.declared.files.Files.{Files}
-use Rattle.imdf_forms.specs.declared.files.File.{File}
-use Rattle.imdf_forms.specs.declared.files.Geometry.{Geometry}
-use Rattle.imdf_forms.specs.declared.files.Geometry.TheVariants as kind
-use Rattle.imdf_forms.specs.declared.table.Property.TheVariants as property
-use Rattle.imdf_forms.specs.Files.{geometry_of}
-use Rattle.imdf_forms.specs.Values.{is_null, listed}
-use Rattle.imdf_forms.specs.Items.{is_collection, is_feature, items_in, geometry, fits_geometry}
-use Rattle.imdf_forms.specs.Items as item
-use Rattle.imdf_forms.specs.Contents.{IsContent, content_items}
+use Rattle.imdf_schema.specs.declared.files.File.{File}
+use Rattle.imdf_schema.specs.declared.files.Geometry.{Geometry}
+use Rattle.imdf_schema.specs.declared.files.Geometry.TheVariants as kind
+use Rattle.imdf_schema.specs.declared.table.Property.TheVariants as property
+use Rattle.imdf_schema.specs.Files.{geometry_of}
+use Rattle.imdf_schema.specs.Values.{is_null, listed}
+use Rattle.imdf_schema.specs.Items.{is_collection, is_feature, items_in, geometry, fits_geometry}
+use Rattle.imdf_schema.specs.Items as item
+use Rattle.imdf_schema.specs.Contents.{IsContent, content_items}
 
 -- what stands in the place of a position in a geometry of this kind
 abbrev pub places_of : Geometry → Json → List Json

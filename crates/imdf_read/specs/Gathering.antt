@@ -4,13 +4,13 @@ use Rattle.exact_json.specs.Json.{Json, IsNarrow}
 use Rattle.venue_types.specs.declared.files.Slot.{Slot}
 use Rattle.venue_types.specs.declared.finding.Finding.{Finding}
 use Rattle.venue_types.specs.declared.finding.Note.{Note}
-use Rattle.imdf_forms.specs.declared.files.File.{File}
-use Rattle.imdf_forms.specs.declared.table.PropertyRow.{PropertyRow}
-use Rattle.imdf_forms.specs.Files.{file_number}
-use Rattle.imdf_forms.specs.Properties.{property_number}
-use Rattle.imdf_forms.specs.Forms.{item_fits}
-use Rattle.imdf_forms.specs.Items.{is_feature, property}
-use Rattle.imdf_forms.specs.Contents.{IsContent, content_items}
+use Rattle.imdf_schema.specs.declared.files.File.{File}
+use Rattle.imdf_schema.specs.declared.table.PropertyRow.{PropertyRow}
+use Rattle.imdf_schema.specs.Files.{file_number}
+use Rattle.imdf_schema.specs.Properties.{property_number}
+use Rattle.imdf_schema.specs.Forms.{item_fits}
+use Rattle.imdf_schema.specs.Items.{is_feature, property}
+use Rattle.imdf_schema.specs.Contents.{IsContent, content_items}
 use Rattle.imdf_read.specs.declared.rules.Rule.{Rule}
 use Rattle.imdf_read.specs.declared.rules.Rule.TheVariants.{C3, C4, C5, C6, L1, Q1, S3, S4, G1, G2}
 use Rattle.imdf_read.specs.declared.rules.NoteKind.{NoteKind}

@@ -2,11 +2,11 @@
 use Rattle.std.specs.Prelude.{◌≡◌, ◌^◌, ◌-◌, true, false, IsTrue, ◌↔◌, min, length}
 use Rattle.exact_json.specs.Json.{Json}
 use Rattle.geo_shapes.specs.Position.{BreaksPositions}
-use Rattle.imdf_forms.specs.declared.files.File.{File}
-use Rattle.imdf_forms.specs.declared.files.Geometry.{Geometry}
-use Rattle.imdf_forms.specs.declared.files.Geometry.TheVariants as kind
-use Rattle.imdf_forms.specs.Files.{geometry_of}
-use Rattle.imdf_forms.specs.Items.{geometry}
+use Rattle.imdf_schema.specs.declared.files.File.{File}
+use Rattle.imdf_schema.specs.declared.files.Geometry.{Geometry}
+use Rattle.imdf_schema.specs.declared.files.Geometry.TheVariants as kind
+use Rattle.imdf_schema.specs.Files.{geometry_of}
+use Rattle.imdf_schema.specs.Items.{geometry}
 use Rattle.imdf_rows.specs.declared.figure.Figure.{Figure}
 use Rattle.imdf_rows.specs.Figures.{HasPointFigure, HasLineFigure, HasShapeFigure}
 use Rattle.imdf_read.specs.declared.figures.Judged.{Judged}

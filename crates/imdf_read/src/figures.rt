@@ -2,13 +2,13 @@
 
 ghost use Rattle.std.specs.Prelude.{◌≡◌, IfOk, true, false, [], min, length, IfSome, IsSome, IsTrue, ◌↔◌};
 ghost use Rattle.exact_json.specs.View.{tree_view};
-ghost use Rattle.imdf_forms.specs.Items.{geometry as geometry_of_item};
+ghost use Rattle.imdf_schema.specs.Items.{geometry as geometry_of_item};
 ghost use Rattle.imdf_read.specs.Judging.{IsRead, IsJudged};
 
 use exact_json::Tree;
 use geo_shapes::{ReadGeometry, line, point, shape};
-use imdf_forms::{File, Geometry, fits_geometry, geometry, is_feature};
 use imdf_rows::Figure;
+use imdf_schema::{File, Geometry, fits_geometry, geometry, is_feature};
 use std::alloc::Global;
 use venue_types::{Line, OutOfMemory, Point, Shape};
 

@@ -9,7 +9,7 @@ use crate::progress::{Progress, read_manifest};
 use crate::read_out::ReadOut;
 use crate::rows::read_rows;
 use crate::rules::Rule;
-use imdf_forms::File;
+use imdf_schema::File;
 use report_laws::{add, in_order, notes_in_order};
 use std::alloc::Global;
 use venue_types::{Files, OutOfMemory};

@@ -2,7 +2,7 @@
 
 ghost use Rattle.std.specs.Prelude.{◌≡◌, OnOk, IfOk, true, nat_lt};
 ghost use Rattle.exact_json.specs.View.{tree_view};
-ghost use Rattle.imdf_forms.specs.Items.{is_feature as feature_is};
+ghost use Rattle.imdf_schema.specs.Items.{is_feature as feature_is};
 ghost use Rattle.report_laws.specs.Passes.{Adds};
 ghost use Rattle.imdf_read.specs.Gathering.{FindsRule, FindsInGeometry, FindsInItem, IsShort};
 ghost use Rattle.imdf_read.specs.Judging.{IsJudged};
@@ -13,7 +13,7 @@ use crate::plain_rules::judge_plain;
 use crate::property_rule::judge_properties;
 use crate::rules::Rule;
 use exact_json::Tree;
-use imdf_forms::is_feature;
+use imdf_schema::is_feature;
 use report_laws::add;
 use std::alloc::Global;
 use venue_types::{Finding, OutOfMemory};

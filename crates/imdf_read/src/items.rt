@@ -5,7 +5,7 @@ ghost use Rattle.std.specs.List.{AllZip};
 ghost use Rattle.exact_json.specs.Json.{Json, HasTexts};
 ghost use Rattle.exact_json.specs.View.{tree_view};
 ghost use Rattle.venue_types.specs.declared.finding.Finding.{Finding as AFinding};
-ghost use Rattle.imdf_forms.specs.Files.{geometry_of};
+ghost use Rattle.imdf_schema.specs.Files.{geometry_of};
 ghost use Rattle.imdf_read.specs.Counts.{item_positions};
 ghost use Rattle.report_laws.specs.Passes.{Adds};
 ghost use Rattle.imdf_read.specs.Gathering.{FindsInItem, FindsInItems, NotesInItem, NotesInItems, IsShort};
@@ -16,8 +16,8 @@ use crate::item::judge_item;
 use crate::note_rules::judge_notes;
 use crate::place::Place;
 use exact_json::Tree;
-use imdf_forms::File;
 use imdf_rows::{FeatureRow, push_row};
+use imdf_schema::File;
 use std::alloc::Global;
 use venue_types::{Finding, Note, OutOfMemory};
 

@@ -3,7 +3,7 @@
 ghost use Rattle.std.specs.Prelude.{◌≡◌, ◌&&◌, ◌||◌, not, true, OnOk, codes};
 ghost use Rattle.exact_json.specs.Json.{member as member_of};
 ghost use Rattle.exact_json.specs.View.{tree_view};
-ghost use Rattle.imdf_forms.specs.Values as values;
+ghost use Rattle.imdf_schema.specs.Values as values;
 ghost use Rattle.venue_types.specs.declared.files.Slot.{Slot as ASlot};
 ghost use Rattle.venue_types.specs.declared.files.Slot.TheVariants.{Absent};
 ghost use Rattle.report_laws.specs.Passes.{Adds};
@@ -13,7 +13,7 @@ ghost use Rattle.imdf_read.specs.Taking.{HasOnlyValue, HasFault};
 use crate::file::{MAX_BYTES, whole};
 use crate::rules::Rule;
 use exact_json::{JsonFault, Tree, read};
-use imdf_forms::{File, is_null, is_object, is_text, is_word, member};
+use imdf_schema::{File, is_null, is_object, is_text, is_word, member};
 use report_laws::add;
 use std::alloc::Global;
 use venue_types::{Finding, OutOfMemory, Slot};

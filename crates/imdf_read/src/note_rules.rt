@@ -4,7 +4,7 @@ ghost use Rattle.std.specs.Prelude.{◌≡◌, ◌≢◌, ◌↔◌, IsTrue, OnO
 ghost use Rattle.exact_json.specs.Json.{text_bytes};
 ghost use Rattle.exact_json.specs.View.{tree_view};
 ghost use Rattle.imdf_access.specs.Categories.{is_known_unit, passage_of};
-ghost use Rattle.imdf_forms.specs.Values.{seen};
+ghost use Rattle.imdf_schema.specs.Values.{seen};
 ghost use Rattle.imdf_read.specs.Noted.{ItemNotes};
 ghost use Rattle.report_laws.specs.Passes.{Adds};
 ghost use Rattle.imdf_read.specs.Gathering.{NotesBy, NotesInItem};
@@ -13,7 +13,7 @@ use crate::place::Place;
 use crate::rules::NoteKind;
 use exact_json::Tree;
 use imdf_access::{known_unit, passage};
-use imdf_forms::{File, Property, is_feature, property, text};
+use imdf_schema::{File, Property, is_feature, property, text};
 use report_laws::add;
 use venue_types::{Note, OutOfMemory};
 

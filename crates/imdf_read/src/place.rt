@@ -4,7 +4,7 @@ ghost use Rattle.std.specs.Prelude.{◌≡◌};
 ghost use Rattle.imdf_read.specs.Gathering.{finding_at, note_at};
 
 use crate::rules::{NoteKind, Rule};
-use imdf_forms::File;
+use imdf_schema::File;
 use venue_types::{Finding, Note};
 
 /// An item's file, and its index in the list of features.

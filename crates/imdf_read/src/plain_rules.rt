@@ -3,8 +3,8 @@
 ghost use Rattle.std.specs.Prelude.{◌≡◌, ◌↔◌, ◌≤◌, ◌^◌, IsTrue, OnOk, true, not, ◌||◌, map, sum_by, length, ℤ, codes};
 ghost use Rattle.std.specs.List.{list_all};
 ghost use Rattle.exact_json.specs.View.{tree_view};
-ghost use Rattle.imdf_forms.specs.Items.{is_feature};
-ghost use Rattle.imdf_forms.specs.Values.{seen, is_word as word_is};
+ghost use Rattle.imdf_schema.specs.Items.{is_feature};
+ghost use Rattle.imdf_schema.specs.Values.{seen, is_word as word_is};
 ghost use Rattle.imdf_rows.specs.Fields.{IsOrdinal};
 ghost use Rattle.imdf_read.specs.Counts.{one_unless_null as one_of, elements as elements_of};
 ghost use Rattle.imdf_read.specs.Broken.{ItemBreaks};
@@ -14,11 +14,11 @@ ghost use Rattle.imdf_read.specs.Gathering.{FindsBy, IsShort, is_plain, plain_ru
 use crate::place::Place;
 use crate::rules::Rule;
 use exact_json::Tree;
-use imdf_forms::{
+use imdf_rows::ordinal;
+use imdf_schema::{
     File, Property, fits_geometry, geometry, is_id, is_null, is_word, list, member, property,
     unlisted_property,
 };
-use imdf_rows::ordinal;
 use report_laws::add;
 use venue_types::{Finding, OutOfMemory};
 

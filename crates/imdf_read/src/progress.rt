@@ -1,15 +1,15 @@
 //! One file after another.
 
 ghost use Rattle.std.specs.Prelude.{◌≡◌, ◌≢◌, ◌+◌, ℕ, OnOk, IfOk, Some, length, slice_get};
-ghost use Rattle.imdf_forms.specs.Files.{file_number, geometry_of};
+ghost use Rattle.imdf_schema.specs.Files.{file_number, geometry_of};
 ghost use Rattle.imdf_read.specs.Progress.{IsUpTo, HasRows};
 ghost use Rattle.imdf_read.specs.Taking.{Serves};
 
 use crate::file::read_file;
 use crate::items::{Gathered, Taken};
 use crate::manifest::judge_manifest;
-use imdf_forms::File;
 use imdf_rows::FeatureRow;
+use imdf_schema::File;
 use std::alloc::Global;
 use venue_types::{List, OutOfMemory, Slot};
 

@@ -2,14 +2,14 @@
 
 ghost use Rattle.std.specs.Prelude.{◌≡◌, ◌≤◌, ◌^◌, OnOk, map, length};
 ghost use Rattle.exact_json.specs.View.{tree_view};
-ghost use Rattle.imdf_forms.specs.Properties.{properties};
+ghost use Rattle.imdf_schema.specs.Properties.{properties};
 ghost use Rattle.report_laws.specs.Passes.{Adds};
 ghost use Rattle.imdf_read.specs.Gathering.{FindsBadItem, FindsMisformed, FindsMisformedOf, IsShort};
 
 use crate::place::Place;
 use crate::rules::Rule;
 use exact_json::Tree;
-use imdf_forms::{PropertyRow, fits, item_fits, list_of, properties, property};
+use imdf_schema::{PropertyRow, fits, item_fits, list_of, properties, property};
 use report_laws::add;
 use std::alloc::Global;
 use venue_types::{Finding, OutOfMemory};

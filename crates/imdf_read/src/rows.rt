@@ -2,11 +2,11 @@
 
 ghost use Rattle.std.specs.Prelude.{◌≡◌, OnOk, IfOk, length};
 ghost use Rattle.imdf_rows.specs.Rows.{IsAmenityRow, IsAnchorRow, IsBuildingRow, IsDetailRow, IsFixtureRow, IsFootprintRow, IsKioskRow, IsLevelRow, IsOccupantRow, IsOpeningRow, IsPlainRow, IsRelationshipRow, IsUnitRow, IsVenueRow};
-ghost use Rattle.imdf_forms.specs.declared.files.File.TheVariants as file;
+ghost use Rattle.imdf_schema.specs.declared.files.File.TheVariants as file;
 ghost use Rattle.imdf_read.specs.Progress.{IsUpTo, HasRows, HaveRows};
 
 use crate::progress::{Progress, read_next_file};
-use imdf_forms::File;
+use imdf_schema::File;
 use std::alloc::Global;
 use venue_types::{
     AmenityRow, AnchorRow, BuildingRow, DetailRow, Features, FixtureRow, FootprintRow, KioskRow,

@@ -3,7 +3,7 @@ use Rattle.std.proofs.Common.{◌≡◌, ℕ, List, Bool, true, not, ◌&&◌, �
 use Rattle.venue_types.specs.declared.feature_id.FeatureId.{FeatureId}
 use Rattle.venue_types.specs.declared.features.Features.{Features}
 use Rattle.venue_types.specs.declared.finding.Finding.{Finding}
-use Rattle.imdf_forms.specs.declared.table.PropertyRow.{PropertyRow}
+use Rattle.imdf_schema.specs.declared.table.PropertyRow.{PropertyRow}
 use Rattle.report_laws.specs.Passes.{Adds, found}
 use Rattle.report_laws.proofs.Adding.{Adds-same, Adds-found, Adds-then, Among, at_member, member_at}
 use Rattle.imdf_refs.specs.declared.known.Known.{Known}

@@ -3,10 +3,10 @@ use Rattle.std.proofs.Common.{◌≡◌, ◌∙◌, ℕ, ◌+◌, ◌<◌, ◌�
 use Rattle.std.specs.Prelude.{slice_get}
 use Rattle.venue_types.specs.declared.feature_id.FeatureId.{FeatureId}
 use Rattle.venue_types.specs.declared.features.Features.{Features}
-use Rattle.imdf_forms.specs.declared.files.File.{File}
-use Rattle.imdf_forms.specs.declared.files.File.TheVariants as file
-use Rattle.imdf_forms.specs.Files.{file_number, feature_files}
-use Rattle.sound_rows.specs.Rows.{ids_of, IsFeature, feature_count}
+use Rattle.imdf_schema.specs.declared.files.File.{File}
+use Rattle.imdf_schema.specs.declared.files.File.TheVariants as file
+use Rattle.imdf_schema.specs.Files.{file_number, feature_files}
+use Rattle.feature_rows.specs.Rows.{ids_of, IsFeature, feature_count}
 use Rattle.report_laws.proofs.Adding.{at_map}
 
 -- the files in the order of their numbers

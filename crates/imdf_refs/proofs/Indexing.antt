@@ -7,9 +7,9 @@ use Rattle.std.proofs.lemmas.Bool.{eqb-true, cases_lt}
 use Rattle.std.proofs.lemmas.Option.{slice_get_within}
 use Rattle.venue_types.specs.declared.feature_id.FeatureId.{FeatureId}
 use Rattle.venue_types.specs.declared.features.Features.{Features}
-use Rattle.imdf_forms.specs.declared.files.File.{File}
-use Rattle.imdf_forms.specs.Files.{file_number}
-use Rattle.sound_rows.specs.Rows.{ids_of, IsFeature}
+use Rattle.imdf_schema.specs.declared.files.File.{File}
+use Rattle.imdf_schema.specs.Files.{file_number}
+use Rattle.feature_rows.specs.Rows.{ids_of, IsFeature}
 use Rattle.imdf_refs.specs.declared.known.Known.{Known}
 use Rattle.imdf_refs.specs.Index.{pair_cmp, HasBefore, HasAll}
 use Rattle.imdf_refs.proofs.FileOrder.{same_number, from_one, up_to_16}

@@ -4,10 +4,10 @@ use Rattle.std.specs.Prelude.{Contains, slice_get}
 use Rattle.venue_types.specs.declared.feature_id.FeatureId.{FeatureId}
 use Rattle.venue_types.specs.declared.features.Features.{Features}
 use Rattle.venue_types.specs.declared.finding.Finding.{Finding}
-use Rattle.imdf_forms.specs.declared.files.File.{File}
-use Rattle.imdf_forms.specs.Files.{file_number}
-use Rattle.imdf_forms.specs.Properties.{property_number, properties}
-use Rattle.sound_rows.specs.Rows.{IsFeature}
+use Rattle.imdf_schema.specs.declared.files.File.{File}
+use Rattle.imdf_schema.specs.Files.{file_number}
+use Rattle.imdf_schema.specs.Properties.{property_number, properties}
+use Rattle.feature_rows.specs.Rows.{IsFeature}
 use Rattle.report_laws.specs.Passes.{Adds}
 use Rattle.report_laws.proofs.Members.{Contains-nil}
 use Rattle.imdf_refs.specs.declared.known.Known.{Known}

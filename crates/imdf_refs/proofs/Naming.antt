@@ -4,9 +4,9 @@ use Rattle.std.specs.Prelude.{slice_get}
 use Rattle.venue_types.specs.declared.feature_id.FeatureId.{FeatureId}
 use Rattle.venue_types.specs.declared.features.Features.{Features}
 use Rattle.venue_types.specs.declared.finding.Finding.{Finding}
-use Rattle.imdf_forms.specs.declared.files.File.{File}
-use Rattle.imdf_forms.specs.Files.{file_number, feature_files}
-use Rattle.sound_rows.specs.Rows.{ids_of, IsFeature}
+use Rattle.imdf_schema.specs.declared.files.File.{File}
+use Rattle.imdf_schema.specs.Files.{file_number, feature_files}
+use Rattle.feature_rows.specs.Rows.{ids_of, IsFeature}
 use Rattle.report_laws.specs.Passes.{Adds}
 use Rattle.report_laws.proofs.Adding.{Adds-same, Among}
 use Rattle.imdf_refs.specs.declared.known.Known.{Known}

@@ -4,9 +4,9 @@ use Rattle.std.proofs.lemmas.Bool.{cases_lt}
 use Rattle.venue_types.specs.declared.feature_id.FeatureId.{FeatureId}
 use Rattle.venue_types.specs.declared.features.Features.{Features}
 use Rattle.venue_types.specs.declared.finding.Finding.{Finding}
-use Rattle.imdf_forms.specs.declared.files.File.{File}
-use Rattle.imdf_forms.specs.Files.{file_number}
-use Rattle.sound_rows.specs.Rows.{IsFeature, HaveOwnIds}
+use Rattle.imdf_schema.specs.declared.files.File.{File}
+use Rattle.imdf_schema.specs.Files.{file_number}
+use Rattle.feature_rows.specs.Rows.{IsFeature, HaveOwnIds}
 use Rattle.imdf_refs.specs.declared.rules.Rule.TheVariants.{C7}
 use Rattle.imdf_refs.specs.Rules.{IsMisnamed, IsEarlier}
 use Rattle.imdf_refs.proofs.FileOrder.{same_number}

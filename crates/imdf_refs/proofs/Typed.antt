@@ -4,11 +4,11 @@ use Rattle.std.specs.Prelude.{slice_get}
 use Rattle.std.proofs.lemmas.Bool.{eqb-true, eq-eqb, false≢true}
 use Rattle.venue_types.specs.declared.feature_id.FeatureId.{FeatureId}
 use Rattle.venue_types.specs.declared.features.Features.{Features}
-use Rattle.imdf_forms.specs.declared.files.File.{File}
-use Rattle.imdf_forms.specs.declared.table.PropertyRow.{PropertyRow}
-use Rattle.imdf_forms.specs.Files.{file_number}
-use Rattle.imdf_forms.specs.Properties.{property_number}
-use Rattle.sound_rows.specs.Rows.{ids_of}
+use Rattle.imdf_schema.specs.declared.files.File.{File}
+use Rattle.imdf_schema.specs.declared.table.PropertyRow.{PropertyRow}
+use Rattle.imdf_schema.specs.Files.{file_number}
+use Rattle.imdf_schema.specs.Properties.{property_number}
+use Rattle.feature_rows.specs.Rows.{ids_of}
 use Rattle.imdf_refs.specs.declared.rules.Rule.{Rule}
 use Rattle.imdf_refs.specs.declared.rules.Rule.TheVariants.{X1, X2}
 use Rattle.imdf_refs.specs.References.{Reference, Refers}

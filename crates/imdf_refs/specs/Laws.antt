@@ -8,8 +8,8 @@ use Rattle.venue_types.specs.declared.features.OccupantRow.{OccupantRow}
 use Rattle.venue_types.specs.declared.features.OpeningRow.{OpeningRow}
 use Rattle.venue_types.specs.declared.features.UnitRow.{UnitRow}
 use Rattle.venue_types.specs.declared.finding.Finding.{Finding}
-use Rattle.imdf_forms.specs.declared.table.PropertyRow.{PropertyRow}
-use Rattle.sound_rows.specs.Named.{IsLevel, IsUnit, IsAnchor}
+use Rattle.imdf_schema.specs.declared.table.PropertyRow.{PropertyRow}
+use Rattle.feature_rows.specs.Named.{IsLevel, IsUnit, IsAnchor}
 use Rattle.imdf_refs.specs.References.{Reference, Refers, file_named}
 use Rattle.imdf_refs.specs.Rules.{IsTyped, IsMisnamed}
 

@@ -3,11 +3,11 @@ use Rattle.std.specs.Prelude.{◌≡◌, ◌≢◌, ℕ, ◌+◌, ◌*◌, ◌<�
 use Rattle.venue_types.specs.declared.feature_id.FeatureId.{FeatureId}
 use Rattle.venue_types.specs.declared.features.Features.{Features}
 use Rattle.venue_types.specs.declared.finding.Finding.{Finding}
-use Rattle.imdf_forms.specs.declared.files.File.{File}
-use Rattle.imdf_forms.specs.declared.table.PropertyRow.{PropertyRow}
-use Rattle.imdf_forms.specs.Files.{file_number}
-use Rattle.imdf_forms.specs.Properties.{property_number}
-use Rattle.sound_rows.specs.Rows.{IsFeature}
+use Rattle.imdf_schema.specs.declared.files.File.{File}
+use Rattle.imdf_schema.specs.declared.table.PropertyRow.{PropertyRow}
+use Rattle.imdf_schema.specs.Files.{file_number}
+use Rattle.imdf_schema.specs.Properties.{property_number}
+use Rattle.feature_rows.specs.Rows.{IsFeature}
 use Rattle.imdf_refs.specs.declared.rules.Rule.{Rule}
 use Rattle.imdf_refs.specs.declared.rules.Rule.TheVariants.{C7, X1, X2}
 use Rattle.imdf_refs.specs.References.{Reference, Refers, file_named}

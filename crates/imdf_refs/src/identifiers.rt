@@ -2,8 +2,8 @@
 
 ghost use Rattle.std.specs.Prelude.{◌≡◌, ◌+◌, ◌≤◌, IfOk, OnOk, map};
 ghost use Rattle.report_laws.specs.Passes.{Adds};
-ghost use Rattle.sound_rows.specs.Rows.{ids_of as ids_in, feature_count};
-ghost use Rattle.imdf_forms.specs.Files.{file_number};
+ghost use Rattle.feature_rows.specs.Rows.{ids_of as ids_in, feature_count};
+ghost use Rattle.imdf_schema.specs.Files.{file_number};
 ghost use Rattle.imdf_refs.specs.Index.{HasBefore, HasAll};
 ghost use Rattle.imdf_refs.specs.Gathering.{RepeatsIn, Repeats};
 
@@ -11,7 +11,7 @@ use crate::known::Known;
 use crate::place::Place;
 use crate::row::HasReferences;
 use crate::rules::Rule;
-use imdf_forms::{FEATURE_FILES, File};
+use imdf_schema::{FEATURE_FILES, File};
 use report_laws::add;
 use std::alloc::Global;
 use venue_types::{FeatureId, Features, Finding, OutOfMemory};

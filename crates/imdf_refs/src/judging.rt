@@ -2,7 +2,7 @@
 
 ghost use Rattle.std.specs.Prelude.{◌≡◌, ◌≤◌, OnOk, map, length};
 ghost use Rattle.report_laws.specs.Passes.{Adds};
-ghost use Rattle.sound_rows.specs.Rows.{feature_count};
+ghost use Rattle.feature_rows.specs.Rows.{feature_count};
 ghost use Rattle.venue_types.specs.declared.feature_id.FeatureId.{FeatureId as FeatureIdOf};
 ghost use Rattle.imdf_refs.specs.References.{by_id, by_object, file_named};
 ghost use Rattle.imdf_refs.specs.Gathering.{reference, reference_list, Dangles, DanglesAmong, DanglesInRows, DanglesInProperty, DanglesInTable};
@@ -11,7 +11,7 @@ use crate::known::Known;
 use crate::place::{Place, item_place};
 use crate::row::{HasReferences, References};
 use crate::rules::Rule;
-use imdf_forms::{File, PropertyRow, ReferenceTarget};
+use imdf_schema::{File, PropertyRow, ReferenceTarget};
 use report_laws::add;
 use venue_types::{FeatureId, Features, Finding, OutOfMemory, Ref};
 

@@ -1,7 +1,7 @@
 //! What is so in a folder in which the second phase finds nothing.
 
 ghost use Rattle.venue_types.specs.declared.features.Features.{Features};
-ghost use Rattle.sound_rows.specs.Rows.{HaveOwnIds};
+ghost use Rattle.feature_rows.specs.Rows.{HaveOwnIds};
 ghost use Rattle.imdf_refs.specs.Laws.{FindsNothing, NameTheirTypes, OpeningsHaveLevels, UnitsHaveLevels, AnchorsHaveUnits, AmenitiesHaveUnits, OccupantsHaveAnchors};
 
 /// No two features have the same identifier.

@@ -1,11 +1,11 @@
 //! The places of findings.
 
 ghost use Rattle.std.specs.Prelude.{◌≡◌, ◌+◌, ◌*◌, ◌<◌, ◌^◌, IfOk, IsOk};
-ghost use Rattle.imdf_forms.specs.Properties.{property_number};
+ghost use Rattle.imdf_schema.specs.Properties.{property_number};
 ghost use Rattle.imdf_refs.specs.Gathering.{finding_at, place_of};
 
 use crate::rules::Rule;
-use imdf_forms::{File, Property, PropertyRow};
+use imdf_schema::{File, Property, PropertyRow};
 use venue_types::{Finding, OutOfMemory};
 
 const MOST_ITEMS: usize = 0x400_0000;

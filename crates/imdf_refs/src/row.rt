@@ -2,11 +2,11 @@
 
 ghost use Rattle.std.specs.Prelude.{◌≡◌, List};
 ghost use Rattle.venue_types.specs.declared.feature_id.FeatureId.{FeatureId as FeatureIdOf};
-ghost use Rattle.imdf_forms.specs.declared.table.Property.{Property as PropertyOf};
+ghost use Rattle.imdf_schema.specs.declared.table.Property.{Property as PropertyOf};
 ghost use Rattle.imdf_refs.specs.References.{Reference, id_or_null, object_or_null};
 ghost use Rattle.imdf_refs.specs.Gathering.{reference_list};
 
-use imdf_forms::Property;
+use imdf_schema::Property;
 use venue_types::{FeatureId, Ref};
 
 /// The references in a property of a feature, in their order.

@@ -1,7 +1,7 @@
 //! The rows of each type: which property refers to what.
 
 use crate::row::{HasReferences, References, id_or_null, object_or_null};
-use imdf_forms::Property;
+use imdf_schema::Property;
 use venue_types::{
     AmenityRow, AnchorRow, BuildingRow, DetailRow, FeatureId, FixtureRow, FootprintRow, KioskRow,
     LevelRow, OccupantRow, OpeningRow, PlainRow, RelationshipRow, UnitRow, VenueRow,

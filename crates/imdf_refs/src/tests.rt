@@ -1,7 +1,7 @@
 //! A folder of a few rows, of which the findings were worked out by hand.
 
 ghost use Rattle.std.specs.Prelude.{◌≤◌, IsTrue};
-ghost use Rattle.sound_rows.specs.Rows.{feature_count};
+ghost use Rattle.feature_rows.specs.Rows.{feature_count};
 
 use crate::references::gather;
 use report_laws::in_order;

@@ -17,7 +17,7 @@ use Rattle.std.proofs.lemmas.Option.{slice_get-map, slice_get_within, slice_get-
 use Rattle.exact_json.specs.Json.{Json, Members, no_pairs, pair, members_list, last_member, first_of_two, object_members}
 use Rattle.exact_json.specs.Json as json
 use Rattle.venue_types.specs.declared.features.Label.{Label}
-use Rattle.imdf_forms.specs.Values.{pairs_of}
+use Rattle.imdf_schema.specs.Values.{pairs_of}
 use Rattle.imdf_rows.specs.Fields.{text_field, with_text, with_texts, label, labels_field}
 use Rattle.imdf_rows.specs.Laws.{IsLabelOf, AreLabelsOf, last_value}
 

@@ -1,9 +1,9 @@
 -- What is read of a property, whose texts are UTF-8 where those of its item are.
 use Rattle.std.proofs.Common.{◌≡◌, Result, Ok, Err, IfOk, codes, subst}
 use Rattle.exact_json.specs.Json.{Json, member, HasTexts}
-use Rattle.imdf_forms.specs.declared.table.Property.{Property}
-use Rattle.imdf_forms.specs.Properties.{property_name}
-use Rattle.imdf_forms.specs.Items.{property}
+use Rattle.imdf_schema.specs.declared.table.Property.{Property}
+use Rattle.imdf_schema.specs.Properties.{property_name}
+use Rattle.imdf_schema.specs.Items.{property}
 use Rattle.imdf_rows.proofs.Texts.{member_has}
 
 pub moved : {T E : Type 0} (r : Result T E) (v w : Json) (name : Property) (f : Json → T) → w ≡ property v name

@@ -17,7 +17,7 @@ use Rattle.venue_types.specs.declared.features.Label.{Label}
 use Rattle.imdf_rows.specs.Fields.{text_field, with_text, with_texts, label, labels_field}
 use Rattle.imdf_rows.specs.Laws.{PairHasTexts}
 use Rattle.imdf_rows.specs.Lossy.{entry_bytes, with_lossy, all_lossy}
-use Rattle.imdf_forms.specs.Values.{pairs_of}
+use Rattle.imdf_schema.specs.Values.{pairs_of}
 use Rattle.imdf_rows.proofs.Texts.{text_has, pairs_have}
 
 abbrev Entry : Type 0

@@ -5,7 +5,7 @@ use Rattle.std.specs.Str.{bytes_eq, IsUtf8}
 use Rattle.std.proofs.lemmas.Str.{IsUtf8-nil}
 use Rattle.exact_json.specs.Json as json
 use Rattle.exact_json.specs.Json.{Json, Items, Members, no_items, item, no_pairs, pair, first_of_two, last_member, member, members_list, object_members, items_list, list_values, text_bytes, HasTexts, ItemsHaveTexts, MembersHaveTexts}
-use Rattle.imdf_forms.specs.Values.{listed, pairs_of}
+use Rattle.imdf_schema.specs.Values.{listed, pairs_of}
 use Rattle.imdf_rows.specs.Laws.{PairHasTexts}
 
 either_has : (o p : Option Json) → IfSome o HasTexts → IfSome p HasTexts → IfSome (first_of_two o p) HasTexts

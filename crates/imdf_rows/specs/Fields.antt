@@ -14,10 +14,10 @@ use Rattle.venue_types.specs.declared.features.Ref.{Ref}
 use Rattle.venue_types.specs.declared.kind.Kind.{Kind}
 use Rattle.venue_types.specs.declared.point.Point.{Point}
 use Rattle.imdf_access.specs.Categories.{before_dot, passage_of}
-use Rattle.imdf_forms.specs.declared.files.File.{File}
-use Rattle.imdf_forms.specs.Files.{file_number}
-use Rattle.imdf_forms.specs.Values.{is_word, listed, pairs_of, id_of}
-use Rattle.imdf_forms.specs.Forms.{type_of}
+use Rattle.imdf_schema.specs.declared.files.File.{File}
+use Rattle.imdf_schema.specs.Files.{file_number}
+use Rattle.imdf_schema.specs.Values.{is_word, listed, pairs_of, id_of}
+use Rattle.imdf_schema.specs.Forms.{type_of}
 
 abbrev pub id_field : Json → FeatureId
 id_field v = unwrap_or (id_of v) (record { 0 = 0 })

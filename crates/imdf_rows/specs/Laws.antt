@@ -12,7 +12,7 @@ use Rattle.venue_types.specs.declared.features.Label.{Label}
 use Rattle.venue_types.specs.declared.features.OpeningRow.{OpeningRow}
 use Rattle.venue_types.specs.declared.features.RelationshipRow.{RelationshipRow}
 use Rattle.venue_types.specs.declared.kind.Kind.TheVariants as kind
-use Rattle.imdf_forms.specs.Items.{items_in}
+use Rattle.imdf_schema.specs.Items.{items_in}
 use Rattle.imdf_rows.specs.Fields.{text_field, labels_field}
 use Rattle.imdf_rows.specs.Folder.{AreFeatures}
 

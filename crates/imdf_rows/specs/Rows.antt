@@ -17,9 +17,9 @@ use Rattle.venue_types.specs.declared.features.OpeningRow.{OpeningRow}
 use Rattle.venue_types.specs.declared.features.RelationshipRow.{RelationshipRow}
 use Rattle.venue_types.specs.declared.features.UnitRow.{UnitRow}
 use Rattle.venue_types.specs.declared.features.VenueRow.{VenueRow}
-use Rattle.imdf_forms.specs.declared.table.Property.TheVariants as property
-use Rattle.imdf_forms.specs.Values.{is_null, is_word, id_of}
-use Rattle.imdf_forms.specs.Items as item
+use Rattle.imdf_schema.specs.declared.table.Property.TheVariants as property
+use Rattle.imdf_schema.specs.Values.{is_null, is_word, id_of}
+use Rattle.imdf_schema.specs.Items as item
 use Rattle.imdf_rows.specs.Fields.{id_field, text_field, ids_field, ref_of, refs_field, labels_field, lists_word, door_is, passage_field, IsDisplay, IsOrdinal}
 
 -- its identifier

@@ -1,6 +1,6 @@
 //! The display point of a unit.
 
-ghost use Rattle.imdf_forms.specs.Values.{seen};
+ghost use Rattle.imdf_schema.specs.Values.{seen};
 ghost use Rattle.imdf_rows.specs.Fields.{IsDisplay};
 
 use exact_json::Tree;

@@ -5,12 +5,12 @@ ghost use Rattle.std.specs.List.{filter_map, list_any};
 ghost use Rattle.std.specs.Str.Lossy.{utf8_lossy};
 ghost use Rattle.exact_json.specs.Json.{HasTexts};
 ghost use Rattle.exact_json.specs.View.{tree_view};
-ghost use Rattle.imdf_forms.specs.Values as values;
+ghost use Rattle.imdf_schema.specs.Values as values;
 ghost use Rattle.imdf_rows.specs.Fields as specs;
 
 use exact_json::Tree;
 use imdf_access::{before_dot, passage};
-use imdf_forms::{File, id, is_word, list, member, text, type_of};
+use imdf_schema::{File, id, is_word, list, member, text, type_of};
 use std::alloc::Global;
 use venue_types::{FeatureId, Kind, List, OutOfMemory, Ref, Text};
 

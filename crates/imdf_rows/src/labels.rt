@@ -7,13 +7,13 @@ ghost use Rattle.std.specs.BTreeMap.{insert_entry};
 ghost use Rattle.std.specs.Str.Lossy.{utf8_lossy};
 ghost use Rattle.exact_json.specs.Json.{HasTexts, members_list};
 ghost use Rattle.exact_json.specs.View.{tree_view, pair_view, object_view};
-ghost use Rattle.imdf_forms.specs.Values.{seen};
+ghost use Rattle.imdf_schema.specs.Values.{seen};
 ghost use Rattle.imdf_rows.specs.Fields as specs;
 ghost use Rattle.imdf_rows.specs.Fields.{label};
 ghost use Rattle.imdf_rows.specs.Lossy.{entry_bytes, with_lossy, all_lossy};
 
 use exact_json::{Members, Pair, Tree};
-use imdf_forms::{object, text};
+use imdf_schema::{object, text};
 use std::alloc::Global;
 use std::collections::BTreeMap;
 use venue_types::{Label, List, OutOfMemory, Text};

@@ -6,12 +6,12 @@ use crate::figure::{Figure, into_shape};
 use crate::members::{all_named, always_named, id_in, labels_in, named, text_in};
 use crate::ordinals::ordinal_field;
 use exact_json::Tree;
-use imdf_forms::{Property, is_null, property, unlisted_property};
+use imdf_schema::{Property, is_null, property, unlisted_property};
 use std::alloc::Global;
 use venue_types::{LevelRow, OutOfMemory, UnitRow};
 
 impl FeatureRow for LevelRow {
-    ghost use Rattle.imdf_forms.specs.declared.files.Geometry.TheVariants as kind;
+    ghost use Rattle.imdf_schema.specs.declared.files.Geometry.TheVariants as kind;
     ghost use Rattle.imdf_rows.specs.Rows.{IsLevelRow};
 
     ghost geometry = { kind.Shape };
@@ -30,7 +30,7 @@ impl FeatureRow for LevelRow {
 }
 
 impl FeatureRow for UnitRow {
-    ghost use Rattle.imdf_forms.specs.declared.files.Geometry.TheVariants as kind;
+    ghost use Rattle.imdf_schema.specs.declared.files.Geometry.TheVariants as kind;
     ghost use Rattle.imdf_rows.specs.Rows.{IsUnitRow};
 
     ghost geometry = { kind.Shape };

@@ -3,14 +3,14 @@
 ghost use Rattle.std.specs.Prelude.{◌≡◌, IfOk};
 ghost use Rattle.exact_json.specs.Json.{HasTexts};
 ghost use Rattle.exact_json.specs.View.{tree_view};
-ghost use Rattle.imdf_forms.specs.Values.{id_of};
-ghost use Rattle.imdf_forms.specs.Items as item;
+ghost use Rattle.imdf_schema.specs.Values.{id_of};
+ghost use Rattle.imdf_schema.specs.Items as item;
 ghost use Rattle.imdf_rows.specs.Rows.{id_in};
 ghost use Rattle.imdf_rows.specs.Fields.{id_field, ids_field, text_field, labels_field};
 
 use crate::{fields, labels};
 use exact_json::Tree;
-use imdf_forms::{Property, id, member, property};
+use imdf_schema::{Property, id, member, property};
 use std::alloc::Global;
 use venue_types::{FeatureId, Label, List, OutOfMemory, Text};
 

@@ -4,7 +4,7 @@ ghost use Rattle.std.specs.Prelude.{◌≡◌, ◌≢◌, ℤ, pos, ◌*ℤ◌, 
 ghost use Rattle.std.specs.Option.{option_copied};
 ghost use Rattle.exact_json.specs.Json.{token};
 ghost use Rattle.geo_decimal.specs.Value.{IsWithin};
-ghost use Rattle.imdf_forms.specs.Values.{seen};
+ghost use Rattle.imdf_schema.specs.Values.{seen};
 ghost use Rattle.imdf_rows.specs.Fields.{IsWhole, IsOrdinal};
 
 use exact_json::Tree;

@@ -5,12 +5,12 @@ use crate::fields::{door_is, lists_word, passage_field, ref_of, refs_field};
 use crate::figure::{Figure, into_line};
 use crate::members::{always_named, id_in};
 use exact_json::Tree;
-use imdf_forms::{Property, is_word, property, unlisted_property};
+use imdf_schema::{Property, is_word, property, unlisted_property};
 use std::alloc::Global;
 use venue_types::{OpeningRow, OutOfMemory, RelationshipRow};
 
 impl FeatureRow for OpeningRow {
-    ghost use Rattle.imdf_forms.specs.declared.files.Geometry.TheVariants as kind;
+    ghost use Rattle.imdf_schema.specs.declared.files.Geometry.TheVariants as kind;
     ghost use Rattle.imdf_rows.specs.Rows.{IsOpeningRow};
 
     ghost geometry = { kind.Line };
@@ -31,7 +31,7 @@ impl FeatureRow for OpeningRow {
 }
 
 impl FeatureRow for RelationshipRow {
-    ghost use Rattle.imdf_forms.specs.declared.files.Geometry.TheVariants as kind;
+    ghost use Rattle.imdf_schema.specs.declared.files.Geometry.TheVariants as kind;
     ghost use Rattle.imdf_rows.specs.Rows.{IsRelationshipRow};
 
     ghost geometry = { kind.Unjudged };

@@ -7,7 +7,7 @@ use Rattle.plane_exact.specs.Plane.{IsWithin}
 use Rattle.plane_exact.specs.Figure.{edges_from}
 use Rattle.plane_exact.proofs.ListLemmas.{drop_at}
 use Rattle.plane_exact.proofs.NumberLemmas.{IsWithin-mul, read_back}
-use Rattle.sound_rows.specs.Sound.{IsOnEarth}
+use Rattle.feature_rows.specs.Sound.{IsOnEarth}
 use Rattle.ring_rules.specs.Rings.{cross_product, cross_sum}
 
 pub widened : (n : ℤ) → IsWithin 180000000000 n (pos 0) → to_z w128 (of_z w128 (to_z w64 (of_z w64 n))) ≡ n

@@ -8,7 +8,7 @@ use Rattle.venue_types.specs.declared.point.Point.{Point}
 use Rattle.venue_types.specs.declared.point.Ring.{Ring}
 use Rattle.venue_types.specs.declared.point.Part.{Part}
 use Rattle.plane_exact.specs.Figure.{AllClose, ring_points, rings_of}
-use Rattle.sound_rows.specs.Sound.{IsOnEarth}
+use Rattle.feature_rows.specs.Sound.{IsOnEarth}
 use Rattle.ring_rules.specs.Judged.{AreFit, IsShort}
 use Rattle.ring_rules.proofs.EdgeLemmas.{fewer_close}
 

@@ -6,15 +6,15 @@ use Rattle.venue_types.specs.declared.features.Features.{Features}
 use Rattle.venue_types.specs.declared.finding.Finding.{Finding}
 use Rattle.venue_types.specs.declared.point.Point.{Point}
 use Rattle.venue_types.specs.declared.point.Shape.{Shape}
-use Rattle.imdf_forms.specs.declared.files.File.{File}
-use Rattle.imdf_forms.specs.declared.files.File.TheVariants as file
-use Rattle.imdf_forms.specs.Files.{file_number, feature_files}
+use Rattle.imdf_schema.specs.declared.files.File.{File}
+use Rattle.imdf_schema.specs.declared.files.File.TheVariants as file
+use Rattle.imdf_schema.specs.Files.{file_number, feature_files}
 use Rattle.report_laws.specs.Passes.{Adds}
 use Rattle.report_laws.proofs.Passes.{Contains-flat_map}
 use Rattle.report_laws.proofs.Adding.{Adds-same, Adds-then}
 use Rattle.plane_exact.specs.Figure.{AllClose, rings, vertices}
-use Rattle.sound_rows.specs.Figures.{shapes_of, positions_of, positions, judged_positions, display_of}
-use Rattle.sound_rows.specs.Sound.{AreSound, IsOnEarth, IsSoundRing, IsSoundShape}
+use Rattle.feature_rows.specs.Figures.{shapes_of, positions_of, positions, judged_positions, display_of}
+use Rattle.feature_rows.specs.Sound.{AreSound, IsOnEarth, IsSoundRing, IsSoundShape}
 use Rattle.ring_rules.specs.Rings.{placed_rings}
 use Rattle.ring_rules.specs.Rules.{BreaksInRing, ring_rule_number}
 use Rattle.ring_rules.specs.Judged.{AreFitShapes, IsShort}

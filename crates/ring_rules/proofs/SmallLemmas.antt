@@ -10,7 +10,7 @@ use Rattle.venue_types.specs.declared.point.Part.{Part}
 use Rattle.plane_exact.specs.Figure.{ring_points, rings_of}
 use Rattle.plane_exact.specs.Testing.{IsInBox}
 use Rattle.plane_exact.proofs.BoxLemmas.{box_close}
-use Rattle.sound_rows.specs.Sound.{IsOnEarth}
+use Rattle.feature_rows.specs.Sound.{IsOnEarth}
 use Rattle.ring_rules.specs.Judged.{AreFit, IsShort}
 use Rattle.ring_rules.specs.Testing.{IsSmall}
 

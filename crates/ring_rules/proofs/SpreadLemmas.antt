@@ -5,7 +5,7 @@ use Rattle.venue_types.specs.declared.features.Features.{Features}
 use Rattle.venue_types.specs.declared.point.Point.{Point}
 use Rattle.plane_exact.specs.Plane.{IsWithin, IsClose}
 use Rattle.plane_exact.specs.Figure.{AllClose}
-use Rattle.sound_rows.specs.Figures.{judged_positions}
+use Rattle.feature_rows.specs.Figures.{judged_positions}
 use Rattle.ring_rules.specs.Rules.{IsSpread}
 use Rattle.ring_rules.proofs.BoundsLemmas.{not_above}
 

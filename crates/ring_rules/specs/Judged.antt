@@ -5,7 +5,7 @@ use Rattle.venue_types.specs.declared.point.Ring.{Ring}
 use Rattle.venue_types.specs.declared.point.Shape.{Shape}
 use Rattle.plane_exact.specs.Segment.{Crosses}
 use Rattle.plane_exact.specs.Figure.{Edge, AllClose, ring_points, rings}
-use Rattle.sound_rows.specs.Sound.{IsOnEarth}
+use Rattle.feature_rows.specs.Sound.{IsOnEarth}
 use Rattle.ring_rules.specs.Rings.{IsInsideRing, IsOnRing}
 
 -- at most 20,000 positions

@@ -4,10 +4,10 @@ use Rattle.venue_types.specs.declared.features.Features.{Features}
 use Rattle.venue_types.specs.declared.finding.Finding.{Finding}
 use Rattle.venue_types.specs.declared.point.Point.{Point}
 use Rattle.venue_types.specs.declared.point.Shape.{Shape}
-use Rattle.imdf_forms.specs.declared.files.File.{File}
-use Rattle.imdf_forms.specs.Files.{file_number}
+use Rattle.imdf_schema.specs.declared.files.File.{File}
+use Rattle.imdf_schema.specs.Files.{file_number}
 use Rattle.plane_exact.specs.Plane.{IsClose}
-use Rattle.sound_rows.specs.Figures.{judged_positions, shapes_of}
+use Rattle.feature_rows.specs.Figures.{judged_positions, shapes_of}
 use Rattle.ring_rules.specs.declared.rules.RingRule.{RingRule}
 use Rattle.ring_rules.specs.declared.rules.RingRule.TheVariants.{G3, G4, G5}
 use Rattle.ring_rules.specs.Rings.{Placed, placed_rings, CrossesItself, LeavesBorder, doubled_area}

@@ -3,7 +3,7 @@
 ghost use Rattle.std.specs.Prelude.{◌≡◌, ◌↔◌, ◌≤◌, IsTrue, All, length, pos, ◌*ℤ◌};
 ghost use Rattle.plane_exact.specs.Plane.{IsWithin};
 ghost use Rattle.plane_exact.specs.Figure.{edges_from};
-ghost use Rattle.sound_rows.specs.Sound.{IsOnEarth};
+ghost use Rattle.feature_rows.specs.Sound.{IsOnEarth};
 ghost use Rattle.ring_rules.specs.Judged.{IsShort};
 ghost use Rattle.ring_rules.specs.Rings.{doubled_area, cross_sum, cross_product};
 

@@ -4,7 +4,7 @@ ghost use Rattle.std.specs.Prelude.{◌≡◌};
 ghost use Rattle.ring_rules.specs.Findings.{finding_at};
 
 use crate::rules::RingRule;
-use imdf_forms::File;
+use imdf_schema::File;
 use venue_types::Finding;
 
 /// A feature's file, and its index in the list of features.

@@ -6,7 +6,7 @@ ghost use Rattle.plane_exact.specs.Figure.{vertices};
 ghost use Rattle.ring_rules.specs.Bounds.{AreBounds};
 
 use crate::bounds::Bounds;
-use sound_rows::HasShape;
+use feature_rows::HasShape;
 use venue_types::{AmenityRow, AnchorRow, List, OpeningRow, Part, Point, Ring, Shape};
 
 /// What has positions.

@@ -3,16 +3,16 @@
 ghost use Rattle.std.specs.Prelude.{◌≤◌, OnOk, length, map};
 ghost use Rattle.plane_exact.specs.Figure.{AllClose};
 ghost use Rattle.report_laws.specs.Passes.{Adds};
-ghost use Rattle.sound_rows.specs.Sound.{AreSound};
-ghost use Rattle.sound_rows.specs.Figures.{judged_positions};
+ghost use Rattle.feature_rows.specs.Sound.{AreSound};
+ghost use Rattle.feature_rows.specs.Figures.{judged_positions};
 ghost use Rattle.ring_rules.specs.Judged.{AreFitShapes};
 ghost use Rattle.ring_rules.specs.Findings.{FindsInShapes};
 ghost use Rattle.ring_rules.specs.Rules.{BreaksInRing};
 
 use crate::place::Place;
 use crate::shape_findings::add_shape;
-use imdf_forms::File;
-use sound_rows::HasShape;
+use feature_rows::HasShape;
+use imdf_schema::File;
 use venue_types::{Features, Finding, List, OutOfMemory};
 
 // What is wrong with the rings of some rows of a file.

@@ -2,7 +2,7 @@
 
 ghost use Rattle.std.specs.Prelude.{◌≡◌, IsTrue, ◌↔◌, false, flat_map};
 ghost use Rattle.plane_exact.specs.Figure.{AllClose};
-ghost use Rattle.sound_rows.specs.Figures.{display_of, judged_positions};
+ghost use Rattle.feature_rows.specs.Figures.{display_of, judged_positions};
 ghost use Rattle.ring_rules.specs.Bounds.{AreBounds};
 ghost use Rattle.ring_rules.specs.Rules.{IsSpread};
 

@@ -9,7 +9,7 @@ ghost use Rattle.ring_rules.specs.Testing.{IsSmall};
 use crate::is_spread;
 use crate::place::Place;
 use crate::shape_findings::add_shape;
-use imdf_forms::File;
+use imdf_schema::File;
 use std::alloc::Global;
 use std::test::Fail;
 use venue_types::{

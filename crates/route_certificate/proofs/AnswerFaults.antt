@@ -2,10 +2,10 @@
 use Rattle.std.proofs.Common.{◌≡◌, ℕ, ◌+◌, ◌<◌, List, [], ◌++◌, length, refl, sym, ap, subst, ◌∙◌, append_assoc, arith, codes}
 use Rattle.std.proofs.lemmas.List.{append_cancel_left}
 use Rattle.venue_types.specs.declared.feature_id.FeatureId.{FeatureId}
-use Rattle.text_forms.specs.Faults.{IsLines, IsFaultLine}
-use Rattle.text_forms.specs.Fronts.{HasNone}
-use Rattle.text_forms.proofs.LineLemmas.{Lacks-test}
-use Rattle.text_forms.proofs.FaultLemmas.{IsLines-one, IsLines-append, first_faulty, other_head}
+use Rattle.line_forms.specs.Faults.{IsLines, IsFaultLine}
+use Rattle.line_forms.specs.Fronts.{HasNone}
+use Rattle.line_forms.proofs.LineLemmas.{Lacks-test}
+use Rattle.line_forms.proofs.FaultLemmas.{IsLines-one, IsLines-append, first_faulty, other_head}
 use Rattle.route_certificate.specs.declared.table.Table.{Table}
 use Rattle.route_certificate.specs.declared.answer.AnswerIn.{AnswerIn}
 use Rattle.route_certificate.specs.Forms.{from_line, from_body, end_line, FitsNode}
@@ -13,7 +13,7 @@ use Rattle.route_certificate.specs.Answers.{answer_head, to_line, to_body, none_
 use Rattle.route_certificate.specs.AnswerFronts.{IsClaim, IsClaimText}
 use Rattle.route_certificate.proofs.LineLemmas.{from_line_is, from_unique, Lacks-from_body}
 use Rattle.route_certificate.proofs.AnswerLines.{to_line_is, to_unique, Lacks-to_body}
-use Rattle.text_forms.proofs.Stuck.{stuck, HasNone-begins, fault_behind}
+use Rattle.line_forms.proofs.Stuck.{stuck, HasNone-begins, fault_behind}
 use Rattle.route_certificate.proofs.ClaimLemmas.{one_claim}
 use Rattle.route_certificate.proofs.ClaimFaults.{some_claim}
 

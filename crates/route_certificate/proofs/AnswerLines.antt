@@ -6,10 +6,10 @@ use Rattle.std.proofs.lemmas.Fmt.{decimal_injective}
 use Rattle.std.specs.Fmt.{decimal}
 use Rattle.std.specs.List.{list_all}
 use Rattle.venue_types.specs.declared.link.Potential.{Potential}
-use Rattle.text_forms.specs.Lines.{line, word}
-use Rattle.text_forms.specs.Fronts.{Lacks, IsUnique}
-use Rattle.text_forms.proofs.ListLemmas.{Lacks-append}
-use Rattle.text_forms.proofs.LineLemmas.{word_unique, lines_unique, numbered_unique, Lacks-word, Lacks-number, Lacks-test}
+use Rattle.line_forms.specs.Lines.{line, word}
+use Rattle.line_forms.specs.Fronts.{Lacks, IsUnique}
+use Rattle.line_forms.proofs.ListLemmas.{Lacks-append}
+use Rattle.line_forms.proofs.LineLemmas.{word_unique, lines_unique, numbered_unique, Lacks-word, Lacks-number, Lacks-test}
 use Rattle.route_certificate.specs.Forms.{FitsNode}
 use Rattle.route_certificate.specs.Answers.{to_body, route_body, at_body, reach_body, to_line, route_line, at_line, reach_line, FitsCost, FitsPotential}
 

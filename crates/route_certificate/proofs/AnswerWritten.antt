@@ -1,6 +1,6 @@
 -- Lines of answers that are written piece by piece.
 use Rattle.std.proofs.Common.{◌≡◌, ℕ, List, [], ◌∷◌, ◌++◌, ◌∙◌, append_assoc, codes}
-use Rattle.text_forms.specs.Lines.{line, word}
+use Rattle.line_forms.specs.Lines.{line, word}
 
 pub four_pieces : (old a b c d end node value : List ℕ) → a ≡ old ++ codes "at " → b ≡ a ++ node → c ≡ b ++ 32 ∷ [] → d ≡ c ++ value → end ≡ d ++ 10 ∷ []
     → end ≡ old ++ line (word (codes "at") (word node value))

@@ -1,7 +1,7 @@
 -- Steps lead to one end at one cost, or one of them is the first that is broken.
 use Rattle.std.proofs.Common.{◌≡◌, ℕ, ◌<◌, List, [], ◌∷◌, ◌++◌, length, Some, sym, ap, subst, ◌∙◌, arith}
 use Rattle.std.proofs.lemmas.List.{append-nil}
-use Rattle.text_forms.proofs.ListLemmas.{head_same, tail_same}
+use Rattle.line_forms.proofs.ListLemmas.{head_same, tail_same}
 use Rattle.route_certificate.specs.declared.table.TableLink.{TableLink}
 use Rattle.route_certificate.specs.Prices.{IsStep, IsChain, IsBroken}
 use Rattle.route_certificate.specs.Verdicts.{FailsFirstAt}

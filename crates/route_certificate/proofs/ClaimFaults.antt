@@ -3,11 +3,11 @@ use Rattle.std.proofs.Common.{◌≡◌, ℕ, ◌+◌, ◌<◌, ◌^◌, List, [
 use Rattle.std.proofs.lemmas.List.{length-append, append-nil}
 use Rattle.std.specs.List.{flat_map}
 use Rattle.venue_types.specs.declared.link.Potential.{Potential}
-use Rattle.text_forms.specs.Faults.{IsLines, IsFaultLine}
-use Rattle.text_forms.specs.Fronts.{HasNone}
-use Rattle.text_forms.proofs.ListLemmas.{length-flat_map-le}
-use Rattle.text_forms.proofs.LineLemmas.{Lacks-test}
-use Rattle.text_forms.proofs.FaultLemmas.{IsLines-none, IsLines-one, IsLines-append, IsLines-items}
+use Rattle.line_forms.specs.Faults.{IsLines, IsFaultLine}
+use Rattle.line_forms.specs.Fronts.{HasNone}
+use Rattle.line_forms.proofs.ListLemmas.{length-flat_map-le}
+use Rattle.line_forms.proofs.LineLemmas.{Lacks-test}
+use Rattle.line_forms.proofs.FaultLemmas.{IsLines-none, IsLines-one, IsLines-append, IsLines-items}
 use Rattle.route_certificate.specs.declared.answer.Claim.{Claim}
 use Rattle.route_certificate.specs.declared.answer.Claim.TheVariants.{Route, Nothing}
 use Rattle.route_certificate.specs.Forms.{step_line, step_body, end_line, FitsStep, FitsNode}
@@ -15,7 +15,7 @@ use Rattle.route_certificate.specs.Answers.{route_line, route_body, at_line, at_
 use Rattle.route_certificate.specs.AnswerFronts.{IsClaim, IsClaimText}
 use Rattle.route_certificate.proofs.LineLemmas.{step_line_is, Lacks-step_body}
 use Rattle.route_certificate.proofs.AnswerLines.{route_line_is, at_line_is, reach_line_is, Lacks-route_body, Lacks-at_body, Lacks-reach_body, small_potential}
-use Rattle.text_forms.proofs.Stuck.{BeginsAs, stuck, HasNone-begins, some_begins}
+use Rattle.line_forms.proofs.Stuck.{BeginsAs, stuck, HasNone-begins, some_begins}
 use Rattle.route_certificate.proofs.ClaimLemmas.{RouteRead, route_begins, route_ends, route_fits, route_of, NothingRead, nothing_begins, nothing_ends, nothing_fits, nothing_of}
 
 -- ---- the last line

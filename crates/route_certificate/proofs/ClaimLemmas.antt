@@ -4,8 +4,8 @@ use Rattle.std.proofs.lemmas.List.{append_cancel_left}
 use Rattle.std.specs.List.{flat_map, AllByRecursion}
 use Rattle.std.specs.List.Sorted.{IsStrictlyIncreasing}
 use Rattle.venue_types.specs.declared.link.Potential.{Potential}
-use Rattle.text_forms.specs.Fronts.{HasNone, IsFront}
-use Rattle.text_forms.proofs.ListLemmas.{fronts_agree, differ}
+use Rattle.line_forms.specs.Fronts.{HasNone, IsFront}
+use Rattle.line_forms.proofs.ListLemmas.{fronts_agree, differ}
 use Rattle.route_certificate.specs.declared.answer.Claim.{Claim}
 use Rattle.route_certificate.specs.declared.answer.Claim.TheVariants.{Route, Nothing}
 use Rattle.route_certificate.specs.Forms.{step_line, step_body, end_line, FitsStep, FitsNode}
@@ -15,7 +15,7 @@ use Rattle.route_certificate.proofs.LineLemmas.{step_unique, step_line_is, Lacks
 use Rattle.route_certificate.proofs.WalkLemmas.{no_step_behind}
 use Rattle.route_certificate.proofs.AnswerLines.{route_unique, at_unique, reach_unique, at_line_is, reach_line_is, Lacks-at_body, Lacks-reach_body, small_potential}
 use Rattle.route_certificate.proofs.RisingFronts.{rising_agree, rises_from, increasing_from, map_same}
-use Rattle.text_forms.proofs.Stuck.{BeginsAs, HasNone-begins}
+use Rattle.line_forms.proofs.Stuck.{BeginsAs, HasNone-begins}
 
 -- ---- no item where others stand
 

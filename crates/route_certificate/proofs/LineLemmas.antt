@@ -6,9 +6,9 @@ use Rattle.std.specs.List.{AllByRecursion}
 use Rattle.venue_types.specs.declared.feature_id.FeatureId.{FeatureId}
 use Rattle.venue_types.specs.Identifier.{identifier_text}
 use Rattle.venue_types.proofs.IdentifierLemmas.{identifier_text-high, identifier_unique}
-use Rattle.text_forms.specs.Lines.{line, word}
-use Rattle.text_forms.specs.Fronts.{Lacks, IsUnique}
-use Rattle.text_forms.proofs.LineLemmas.{word_unique, lines_unique, numbered_unique, Lacks-word, Lacks-number, Lacks-test}
+use Rattle.line_forms.specs.Lines.{line, word}
+use Rattle.line_forms.specs.Fronts.{Lacks, IsUnique}
+use Rattle.line_forms.proofs.LineLemmas.{word_unique, lines_unique, numbered_unique, Lacks-word, Lacks-number, Lacks-test}
 use Rattle.route_certificate.specs.declared.table.TableLink.{TableLink}
 use Rattle.route_certificate.specs.Forms.{node_body, link_body, from_body, step_body, node_line, link_line, from_line, step_line, FitsId, FitsLink, FitsStep, FitsNode}
 

@@ -3,7 +3,7 @@ use Rattle.std.proofs.Common.{◌≡◌, ℕ, ◌+◌, ◌<◌, ◌≤◌, zero,
 use Rattle.std.specs.Prelude.{slice_index}
 use Rattle.std.specs.List.{flat_map, AllByRecursion}
 use Rattle.std.specs.List.Sorted.{IsStrictlyIncreasing}
-use Rattle.text_forms.specs.Fronts.{HasNone, IsUnique}
+use Rattle.line_forms.specs.Fronts.{HasNone, IsUnique}
 use Rattle.route_certificate.specs.AnswerFronts.{Rises, next_number, FitsBehind}
 
 -- one more item

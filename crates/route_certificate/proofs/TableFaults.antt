@@ -3,10 +3,10 @@ use Rattle.std.proofs.Common.{◌≡◌, ℕ, ◌+◌, ◌<◌, List, [], ◌∷
 use Rattle.std.proofs.lemmas.List.{length-append, append-nil}
 use Rattle.std.specs.List.{flat_map}
 use Rattle.venue_types.specs.declared.feature_id.FeatureId.{FeatureId}
-use Rattle.text_forms.specs.Lines.{line}
-use Rattle.text_forms.specs.Faults.{IsLines, IsFaultLine}
-use Rattle.text_forms.proofs.LineLemmas.{Lacks-test, line_front, lines_unique}
-use Rattle.text_forms.proofs.FaultLemmas.{IsLines-one, IsLines-append, IsLines-items, other_head, next_faulty}
+use Rattle.line_forms.specs.Lines.{line}
+use Rattle.line_forms.specs.Faults.{IsLines, IsFaultLine}
+use Rattle.line_forms.proofs.LineLemmas.{Lacks-test, line_front, lines_unique}
+use Rattle.line_forms.proofs.FaultLemmas.{IsLines-one, IsLines-append, IsLines-items, other_head, next_faulty}
 use Rattle.route_certificate.specs.declared.table.TableLink.{TableLink}
 use Rattle.route_certificate.specs.declared.table.Table.{Table}
 use Rattle.route_certificate.specs.Forms.{node_line, link_line, node_body, link_body, end_line, table_head, FitsId, FitsLink, IsTable, IsTableText}

@@ -3,10 +3,10 @@ use Rattle.std.proofs.Common.{◌≡◌, ℕ, ◌^◌, ◌<◌, ◌≤◌, List,
 use Rattle.std.proofs.lemmas.List.{append_cancel_left, length-append, append-nil}
 use Rattle.std.specs.List.{flat_map, AllByRecursion}
 use Rattle.venue_types.specs.declared.feature_id.FeatureId.{FeatureId}
-use Rattle.text_forms.specs.Lines.{line}
-use Rattle.text_forms.specs.Fronts.{HasNone, IsSplitAt, IsFront}
-use Rattle.text_forms.proofs.ListLemmas.{fronts_agree, fronts_split, differ, length-flat_map-le}
-use Rattle.text_forms.proofs.FaultLemmas.{HasNone-line}
+use Rattle.line_forms.specs.Lines.{line}
+use Rattle.line_forms.specs.Fronts.{HasNone, IsSplitAt, IsFront}
+use Rattle.line_forms.proofs.ListLemmas.{fronts_agree, fronts_split, differ, length-flat_map-le}
+use Rattle.line_forms.proofs.FaultLemmas.{HasNone-line}
 use Rattle.route_certificate.specs.declared.table.TableLink.{TableLink}
 use Rattle.route_certificate.specs.declared.table.Table.{Table}
 use Rattle.route_certificate.specs.Forms.{node_line, link_line, node_body, link_body, end_line, table_head, FitsId, FitsLink, IsTable}

@@ -3,11 +3,11 @@ use Rattle.std.proofs.Common.{◌≡◌, ℕ, ◌+◌, ◌<◌, List, [], ◌∷
 use Rattle.std.proofs.lemmas.List.{length-append, append-nil, append_cancel_left}
 use Rattle.std.specs.List.{flat_map}
 use Rattle.venue_types.specs.declared.feature_id.FeatureId.{FeatureId}
-use Rattle.text_forms.specs.Lines.{line}
-use Rattle.text_forms.specs.Faults.{IsLines, IsFaultLine}
-use Rattle.text_forms.specs.Fronts.{HasNone}
-use Rattle.text_forms.proofs.LineLemmas.{Lacks-test, line_front, lines_unique}
-use Rattle.text_forms.proofs.FaultLemmas.{IsLines-one, IsLines-append, IsLines-items, first_faulty, other_head, next_faulty, HasNone-line}
+use Rattle.line_forms.specs.Lines.{line}
+use Rattle.line_forms.specs.Faults.{IsLines, IsFaultLine}
+use Rattle.line_forms.specs.Fronts.{HasNone}
+use Rattle.line_forms.proofs.LineLemmas.{Lacks-test, line_front, lines_unique}
+use Rattle.line_forms.proofs.FaultLemmas.{IsLines-one, IsLines-append, IsLines-items, first_faulty, other_head, next_faulty, HasNone-line}
 use Rattle.route_certificate.specs.declared.table.Table.{Table}
 use Rattle.route_certificate.specs.declared.table.WalkIn.{WalkIn}
 use Rattle.route_certificate.specs.Forms.{from_line, from_body, step_line, step_body, end_line, walk_head, FitsStep, IsWalkText, IsWalkTextOver, FitsNode}

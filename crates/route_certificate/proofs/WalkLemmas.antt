@@ -2,10 +2,10 @@
 use Rattle.std.proofs.Common.{◌≡◌, ℕ, ◌^◌, ◌<◌, List, [], ◌∷◌, ◌++◌, length, refl, sym, ap, ◌∙◌, arith}
 use Rattle.std.proofs.lemmas.List.{append_cancel_left, length-append}
 use Rattle.std.specs.List.{flat_map, AllByRecursion}
-use Rattle.text_forms.specs.Lines.{line}
-use Rattle.text_forms.specs.Fronts.{HasNone, IsSplitAt, IsFront}
-use Rattle.text_forms.proofs.ListLemmas.{fronts_agree, differ, length-flat_map-le}
-use Rattle.text_forms.proofs.FaultLemmas.{HasNone-line}
+use Rattle.line_forms.specs.Lines.{line}
+use Rattle.line_forms.specs.Fronts.{HasNone, IsSplitAt, IsFront}
+use Rattle.line_forms.proofs.ListLemmas.{fronts_agree, differ, length-flat_map-le}
+use Rattle.line_forms.proofs.FaultLemmas.{HasNone-line}
 use Rattle.route_certificate.specs.declared.table.Table.{Table}
 use Rattle.route_certificate.specs.declared.table.WalkIn.{WalkIn}
 use Rattle.route_certificate.specs.Forms.{from_line, step_line, step_body, end_line, walk_head, FitsStep, FitsWalk, IsWalkText, FitsNode}

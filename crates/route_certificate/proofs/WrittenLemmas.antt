@@ -1,6 +1,6 @@
 -- A line that is written piece by piece.
 use Rattle.std.proofs.Common.{◌≡◌, ℕ, List, [], ◌∷◌, ◌++◌, ◌∙◌, append_assoc, codes}
-use Rattle.text_forms.specs.Lines.{line, word}
+use Rattle.line_forms.specs.Lines.{line, word}
 
 pub two_pieces : (old a b end id : List ℕ) → a ≡ old ++ codes "node " → b ≡ a ++ id → end ≡ b ++ 10 ∷ [] → end ≡ old ++ line (word (codes "node") id)
 two_pieces old a b end id p q r =

@@ -1,7 +1,7 @@
 -- The code's own way, no promise: how far the text of an answer was read.
 use Rattle.std.specs.Prelude.{◌≡◌, ℕ, ◌+◌, ◌<◌, ◌≤◌, List, [], ◌∷◌, ◌++◌}
 use Rattle.std.specs.List.{flat_map, AllByRecursion}
-use Rattle.text_forms.specs.Fronts.{HasNone}
+use Rattle.line_forms.specs.Fronts.{HasNone}
 use Rattle.route_certificate.specs.declared.answer.Claim.{Claim}
 use Rattle.route_certificate.specs.Answers.{claim_text, FitsClaim}
 

@@ -3,7 +3,7 @@ use Rattle.std.specs.Prelude.{◌≡◌, ℕ, ◌^◌, ◌<◌, ◌≤◌, List,
 use Rattle.std.specs.List.{flat_map, AllByRecursion}
 use Rattle.std.specs.List.Sorted.{IsStrictlyIncreasing}
 use Rattle.std.specs.Fmt.{decimal}
-use Rattle.text_forms.specs.Lines.{line, word}
+use Rattle.line_forms.specs.Lines.{line, word}
 use Rattle.venue_types.specs.declared.link.Potential.{Potential}
 use Rattle.walk_laws.specs.Views.{PotentialView}
 use Rattle.walk_laws.specs.Certificates.{Ascends}

@@ -1,7 +1,7 @@
 -- The code's own way, no promise: how far a text of a form was read.
 use Rattle.std.specs.Prelude.{◌≡◌, ℕ, ◌<◌, ◌≤◌, List, ◌++◌, length}
 use Rattle.std.specs.List.{flat_map, AllByRecursion}
-use Rattle.text_forms.specs.Fronts.{HasNone}
+use Rattle.line_forms.specs.Fronts.{HasNone}
 use Rattle.venue_types.specs.declared.feature_id.FeatureId.{FeatureId}
 use Rattle.route_certificate.specs.declared.ending.Ending.{Ending}
 use Rattle.route_certificate.specs.declared.ending.Ending.TheVariants.{Whole, Missing, TextBehind}

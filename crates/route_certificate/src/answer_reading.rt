@@ -4,14 +4,14 @@ ghost use Rattle.std.specs.Prelude.{◌≡◌, ℕ, ◌^◌, ◌<◌, ◌≤◌,
 ghost use Rattle.std.specs.List.{list_all};
 ghost use Rattle.std.specs.Fmt.{decimal};
 ghost use Rattle.venue_types.specs.declared.link.Potential.{Potential};
-ghost use Rattle.text_forms.specs.Lines.{line};
-ghost use Rattle.text_forms.specs.Fronts.{HasNone};
+ghost use Rattle.line_forms.specs.Lines.{line};
+ghost use Rattle.line_forms.specs.Fronts.{HasNone};
 ghost use Rattle.route_certificate.specs.Forms.{FitsNode};
 ghost use Rattle.route_certificate.specs.Answers.{FitsCost, FitsPotential, at_body, to_line, route_line, at_line, reach_line};
 ghost use Rattle.route_certificate.specs.AnswerFronts.{IsInRange, FitsBehind, IsRisingFront};
 
+use line_forms::{after, cut_at, number, number_word};
 use std::alloc::{AllocError, Global};
-use text_forms::{after, cut_at, number, number_word};
 use venue_types::Potential;
 
 // Above the most that an answer costs and that a potential is, in centimetres.

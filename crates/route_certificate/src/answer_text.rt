@@ -1,8 +1,8 @@
 //! Reading and writing answers.
 
 ghost use Rattle.std.specs.Prelude.{◌≡◌, ℕ, ◌^◌, ◌<◌, ◌++◌, IfOk, IsErrOf, length};
-ghost use Rattle.text_forms.specs.Faults.{IsFaultLine};
-ghost use Rattle.text_forms.specs.Behind.{IsFaultBehind};
+ghost use Rattle.line_forms.specs.Faults.{IsFaultLine};
+ghost use Rattle.line_forms.specs.Behind.{IsFaultBehind};
 ghost use Rattle.route_certificate.specs.declared.table.Table.{Table};
 ghost use Rattle.route_certificate.specs.Answers.{IsAnswerText, IsAnswerTextOver, FitsAnswer, FitsCost, HasFewSteps, answer_text, route_line, none_line};
 ghost use Rattle.route_certificate.specs.AnswerFronts.{IsClaim, IsClaimText};
@@ -13,8 +13,8 @@ use crate::answer_writing::{push_claim, push_ends};
 use crate::ending::{Ending, read_end};
 use crate::table::{FormFault, Table};
 use crate::walk_reading::{next_from, read_steps};
+use line_forms::after;
 use std::alloc::Global;
-use text_forms::after;
 use venue_types::{Bytes, List, OutOfMemory};
 
 // The claim of a route, behind its first line and three before that.

@@ -3,13 +3,13 @@
 ghost use Rattle.std.specs.Prelude.{◌≡◌, ◌++◌, OnOk};
 ghost use Rattle.std.specs.List.{flat_map};
 ghost use Rattle.std.specs.Fmt.{decimal};
-ghost use Rattle.text_forms.specs.Lines.{line};
+ghost use Rattle.line_forms.specs.Lines.{line};
 ghost use Rattle.route_certificate.specs.Forms.{from_line, step_line, end_line};
 ghost use Rattle.route_certificate.specs.Answers.{answer_head, to_line, route_line, at_line, none_line, reach_line, claim_text};
 
 use crate::answer::Claim;
+use line_forms::push_number;
 use std::alloc::AllocError;
-use text_forms::push_number;
 use venue_types::Potential;
 
 // Adds a line of a front and a number.

@@ -2,7 +2,7 @@
 
 ghost use Rattle.route_certificate.specs.Fronts.{IsEnding};
 
-use text_forms::after;
+use line_forms::after;
 
 /// What stands where the last line is due.
 pub(crate) enum Ending {

@@ -2,14 +2,14 @@
 
 ghost use Rattle.std.specs.Prelude.{◌≡◌, ◌<◌, ◌≤◌, ◌++◌, IfSome, IfNone, IfOk, length};
 ghost use Rattle.venue_types.specs.declared.feature_id.FeatureId.{FeatureId};
-ghost use Rattle.text_forms.specs.Fronts.{HasNone, IsFront};
+ghost use Rattle.line_forms.specs.Fronts.{HasNone, IsFront};
 ghost use Rattle.route_certificate.specs.declared.table.TableLink.{TableLink};
 ghost use Rattle.route_certificate.specs.Forms.{FitsId, FitsLink, node_body, link_body, node_line, link_line};
 ghost use Rattle.route_certificate.specs.Fronts.{IsNodeFront};
 
 use crate::table::TableLink;
+use line_forms::{after, cut_at, number_word};
 use std::alloc::{AllocError, Global};
-use text_forms::{after, cut_at, number_word};
 use venue_types::FeatureId;
 
 // The most nodes that a table has.

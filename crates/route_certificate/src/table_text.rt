@@ -1,15 +1,15 @@
 //! Reading and writing tables.
 
 ghost use Rattle.std.specs.Prelude.{◌≡◌, ℕ, ◌^◌, ◌<◌, IfOk, IsErrOf, length};
-ghost use Rattle.text_forms.specs.Faults.{IsFaultLine};
+ghost use Rattle.line_forms.specs.Faults.{IsFaultLine};
 ghost use Rattle.route_certificate.specs.Forms.{IsTable, IsTableText, FitsTable, table_text};
 
 use crate::ending::{Ending, read_end};
 use crate::table::{FormFault, Table};
 use crate::table_reading::{read_links, read_nodes};
 use crate::table_writing::{push_links, push_nodes};
+use line_forms::after;
 use std::alloc::Global;
-use text_forms::after;
 use venue_types::{Bytes, List, OutOfMemory};
 
 /// The table whose text this is, in one pass over the text. It takes 16 bytes a node and 32 a link, and while it

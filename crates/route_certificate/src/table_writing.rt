@@ -7,8 +7,8 @@ ghost use Rattle.route_certificate.specs.declared.table.TableLink.{TableLink};
 ghost use Rattle.route_certificate.specs.Forms.{node_line, link_line};
 
 use crate::table::TableLink;
+use line_forms::push_number;
 use std::alloc::AllocError;
-use text_forms::push_number;
 use venue_types::FeatureId;
 
 fn push_node(out: &mut Vec<u8>, id: FeatureId) -> Result<(), AllocError>

@@ -1,11 +1,11 @@
 //! The lines of a walk.
 
 ghost use Rattle.std.specs.Prelude.{◌≡◌, ℕ, ◌^◌, ◌<◌, ◌++◌, IfSome, IfNone, IfOk, length};
-ghost use Rattle.text_forms.specs.Fronts.{HasNone, IsFront};
+ghost use Rattle.line_forms.specs.Fronts.{HasNone, IsFront};
 ghost use Rattle.route_certificate.specs.Forms.{FitsStep, from_body, step_body, from_line, step_line, FitsNode};
 
+use line_forms::{after, cut_at, number};
 use std::alloc::{AllocError, Global};
-use text_forms::{after, cut_at, number};
 
 fn from_of(nodes: usize, body: &[u8]) -> Option<u32>
     ensures found { IfSome result (λ n. (body.now ≡ from_body n) × FitsNode nodes n) }

@@ -1,14 +1,14 @@
 //! Reading walks.
 
 ghost use Rattle.std.specs.Prelude.{◌≡◌, ℕ, ◌^◌, ◌<◌, IfOk, IsErrOf, length};
-ghost use Rattle.text_forms.specs.Faults.{IsFaultLine};
+ghost use Rattle.line_forms.specs.Faults.{IsFaultLine};
 ghost use Rattle.route_certificate.specs.Forms.{IsWalkText, IsWalkTextOver};
 
 use crate::ending::{Ending, read_end};
 use crate::table::{FormFault, Table, WalkIn};
 use crate::walk_reading::{next_from, read_steps};
+use line_forms::after;
 use std::alloc::Global;
-use text_forms::after;
 use venue_types::List;
 
 /// The walk over the table whose text this is, in one pass over the text.

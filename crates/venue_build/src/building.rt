@@ -1,7 +1,7 @@
 //! One phase of rules after another.
 
 ghost use Rattle.std.specs.Prelude.{◌≡◌, IfOk, length};
-ghost use Rattle.sound_rows.specs.Sound.{AreSound};
+ghost use Rattle.feature_rows.specs.Sound.{AreSound};
 ghost use Rattle.report_laws.specs.Reports.{IsReport};
 ghost use Rattle.venue_build.specs.Report.{IsLaterBroken};
 ghost use Rattle.venue_build.specs.Built.{IsBuilt};
@@ -10,8 +10,8 @@ use crate::plane::plane_findings;
 use crate::{Built, Venue};
 use imdf_read::{ReadOut, read_folder};
 use imdf_refs::{own_ids_law, reference_findings};
+use reading_laws::sound_reading_law;
 use report_laws::shortened;
-use sound_reading::sound_reading_law;
 use std::alloc::Global;
 use venue_types::{Features, Files, Finding, List, OutOfMemory, Settings};
 

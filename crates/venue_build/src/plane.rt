@@ -2,8 +2,8 @@
 
 ghost use Rattle.std.specs.Prelude.{IfOk};
 ghost use Rattle.report_laws.specs.Reports.{IsReport};
-ghost use Rattle.sound_rows.specs.Rows.{HaveOwnIds};
-ghost use Rattle.sound_rows.specs.Sound.{AreSound};
+ghost use Rattle.feature_rows.specs.Rows.{HaveOwnIds};
+ghost use Rattle.feature_rows.specs.Sound.{AreSound};
 ghost use Rattle.venue_build.specs.Phases.{IsPlaneBroken};
 
 use contain_rules::add_hold_findings;

@@ -5,7 +5,7 @@ use Rattle.venue_ports.specs.Files.{StoredFile}
 use Rattle.venue_ports.specs.Causes.{Rose}
 use Rattle.venue_ports.specs.declared.folders.ReadFault.{ReadFault}
 use Rattle.venue_ports.specs.declared.stream.Failed.{Failed}
-use Rattle.text_forms.specs.Lines.{line}
+use Rattle.line_forms.specs.Lines.{line}
 use Rattle.venue_cli.specs.declared.answer.Answer.{Answer}
 use Rattle.venue_cli.specs.declared.status.Status.{Status}
 use Rattle.venue_cli.specs.declared.status.Status.TheVariants.{Done, Negative, Wrong, Fault, Memory}

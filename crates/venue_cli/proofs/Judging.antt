@@ -6,7 +6,7 @@ use Rattle.venue_ports.specs.Files.{StoredFile, file_at}
 use Rattle.route_certificate.specs.declared.table.Table.{Table}
 use Rattle.route_certificate.specs.declared.table.WalkIn.{WalkIn}
 use Rattle.route_certificate.specs.declared.table.Priced.{Priced}
-use Rattle.text_forms.specs.Faults.{IsFaultLine}
+use Rattle.line_forms.specs.Faults.{IsFaultLine}
 use Rattle.route_certificate.specs.Forms.{IsTable}
 use Rattle.route_certificate.specs.Prices.{IsPriced}
 use Rattle.venue_cli.specs.declared.load.Loaded.{Loaded}

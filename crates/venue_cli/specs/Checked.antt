@@ -6,11 +6,11 @@ use Rattle.venue_types.specs.declared.files.Slot.TheVariants as slot
 use Rattle.venue_types.specs.declared.finding.Report.{Report}
 use Rattle.venue_types.specs.declared.settings.Settings.{Settings}
 use Rattle.venue_ports.specs.Files.{StoredFile, file_at}
-use Rattle.text_forms.specs.Lines.{line}
+use Rattle.line_forms.specs.Lines.{line}
 use Rattle.venue_settings.specs.declared.fault.SettingsFault.{SettingsFault}
 use Rattle.venue_settings.specs.declared.fault.SettingsFault.TheVariants as fault
 use Rattle.venue_settings.specs.Settings.{IsSettingsOf}
-use Rattle.sound_rows.specs.Rows.{feature_count}
+use Rattle.feature_rows.specs.Rows.{feature_count}
 use Rattle.venue_build.specs.declared.venue.Venue.{Venue}
 use Rattle.venue_build.specs.Built.{IsRejected, IsVenueOf}
 use Rattle.check_text.specs.Names.{file_names}

@@ -1,8 +1,8 @@
 -- Files of the base: their names, their limits, and how one stops a command.
 use Rattle.std.specs.Prelude.{◌≡◌, ℕ, ◌<◌, ◌≤◌, List, ◌++◌, length, Option, Some, None, codes}
 use Rattle.std.specs.Fmt.{decimal}
-use Rattle.text_forms.specs.Lines.{line}
-use Rattle.text_forms.specs.Faults.{IsFaultLine}
+use Rattle.line_forms.specs.Lines.{line}
+use Rattle.line_forms.specs.Faults.{IsFaultLine}
 use Rattle.venue_cli.specs.declared.load.Cause.{Cause}
 use Rattle.venue_cli.specs.declared.load.Cause.TheVariants.{Missing, Large, Malformed}
 

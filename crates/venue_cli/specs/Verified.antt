@@ -2,7 +2,7 @@
 use Rattle.std.specs.Prelude.{ℕ, List, ◌++◌, codes}
 use Rattle.std.specs.Fmt.{decimal}
 use Rattle.venue_ports.specs.Files.{StoredFile, file_at}
-use Rattle.text_forms.specs.Lines.{line}
+use Rattle.line_forms.specs.Lines.{line}
 use Rattle.route_certificate.specs.declared.table.Table.{Table}
 use Rattle.route_certificate.specs.declared.answer.AnswerIn.{AnswerIn}
 use Rattle.route_certificate.specs.declared.answer.FailedClause.{FailedClause}

@@ -11,7 +11,7 @@ use crate::folder::files_of;
 use crate::settings::settings_of;
 use crate::status::Status;
 use check_text::{accepted_text, rejected_text};
-use sound_rows::feature_count;
+use feature_rows::feature_count;
 use std::alloc::Global;
 use venue_build::{Built, build};
 use venue_ports::{Folders, ReadFault};

@@ -1,7 +1,7 @@
 //! The settings of a base.
 
 ghost use Rattle.std.specs.Prelude.{◌≡◌, ◌++◌, codes, string_bytes, IfOk, IfErr, IfSome};
-ghost use Rattle.text_forms.specs.Lines.{line};
+ghost use Rattle.line_forms.specs.Lines.{line};
 ghost use Rattle.venue_ports.specs.Files.{file_at, HasReadCause};
 ghost use Rattle.venue_ports.specs.declared.folders.ReadFault.TheVariants.{OutOfMemory as NoMemory};
 ghost use Rattle.venue_cli.specs.Checked.{IsFaultText, settings_name};

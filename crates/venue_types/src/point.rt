@@ -17,7 +17,7 @@ pub struct Spot {
 }
 
 /// A border, which by RFC 7946, section 3.1.6, is a closed line. That its last point equals its first is kept by the
-/// reader of geometries, and `sound_rows` says it of the rows of a folder (`IsSoundRing`).
+/// reader of geometries, and `feature_rows` says it of the rows of a folder (`IsSoundRing`).
 #[derive(Drop)]
 pub struct Ring {
     pub points: List<Point>,

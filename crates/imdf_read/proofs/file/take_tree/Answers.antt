@@ -2,7 +2,7 @@ use Rattle.std.proofs.Common.{◌≡◌, ◌≤◌, ◌^◌, List, [], Option, S
 use Rattle.std.specs.Prelude.{slice_get}
 use Rattle.exact_json.specs.Json.{Json, member}
 use Rattle.exact_json.specs.View.{tree_view}
-use Rattle.imdf_forms.specs.Items.{items_in}
+use Rattle.imdf_schema.specs.Items.{items_in}
 use Rattle.report_laws.specs.Passes.{Adds}
 use Rattle.imdf_read.specs.Gathering.{FindsInItems, NotesInItems}
 use Rattle.imdf_read.specs.Taking.{TakesItems}

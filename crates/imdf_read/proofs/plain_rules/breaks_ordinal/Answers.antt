@@ -1,9 +1,9 @@
 use Rattle.std.proofs.Common.{rules, sym}
 use denote.Enum.Bare.{same_true}
 use Rattle.exact_json.specs.View.{tree_view}
-use Rattle.imdf_forms.specs.contracts.files.File.{the_type}
-use Rattle.imdf_forms.specs.declared.files.File.TheVariants as file
-use Rattle.imdf_forms.specs.Values.{seen}
+use Rattle.imdf_schema.specs.contracts.files.File.{the_type}
+use Rattle.imdf_schema.specs.declared.files.File.TheVariants as file
+use Rattle.imdf_schema.specs.Values.{seen}
 use Rattle.imdf_read.proofs.PlainRules.{ordinal_rule}
 use Rattle.imdf_read.proofs.plain_rules.breaks_ordinal.Goals as goal
 

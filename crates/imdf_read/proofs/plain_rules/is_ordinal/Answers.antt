@@ -1,6 +1,6 @@
 use Rattle.std.proofs.Common.{ℤ, Option, Some, None, Bool, is_some, IsTrue, IfSome, IfNone, ◌↔◌, refl, sym, subst}
 use Rattle.exact_json.specs.Json.{Json}
-use Rattle.imdf_forms.specs.Values.{seen}
+use Rattle.imdf_schema.specs.Values.{seen}
 use Rattle.imdf_rows.specs.Fields.{IsOrdinal}
 use Rattle.imdf_read.proofs.plain_rules.is_ordinal.Goals as goal
 

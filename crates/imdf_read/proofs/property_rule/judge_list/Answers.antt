@@ -2,7 +2,7 @@ use Rattle.std.proofs.Common.{◌≡◌, ◌∙◌, ℕ, ◌+◌, ◌*◌, not, 
 use Rattle.std.proofs.lemmas.List.{length-map}
 use Rattle.std.proofs.lemmas.Option.{slice_get_read}
 use Rattle.exact_json.specs.View.{tree_view}
-use Rattle.imdf_forms.specs.Properties.{property_number}
+use Rattle.imdf_schema.specs.Properties.{property_number}
 use Rattle.imdf_read.specs.declared.rules.Rule.TheVariants.{C6}
 use Rattle.imdf_read.specs.Gathering.{finding_at}
 use Rattle.report_laws.proofs.Adding.{Adds-start, Adds-step, Adds-end, Adds-found, at_map}

@@ -3,10 +3,10 @@ use Rattle.std.specs.Result.{OnOk}
 use denote.Enum.Bare.{differs_true, differs_false}
 use Rattle.exact_json.specs.Json.{Json}
 use Rattle.exact_json.specs.View.{tree_view}
-use Rattle.imdf_forms.specs.contracts.files.File.{the_type}
-use Rattle.imdf_forms.specs.Forms.{Fits, items_of}
-use Rattle.imdf_forms.specs.Items.{property}
-use Rattle.imdf_forms.specs.Properties.{property_number}
+use Rattle.imdf_schema.specs.contracts.files.File.{the_type}
+use Rattle.imdf_schema.specs.Forms.{Fits, items_of}
+use Rattle.imdf_schema.specs.Items.{property}
+use Rattle.imdf_schema.specs.Properties.{property_number}
 use Rattle.imdf_read.specs.declared.rules.Rule.TheVariants.{C6}
 use Rattle.report_laws.specs.Passes.{Adds}
 use Rattle.imdf_read.specs.Gathering.{finding_at}

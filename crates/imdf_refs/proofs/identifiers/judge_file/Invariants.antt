@@ -1,4 +1,4 @@
-use Rattle.imdf_forms.specs.Files.{file_number}
+use Rattle.imdf_schema.specs.Files.{file_number}
 use Rattle.report_laws.specs.Passes.{Adds}
 use Rattle.report_laws.proofs.Adding.{Below}
 use Rattle.imdf_refs.specs.Index.{HasBefore}

@@ -1,5 +1,5 @@
 use Rattle.std.proofs.Common.{◌+◌}
-use Rattle.imdf_forms.specs.Files.{feature_files}
+use Rattle.imdf_schema.specs.Files.{feature_files}
 use Rattle.report_laws.specs.Passes.{Adds}
 use Rattle.report_laws.proofs.Adding.{Below}
 use Rattle.imdf_refs.specs.Index.{HasBefore}

@@ -1,6 +1,6 @@
 use Rattle.std.proofs.Common.{ℕ, ◌<◌, length}
 use Rattle.std.proofs.lemmas.Option.{slice_get-get_or}
-use Rattle.imdf_forms.specs.declared.table.PropertyRow.{PropertyRow}
+use Rattle.imdf_schema.specs.declared.table.PropertyRow.{PropertyRow}
 use Rattle.report_laws.proofs.Adding.{Adds-start, Adds-step, Adds-end}
 use Rattle.imdf_refs.specs.Gathering.{DanglesInProperty}
 use Rattle.imdf_refs.proofs.Dangling.{in_table}

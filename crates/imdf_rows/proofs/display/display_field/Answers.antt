@@ -1,7 +1,7 @@
 use Rattle.std.proofs.Common.{sym, ap, subst}
 use Rattle.exact_json.specs.Json.{Json}
 use Rattle.exact_json.specs.View.{tree_view}
-use Rattle.imdf_forms.specs.Values.{seen}
+use Rattle.imdf_schema.specs.Values.{seen}
 use Rattle.imdf_rows.specs.Fields.{IsDisplay}
 use Rattle.imdf_rows.proofs.Shown.{shown}
 use Rattle.imdf_rows.proofs.display.display_field.Goals as goal

@@ -1,7 +1,7 @@
 use Rattle.std.proofs.Common.{◌≡◌, drop, map}
 use Rattle.std.specs.List.{list_any}
 use Rattle.exact_json.specs.View.{tree_view}
-use Rattle.imdf_forms.specs.Values.{is_word}
+use Rattle.imdf_schema.specs.Values.{is_word}
 use Rattle.imdf_rows.proofs.fields.any_is_word.Given as goal
 
 -- among the items that are left the word stands where it stands among all

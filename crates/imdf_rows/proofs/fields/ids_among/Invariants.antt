@@ -1,7 +1,7 @@
 use Rattle.std.proofs.Common.{◌≡◌, ◌++◌, drop, map}
 use Rattle.std.specs.List.{filter_map}
 use Rattle.exact_json.specs.View.{tree_view}
-use Rattle.imdf_forms.specs.Values.{id_of}
+use Rattle.imdf_schema.specs.Values.{id_of}
 use Rattle.imdf_rows.proofs.fields.ids_among.Given as goal
 
 -- the identifiers so far and those of the items that are left are those of all

@@ -1,6 +1,6 @@
 use Rattle.std.proofs.Common.{ap, ap₂, ◌∙◌}
-use Rattle.imdf_forms.specs.Values.{id_of}
-use Rattle.imdf_forms.specs.Forms.{type_of}
+use Rattle.imdf_schema.specs.Values.{id_of}
+use Rattle.imdf_schema.specs.Forms.{type_of}
 use Rattle.imdf_rows.specs.Fields.{ref_of_both}
 use Rattle.imdf_rows.proofs.fields.ref_of.Goals as goal
 

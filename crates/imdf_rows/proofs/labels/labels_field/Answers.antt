@@ -1,6 +1,6 @@
 use Rattle.std.proofs.Common.{◌∙◌}
 use Rattle.exact_json.specs.View.{object_view}
-use Rattle.imdf_forms.specs.Values.{seen}
+use Rattle.imdf_schema.specs.Values.{seen}
 use Rattle.imdf_rows.proofs.Tags.{labels_some}
 use Rattle.imdf_rows.proofs.labels.labels_field.Goals as goal
 

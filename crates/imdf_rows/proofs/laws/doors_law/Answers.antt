@@ -3,9 +3,9 @@ use Rattle.std.specs.Str.{bytes_eq}
 use Rattle.std.proofs.lemmas.Slice.Eq.{bytes_eq-Decides}
 use Rattle.exact_json.specs.Json.{Json, member}
 use Rattle.imdf_access.specs.Categories.{before_dot}
-use Rattle.imdf_forms.specs.declared.table.Property.TheVariants as property
-use Rattle.imdf_forms.specs.Contents.{content_items}
-use Rattle.imdf_forms.specs.Items as item
+use Rattle.imdf_schema.specs.declared.table.Property.TheVariants as property
+use Rattle.imdf_schema.specs.Contents.{content_items}
+use Rattle.imdf_schema.specs.Items as item
 use Rattle.imdf_rows.specs.Fields.{text_field}
 use Rattle.imdf_rows.specs.Laws.{IsOneDoor}
 use Rattle.imdf_rows.specs.Rows.{IsOpeningRow}

@@ -3,7 +3,7 @@ use Rattle.venue_types.specs.declared.kind.Kind.TheVariants as kind
 use Rattle.imdf_access.specs.declared.meaning.Meaning.{Meaning}
 use Rattle.imdf_access.specs.declared.meaning.Meaning.TheVariants.{Elevator, Escalator, Movingwalkway, Ramp, Stairs, Steps, Traversal, Ground, Solid, Unknown}
 use Rattle.imdf_access.specs.Categories.{kind_between, meaning_of, passage_of}
-use Rattle.imdf_forms.specs.Contents.{content_items}
+use Rattle.imdf_schema.specs.Contents.{content_items}
 use Rattle.imdf_rows.specs.Laws.{IsPassageOrNone}
 use Rattle.imdf_rows.specs.Rows.{IsRelationshipRow}
 use Rattle.imdf_rows.proofs.Zips.{zip_all}

@@ -1,9 +1,9 @@
 use Rattle.std.proofs.Common.{◌≡◌, List, sym, subst}
 use Rattle.exact_json.specs.Json.{Json}
 use Rattle.venue_types.specs.declared.features.Label.{Label}
-use Rattle.imdf_forms.specs.declared.table.Property.TheVariants as property
-use Rattle.imdf_forms.specs.Items as item
-use Rattle.imdf_forms.specs.Contents.{content_items}
+use Rattle.imdf_schema.specs.declared.table.Property.TheVariants as property
+use Rattle.imdf_schema.specs.Items as item
+use Rattle.imdf_schema.specs.Contents.{content_items}
 use Rattle.imdf_rows.specs.Fields.{labels_field}
 use Rattle.imdf_rows.specs.Laws.{TagsAscend}
 use Rattle.imdf_rows.specs.Rows.{IsAmenityRow, IsOccupantRow, IsUnitRow}

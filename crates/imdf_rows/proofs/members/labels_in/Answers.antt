@@ -1,6 +1,6 @@
 use Rattle.exact_json.specs.View.{tree_view}
-use Rattle.imdf_forms.specs.declared.table.Property.TheVariants as names
-use Rattle.imdf_forms.specs.Values.{seen}
+use Rattle.imdf_schema.specs.declared.table.Property.TheVariants as names
+use Rattle.imdf_schema.specs.Values.{seen}
 use Rattle.imdf_rows.specs.Fields.{labels_field}
 use Rattle.imdf_rows.proofs.Moved.{moved}
 use Rattle.imdf_rows.proofs.members.labels_in.Goals as goal

@@ -1,5 +1,5 @@
 use Rattle.exact_json.specs.View.{tree_view}
-use Rattle.imdf_forms.specs.Values.{seen}
+use Rattle.imdf_schema.specs.Values.{seen}
 use Rattle.imdf_rows.specs.Fields.{text_field}
 use Rattle.imdf_rows.proofs.Moved.{moved}
 use Rattle.imdf_rows.proofs.members.text_in.Goals as goal

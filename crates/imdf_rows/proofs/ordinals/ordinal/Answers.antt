@@ -1,4 +1,4 @@
-use Rattle.imdf_forms.specs.Values.{seen}
+use Rattle.imdf_schema.specs.Values.{seen}
 use Rattle.imdf_rows.proofs.Billionths.{some_ordinal, none_ordinal, no_ordinal}
 use Rattle.imdf_rows.proofs.ordinals.ordinal.Goals as goal
 

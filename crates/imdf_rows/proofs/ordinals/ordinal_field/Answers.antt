@@ -1,6 +1,6 @@
 use Rattle.std.proofs.Common.{◌≡◌, arith, rules, SFits, w16}
 use Rattle.std.proofs.lemmas.Int.{ints}
-use Rattle.imdf_forms.specs.Values.{seen}
+use Rattle.imdf_schema.specs.Values.{seen}
 use Rattle.imdf_rows.proofs.Billionths.{one_ordinal}
 use Rattle.imdf_rows.proofs.ordinals.ordinal_field.Goals as goal
 

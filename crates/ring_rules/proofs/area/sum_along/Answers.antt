@@ -1,7 +1,7 @@
 use Rattle.std.proofs.Common.{◌<◌, to_z, arith}
 use mir.Syntax.{w128}
 use Rattle.std.proofs.lemmas.List.Elements.{All-get_or}
-use Rattle.sound_rows.specs.Sound.{IsOnEarth}
+use Rattle.feature_rows.specs.Sound.{IsOnEarth}
 use Rattle.ring_rules.proofs.AreaLemmas.{sum_back, sum_range, sum_step}
 use Rattle.ring_rules.proofs.area.sum_along.Goals as goal
 

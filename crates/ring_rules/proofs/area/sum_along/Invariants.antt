@@ -1,7 +1,7 @@
 use Rattle.std.proofs.Common.{◌≡◌, ◌*◌, pos, ◌+ℤ◌, drop}
 use Rattle.plane_exact.specs.Plane.{IsWithin}
 use Rattle.plane_exact.specs.Figure.{edges_from}
-use Rattle.sound_rows.specs.Sound.{IsOnEarth}
+use Rattle.feature_rows.specs.Sound.{IsOnEarth}
 use Rattle.ring_rules.specs.Rings.{cross_sum}
 use Rattle.ring_rules.proofs.area.sum_along.Given as goal
 

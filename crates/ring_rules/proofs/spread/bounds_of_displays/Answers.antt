@@ -1,6 +1,6 @@
 use Rattle.std.proofs.Common.{List, sym, subst}
 use Rattle.venue_types.specs.declared.point.Point.{Point}
-use Rattle.sound_rows.specs.Figures.{display_of}
+use Rattle.feature_rows.specs.Figures.{display_of}
 use Rattle.ring_rules.specs.Bounds.{AreBounds}
 use Rattle.ring_rules.proofs.BoundsLemmas.{flat_map_step}
 use Rattle.ring_rules.proofs.spread.bounds_of_displays.Goals as goal

@@ -1,5 +1,5 @@
 use Rattle.std.proofs.Common.{flat_map, take}
-use Rattle.sound_rows.specs.Figures.{display_of}
+use Rattle.feature_rows.specs.Figures.{display_of}
 use Rattle.ring_rules.specs.Bounds.{AreBounds}
 use Rattle.ring_rules.proofs.spread.bounds_of_displays.Given as goal
 

@@ -1,6 +1,6 @@
 use Rattle.route_certificate.specs.Answers.{at_body, at_line, FitsPotential}
 use Rattle.route_certificate.specs.AnswerFronts.{FitsBehind}
-use Rattle.text_forms.proofs.LineLemmas.{no_item_line, other_item_line, item_line}
+use Rattle.line_forms.proofs.LineLemmas.{no_item_line, other_item_line, item_line}
 use Rattle.route_certificate.proofs.AnswerLines.{at_line_is, Lacks-at_body, small_potential}
 use Rattle.route_certificate.proofs.answer_reading.next_at.Goals as goal
 

@@ -2,7 +2,7 @@ use Rattle.std.proofs.Common.{◌≡◌, ◌<◌, ◌^◌, ◌++◌, sym, ◌∙
 use Rattle.std.proofs.lemmas.List.{append_cancel_left}
 use Rattle.std.proofs.lemmas.Fmt.{decimal_injective}
 use Rattle.std.specs.Fmt.{decimal}
-use Rattle.text_forms.proofs.LineLemmas.{no_line, same_line}
+use Rattle.line_forms.proofs.LineLemmas.{no_line, same_line}
 use Rattle.route_certificate.proofs.AnswerLines.{Lacks-tested, Lacks-numbered}
 use Rattle.route_certificate.proofs.answer_reading.number_line.Goals as goal
 use Rattle.route_certificate.proofs.answer_reading.number_line.Goals.{else-low-found-via-then-low-found+else-found-below, else-low-found-via-else-low-found}

@@ -2,8 +2,8 @@ use Rattle.std.proofs.Common.{List, ℕ, ◌≡◌, ◌<◌, ◌++◌, sym, ap, 
 use Rattle.std.proofs.lemmas.List.{append_cancel_left}
 use Rattle.std.proofs.lemmas.Fmt.{decimal_injective}
 use Rattle.std.specs.Fmt.{decimal}
-use Rattle.text_forms.specs.Lines.{word}
-use Rattle.text_forms.proofs.LineLemmas.{word_unique}
+use Rattle.line_forms.specs.Lines.{word}
+use Rattle.line_forms.proofs.LineLemmas.{word_unique}
 use Rattle.route_certificate.proofs.AnswerLines.{at_tail, small_potential}
 use Rattle.route_certificate.proofs.answer_reading.potential_of.Goals as goal
 use Rattle.route_certificate.proofs.answer_reading.potential_of.Goals.{else-low-node-via-then-low-node+then-node-end+else-value-lt-COST_END, else-low-node-via-then-low-node+else-node-end, else-low-node-via-else-low-node}

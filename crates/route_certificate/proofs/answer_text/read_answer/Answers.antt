@@ -1,7 +1,7 @@
 use Rattle.std.proofs.Common.{◌≡◌, ℕ, ◌++◌, List, sym, ap, subst, ◌∙◌, arith}
 use Rattle.std.specs.Prelude.{Result, Ok, Err, IsErrOf, IsErrAnd}
-use Rattle.text_forms.specs.Fronts.{HasNone}
-use Rattle.text_forms.specs.Faults.{IsFaultLine}
+use Rattle.line_forms.specs.Fronts.{HasNone}
+use Rattle.line_forms.specs.Faults.{IsFaultLine}
 use Rattle.route_certificate.specs.declared.answer.AnswerIn.{AnswerIn}
 use Rattle.route_certificate.specs.declared.answer.Claim.{Claim}
 use Rattle.route_certificate.specs.declared.table.FormFault.{FormFault}

@@ -1,6 +1,6 @@
 use Rattle.std.proofs.Common.{◌≡◌, ℕ, List, ◌+◌, ◌++◌, length, sym, subst, ap, ◌∙◌, arith}
 use Rattle.std.specs.List.{flat_map}
-use Rattle.text_forms.specs.Faults.{IsFaultLine}
+use Rattle.line_forms.specs.Faults.{IsFaultLine}
 use Rattle.route_certificate.specs.declared.answer.Claim.{Claim}
 use Rattle.route_certificate.specs.declared.answer.Claim.TheVariants.{Nothing}
 use Rattle.route_certificate.specs.Forms.{end_line}

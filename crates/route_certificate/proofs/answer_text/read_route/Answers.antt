@@ -1,7 +1,7 @@
 use Rattle.std.proofs.Common.{◌≡◌, ℕ, List, ◌+◌, ◌++◌, length, sym, subst, ap, ◌∙◌, arith}
 use Rattle.std.specs.List.{flat_map}
 use Rattle.venue_types.specs.declared.link.Potential.{Potential}
-use Rattle.text_forms.specs.Faults.{IsFaultLine}
+use Rattle.line_forms.specs.Faults.{IsFaultLine}
 use Rattle.route_certificate.specs.declared.answer.Claim.{Claim}
 use Rattle.route_certificate.specs.declared.answer.Claim.TheVariants.{Route}
 use Rattle.route_certificate.specs.Forms.{step_line, end_line}

@@ -1,6 +1,6 @@
 use Rattle.std.proofs.Common.{sym, ap, ◌∙◌, arith}
 use Rattle.std.specs.Fmt.{decimal}
-use Rattle.text_forms.specs.Lines.{word}
+use Rattle.line_forms.specs.Lines.{word}
 use Rattle.route_certificate.proofs.LineLemmas.{small_link, link_0, link_1, link_2, link_3}
 use Rattle.route_certificate.proofs.table_reading.link_of.Goals as goal
 use Rattle.route_certificate.proofs.table_reading.link_of.Goals.{else-from-nodes-via-then-from-nodes+then-to-nodes+else-cost-le-MAX_COST, else-from-nodes-via-then-from-nodes+else-to-nodes, else-from-nodes-via-else-from-nodes}

@@ -1,6 +1,6 @@
 use Rattle.std.proofs.Common.{arith}
 use Rattle.route_certificate.specs.Forms.{link_body, link_line, FitsLink}
-use Rattle.text_forms.proofs.LineLemmas.{no_item_line, other_item_line, item_line}
+use Rattle.line_forms.proofs.LineLemmas.{no_item_line, other_item_line, item_line}
 use Rattle.route_certificate.proofs.LineLemmas.{link_line_is, Lacks-link_body, small_link}
 use Rattle.route_certificate.proofs.table_reading.next_link.Goals as goal
 

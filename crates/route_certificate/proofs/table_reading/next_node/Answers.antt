@@ -1,5 +1,5 @@
 use Rattle.route_certificate.specs.Forms.{node_body, node_line, FitsId}
-use Rattle.text_forms.proofs.LineLemmas.{no_item_line, other_item_line, item_line}
+use Rattle.line_forms.proofs.LineLemmas.{no_item_line, other_item_line, item_line}
 use Rattle.route_certificate.proofs.LineLemmas.{node_line_is, Lacks-node_body}
 use Rattle.route_certificate.proofs.table_reading.next_node.Goals as goal
 

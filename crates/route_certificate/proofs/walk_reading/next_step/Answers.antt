@@ -1,6 +1,6 @@
 use Rattle.std.proofs.Common.{arith}
 use Rattle.route_certificate.specs.Forms.{step_body, step_line, FitsStep}
-use Rattle.text_forms.proofs.LineLemmas.{no_item_line, other_item_line, item_line}
+use Rattle.line_forms.proofs.LineLemmas.{no_item_line, other_item_line, item_line}
 use Rattle.route_certificate.proofs.LineLemmas.{step_line_is, Lacks-step_body}
 use Rattle.route_certificate.proofs.walk_reading.next_step.Goals as goal
 

@@ -1,6 +1,6 @@
 use Rattle.std.proofs.Common.{◌≡◌, ◌+◌, length, sym, subst, ◌∙◌, true≢false, arith}
-use Rattle.text_forms.specs.Fronts.{HasNone}
-use Rattle.text_forms.specs.Faults.{IsFaultLine}
+use Rattle.line_forms.specs.Fronts.{HasNone}
+use Rattle.line_forms.specs.Faults.{IsFaultLine}
 use Rattle.route_certificate.specs.declared.table.WalkIn.{WalkIn}
 use Rattle.route_certificate.specs.Forms.{IsWalkTextOver, from_line, FitsNode}
 use Rattle.route_certificate.proofs.WalkLemmas.{WalkRead, walk_read, few_steps}

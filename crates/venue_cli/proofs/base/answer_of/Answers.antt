@@ -1,5 +1,5 @@
 use Rattle.std.proofs.Common.{refl, subst, List, ℕ}
-use Rattle.text_forms.specs.Faults.{IsFaultLine}
+use Rattle.line_forms.specs.Faults.{IsFaultLine}
 use Rattle.route_certificate.specs.declared.answer.AnswerIn.{AnswerIn}
 use Rattle.venue_cli.specs.Files.{answer_limit, answer_name}
 use Rattle.venue_cli.specs.Verified.{AnswerForm}

@@ -1,5 +1,5 @@
 use Rattle.std.proofs.Common.{refl, subst, List, ℕ}
-use Rattle.text_forms.specs.Faults.{IsFaultLine}
+use Rattle.line_forms.specs.Faults.{IsFaultLine}
 use Rattle.route_certificate.specs.Forms.{IsTable}
 use Rattle.route_certificate.specs.declared.table.Table.{Table}
 use Rattle.venue_cli.specs.Files.{links_limit, links_name}

@@ -1,5 +1,5 @@
 use Rattle.std.proofs.Common.{refl, subst, List, ℕ}
-use Rattle.text_forms.specs.Faults.{IsFaultLine}
+use Rattle.line_forms.specs.Faults.{IsFaultLine}
 use Rattle.route_certificate.specs.declared.table.WalkIn.{WalkIn}
 use Rattle.venue_cli.specs.Files.{walk_limit, walk_name}
 use Rattle.venue_cli.specs.Output.{WalkForm}

@@ -1,6 +1,6 @@
 use Rattle.std.proofs.Common.{◌≡◌, ◌∙◌, ◌++◌, string_bytes, codes}
 use Rattle.std.proofs.lemmas.Result.{IfOk-weaker}
-use Rattle.text_forms.specs.Lines.{line}
+use Rattle.line_forms.specs.Lines.{line}
 use Rattle.venue_cli.proofs.Settling.{keyed_pieces, keyed_line}
 use Rattle.venue_cli.proofs.settings.keyed.Goals as goal
 

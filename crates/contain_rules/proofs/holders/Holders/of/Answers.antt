@@ -1,8 +1,8 @@
 use Rattle.std.proofs.Common.{List, map, subst, sym}
 use Rattle.venue_types.specs.declared.features.LevelRow.{LevelRow}
 use Rattle.venue_types.specs.declared.features.UnitRow.{UnitRow}
-use Rattle.imdf_forms.specs.declared.files.File.TheVariants as file
-use Rattle.sound_rows.specs.Indexes.{AreOnce}
+use Rattle.imdf_schema.specs.declared.files.File.TheVariants as file
+use Rattle.feature_rows.specs.Indexes.{AreOnce}
 use Rattle.contain_rules.specs.Holders.{IsShapeIndex}
 use Rattle.contain_rules.proofs.holders.Holders.of.Goals as goal
 
