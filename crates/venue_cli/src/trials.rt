@@ -2,12 +2,12 @@
 
 mod accepted_rows;
 mod bulk_rows;
-mod feature_rows;
 mod figure_rows;
 mod file_rows;
 mod files;
 mod folder;
 mod holding_rows;
+mod item_rows;
 mod notation;
 mod program;
 mod property_rows;
@@ -18,11 +18,11 @@ mod stop_rows;
 
 use accepted_rows::{HIGH, SOUND};
 use bulk_rows::{BYTES, BulkRow, COUNTS, LONG, LongRow, POSITIONS};
-use feature_rows::FEATURES;
 use figure_rows::FIGURES;
 use file_rows::FILES;
 use folder::{Change, Edit, Row, files_of};
 use holding_rows::HOLDING;
+use item_rows::FEATURES;
 use program::ending;
 use property_rows::{REFERENCE_FORMS, VALUE_FORMS};
 use reference_rows::{IDENTIFIERS, REFERENCES, Reference};
