@@ -11,6 +11,8 @@ mod link;
 mod list;
 mod memory;
 mod point;
+mod query;
+mod reply;
 mod room;
 mod settings;
 #[cfg(test)]
@@ -30,6 +32,8 @@ pub use link::{Link, LinkFacts, Node, Potential, Touches};
 pub use list::List;
 pub use memory::OutOfMemory;
 pub use point::{Line, Part, Point, Ring, Shape, Spot};
+pub use query::{Ask, Change, Query};
+pub use reply::{Mark, PlaceRow, Reply, StepRow, Which};
 pub use room::{push_reserved, reserve};
 pub use settings::{Extras, Profile, Settings};
 pub use text::Text;

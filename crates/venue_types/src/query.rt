@@ -1,0 +1,39 @@
+//! What a visitor asks, and what staff change.
+
+use crate::{FeatureId, Text};
+
+/// A question, to be answered at a version that is no older than `since`, where that is given.
+#[derive(Drop)]
+pub struct Query {
+    pub since: Option<u32>,
+    pub what: Ask,
+}
+
+/// What is asked.
+#[derive(Drop)]
+pub enum Ask {
+    /// The version that stands.
+    Version,
+    /// All places.
+    Places,
+    /// One place.
+    Place(FeatureId),
+    /// What is closed.
+    Closures,
+    /// The cheapest way between two places for a profile, with its certificate where that is asked for.
+    Route {
+        from: FeatureId,
+        to: FeatureId,
+        profile: Text,
+        certificate: bool,
+    },
+}
+
+/// A change that staff ask for.
+#[derive(Drop)]
+pub enum Change {
+    /// Closes a feature, or opens it again.
+    Closure { feature: FeatureId, closed: bool },
+    /// Publishes the folder of this name.
+    Publish { folder: Text },
+}

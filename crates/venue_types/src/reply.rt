@@ -1,0 +1,115 @@
+//! What a question or a change is answered.
+
+use crate::{Class, FeatureId, Kind, Label, List, Report, Text};
+
+/// A place that a visitor can ask for.
+#[derive(Drop)]
+pub struct PlaceRow {
+    pub id: FeatureId,
+    pub class: Class,
+    /// The ordinal of its level.
+    pub ordinal: i16,
+    pub name: List<Label>,
+}
+
+/// A step of a walk: where it leads, over what, and its cost in centimetres.
+#[derive(Clone, Copy, Debug, PartialEq, Eq)]
+pub struct StepRow {
+    pub to: FeatureId,
+    pub via: FeatureId,
+    pub cost: u32,
+    pub kind: Kind,
+}
+
+/// A potential of a certificate, in centimetres.
+#[derive(Clone, Copy, Debug, PartialEq, Eq)]
+pub struct Mark {
+    pub node: FeatureId,
+    pub value: u64,
+}
+
+/// Which identifier of a question names no place.
+#[derive(Clone, Copy, Debug, PartialEq, Eq)]
+pub enum Which {
+    From,
+    To,
+    Id,
+}
+
+/// The answer to a question or a change; `number` is that of the version at which it is given.
+#[derive(Drop)]
+pub enum Reply {
+    /// How many features are closed, and how many places there are.
+    Version {
+        number: u32,
+        closed: u32,
+        places: u32,
+    },
+    Places {
+        number: u32,
+        rows: List<PlaceRow>,
+    },
+    Place {
+        number: u32,
+        row: PlaceRow,
+        closed: bool,
+    },
+    Closures {
+        number: u32,
+        closed: List<FeatureId>,
+    },
+    /// A cheapest walk, from the node `start`; the potentials are there where they were asked for.
+    Route {
+        number: u32,
+        from: FeatureId,
+        to: FeatureId,
+        profile: Text,
+        start: FeatureId,
+        cost: u64,
+        steps: List<StepRow>,
+        potentials: Option<List<Mark>>,
+    },
+    /// There is no walk; the nodes that can be reached are there where they were asked for.
+    NoRoute {
+        number: u32,
+        from: FeatureId,
+        to: FeatureId,
+        profile: Text,
+        reached: Option<List<FeatureId>>,
+    },
+    /// The feature is closed or open now as asked; `changed` tells whether it was otherwise before.
+    ClosureDone {
+        number: u32,
+        feature: FeatureId,
+        closed: bool,
+        changed: bool,
+    },
+    /// The folder is published; `dropped` are the closed features that it can't close any more.
+    Published {
+        number: u32,
+        dropped: List<FeatureId>,
+    },
+    /// The version asked for isn't there yet.
+    Ahead {
+        since: u32,
+        number: u32,
+    },
+    /// No profile has that name.
+    NoProfile,
+    /// The identifier names no place.
+    NoPlace(Which),
+    /// The identifier names nothing that can be closed.
+    NoFeature,
+    /// A file of the folder could not be read; the counts of faults before and after.
+    FolderFault {
+        before: u64,
+        after: u64,
+    },
+    /// The folder breaks rules.
+    Rejected(Report),
+    /// No further version fits.
+    HistoryFull {
+        number: u32,
+    },
+    OutOfMemory,
+}
