@@ -1,0 +1,4 @@
+pub mod Lengths
+pub mod Links
+pub mod Facts
+pub mod Views

@@ -1,0 +1,2 @@
+//! The links of a venue: which there are, in which order, what they cost, what they ask of who uses them, and which are open.
+#![tactic(auto)]

@@ -1,0 +1,6 @@
+pub mod Identity
+pub mod Touching
+pub mod Nodes
+pub mod Members
+pub mod Limits
+pub mod Unplaced

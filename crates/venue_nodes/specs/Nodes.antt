@@ -1,0 +1,90 @@
+-- The nodes of a venue: where walks begin, end and turn. And what can be closed.
+use Rattle.std.specs.Prelude.{ℕ, pos, ◌+ℤ◌, List, [], ◌∷◌, ◌++◌, map, filter, fold, Option, Some, None, ℤ}
+use Rattle.std.specs.Int.{int_min, int_max}
+use Rattle.std.specs.List.{find, position_from}
+use Rattle.venue_types.specs.declared.feature_id.FeatureId.{FeatureId}
+use Rattle.venue_types.specs.declared.features.Features.{Features}
+use Rattle.venue_types.specs.declared.features.AmenityRow.{AmenityRow}
+use Rattle.venue_types.specs.declared.features.AnchorRow.{AnchorRow}
+use Rattle.venue_types.specs.declared.features.OccupantRow.{OccupantRow}
+use Rattle.venue_types.specs.declared.features.OpeningRow.{OpeningRow}
+use Rattle.venue_types.specs.declared.features.RelationshipRow.{RelationshipRow}
+use Rattle.venue_types.specs.declared.features.UnitRow.{UnitRow}
+use Rattle.venue_types.specs.declared.kind.Class.TheVariants as class
+use Rattle.venue_types.specs.declared.link.Node.{Node}
+use Rattle.venue_types.specs.declared.point.Point.{Point}
+use Rattle.venue_types.specs.declared.point.Spot.{Spot}
+use Rattle.plane_exact.specs.Figure.{vertices}
+use Rattle.imdf_access.specs.Categories.{is_walkable}
+use Rattle.venue_nodes.specs.Identity.{is_same}
+
+-- the middle of two positions, in doubled coordinates
+abbrev pub middle : Point → Point → Spot
+middle a b = record { x = a.x +ℤ b.x; y = a.y +ℤ b.y }
+
+-- the last of the points a ∷ rest
+abbrev pub last_point : Point → List Point → Point
+last_point a [] = a
+last_point a (b ∷ rest) = last_point b rest
+
+-- the middle of the first vertex of a line and its last
+abbrev pub line_middle : List Point → Spot
+line_middle [] = record { x = pos 0; y = pos 0 }
+line_middle (a ∷ rest) = middle a (last_point a rest)
+
+-- the least and the greatest of a coordinate over the points a ∷ rest, added
+abbrev pub span_middle : (Point → ℤ) → Point → List Point → ℤ
+span_middle axis a rest = fold int_min (axis a) (map axis rest) +ℤ fold int_max (axis a) (map axis rest)
+
+-- the middle of the box round the points
+abbrev pub box_middle : List Point → Spot
+box_middle [] = record { x = pos 0; y = pos 0 }
+box_middle (a ∷ rest) = record { x = span_middle (λ (p : Point). p.x) a rest; y = span_middle (λ (p : Point). p.y) a rest }
+
+-- where somebody in the unit stands: at its display point, or where it has none in the middle of the box round all its vertices
+abbrev pub unit_spot : UnitRow → Spot
+unit_spot row = elim row.display [ None ↦ box_middle (vertices row.shape) | Some p ↦ middle p p ]
+
+-- the feature that a node stands for
+pub data NodeRow : Type 0 where
+  amenity : AmenityRow → NodeRow
+  anchor : AnchorRow → NodeRow
+  opening : OpeningRow → NodeRow
+  unit : UnitRow → NodeRow
+
+-- the node of a feature
+abbrev pub node_of_row : NodeRow → Node
+node_of_row (amenity row) = record { id = row.id; class = class.Amenity; spot = middle row.point row.point }
+node_of_row (anchor row) = record { id = row.id; class = class.Anchor; spot = middle row.point row.point }
+node_of_row (opening row) = record { id = row.id; class = class.Opening; spot = line_middle row.line.points }
+node_of_row (unit row) = record { id = row.id; class = class.Unit; spot = unit_spot row }
+
+-- the units that can be walked through, in file order
+abbrev pub walkable_units : Features → List UnitRow
+walkable_units features = filter (λ (row : UnitRow). is_walkable row.category) features.units
+
+-- the features that nodes stand for: amenities, anchors, openings, then walkable units, each in file order
+unfoldable pub node_rows : Features → List NodeRow
+node_rows features = map amenity features.amenities ++ map anchor features.anchors ++ map opening features.openings ++ map unit (walkable_units features)
+
+-- the nodes, numbered from 0
+unfoldable pub nodes : Features → List Node
+nodes features = map node_of_row (node_rows features)
+
+-- the number of the first node of this identifier
+abbrev pub node_number : Features → FeatureId → Option ℕ
+node_number features id = position_from (λ (node : Node). is_same node.id id) 0 (nodes features)
+
+-- the number of the node at which the feature is: its own, or of an occupant that of its anchor; no other feature is a place
+unfoldable pub place_of : Features → FeatureId → Option ℕ
+place_of features id = elim (find (λ (row : OccupantRow). is_same row.id id) features.occupants) [
+  | None ↦ node_number features id
+  | Some row ↦ node_number features row.anchor
+]
+
+-- the features that can be closed, numbered from 0: openings, relationships, then units, each in file order
+unfoldable pub closables : Features → List FeatureId
+closables features =
+    map (λ (row : OpeningRow). row.id) features.openings
+    ++ map (λ (row : RelationshipRow). row.id) features.relationships
+    ++ map (λ (row : UnitRow). row.id) features.units

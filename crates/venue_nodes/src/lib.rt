@@ -1,0 +1,9 @@
+//! The nodes of a venue, what can be closed in it, and the members of its units; the rules on how many there may be, and what
+//! is worth a note where a door or a passage leads nowhere.
+#![tactic(auto)]
+
+mod notes;
+mod rules;
+
+pub use notes::PlaceNote;
+pub use rules::LimitRule;

@@ -1,0 +1,25 @@
+//! The rules on how many members units may have.
+
+ghost use Rattle.std.specs.Prelude.{◌≡◌};
+ghost use Rattle.venue_nodes.specs.Limits.{limit_rule_number};
+
+/// A limit on the members of units.
+#[derive(Clone, Copy, Debug, PartialEq, Eq)]
+pub enum LimitRule {
+    /// A walkable unit has more than 4,096 members.
+    S5,
+    /// The squares of the numbers of members of all walkable units sum to more than 20,000,000.
+    S6,
+}
+
+impl LimitRule {
+    /// The number that stands in findings.
+    pub fn number(self) -> u8
+        ensures { result ≡ limit_rule_number self }
+    {
+        match self {
+            LimitRule::S5 => 34,
+            LimitRule::S6 => 35,
+        }
+    }
+}
