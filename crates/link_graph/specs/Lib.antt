@@ -2,3 +2,4 @@ pub mod Lengths
 pub mod Links
 pub mod Facts
 pub mod Views
+pub mod Usable
