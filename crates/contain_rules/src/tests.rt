@@ -4,12 +4,12 @@ ghost use Rattle.std.specs.Prelude.{All, IfOk};
 ghost use Rattle.plane_exact.specs.Testing.{IsInBox};
 ghost use Rattle.plane_exact.specs.Figure.{vertices};
 
-use crate::frame::frame_of;
 use crate::leaving::figure_leaves;
 use crate::rules::HoldRule;
+use plane_bands::Bands;
 use std::alloc::{AllocError, Global};
 use std::test::Fail;
-use venue_types::{Finding, List, Part, Point, Ring, Shape};
+use venue_types::{Finding, List, OutOfMemory, Part, Point, Ring, Shape};
 
 /// A position at most 100,000,000 from the middle on each axis, so that any two are close.
 fn at(place: (i64, i64)) -> Point
@@ -47,11 +47,17 @@ fn polygon(alloc: Global, outer: &[(i64, i64)], hole: &[(i64, i64)]) -> Result<S
     })
 }
 
-fn leaves(level: &Shape, tolerance: u32, unit: &Shape) -> bool
+fn leaves(
+    alloc: Global,
+    level: &Shape,
+    tolerance: u32,
+    unit: &Shape,
+) -> Result<bool, OutOfMemory>
     requires level { All IsInBox (vertices level.now) }
     requires unit { All IsInBox (vertices unit.now) }
 {
-    figure_leaves(level, frame_of(level), u32::min(tolerance, 1_000_000), unit)
+    let bands = Bands::of(alloc, level)?;
+    Ok(figure_leaves(&bands, u32::min(tolerance, 1_000_000), unit))
 }
 
 #[test]
@@ -85,7 +91,7 @@ fn units_leave_their_level(rt: HostRuntime) -> Result<(), Fail> {
         let corners = [low, (high.0, low.1), high, (low.0, high.1), low];
         let unit = polygon(rt.alloc(), &corners, &[])?;
         assert_eq!(rt;
-            leaves(&level, tolerance, &unit),
+            leaves(rt.alloc(), &level, tolerance, &unit)?,
             want,
             "{tolerance} {low:?} {high:?}"
         );

@@ -112,7 +112,7 @@ fn a_ring_has_its_findings(rt: HostRuntime) -> Result<(), Fail> {
             file: File::Unit,
             index: 7,
         };
-        add_shape(&mut findings, place, &shape).expect(&rt, "memory");
+        add_shape(alloc, &mut findings, place, &shape).expect(&rt, "memory");
         assert_eq!(rt;
             findings.len(),
             wanted.len(),
