@@ -47,12 +47,7 @@ fn polygon(alloc: Global, outer: &[(i64, i64)], hole: &[(i64, i64)]) -> Result<S
     })
 }
 
-fn leaves(
-    alloc: Global,
-    level: &Shape,
-    tolerance: u32,
-    unit: &Shape,
-) -> Result<bool, OutOfMemory>
+fn leaves(alloc: Global, level: &Shape, tolerance: u32, unit: &Shape) -> Result<bool, OutOfMemory>
     requires level { All IsInBox (vertices level.now) }
     requires unit { All IsInBox (vertices unit.now) }
 {
@@ -103,5 +98,62 @@ fn units_leave_their_level(rt: HostRuntime) -> Result<(), Fail> {
         member: 0,
     };
     assert_eq!(rt; HoldRule::K3.finding(7), finding);
+    Ok(())
+}
+
+/// How many teeth the comb has.
+const TEETH: i64 = 4_999;
+
+/// A comb whose teeth point north, each a nanodegree longer than the one west of it.
+fn comb(alloc: Global) -> Result<Vec<(i64, i64)>, AllocError> {
+    let mut corners = Vec::new(alloc);
+    for i in 0..TEETH {
+        let x = i.wrapping_mul(1000);
+        let right = x.wrapping_add(500);
+        corners.push((x, i.wrapping_add(1000)))?;
+        corners.push((x, i.wrapping_add(9_000_000)))?;
+        corners.push((right, i.wrapping_add(9_000_000)))?;
+        corners.push((right, i.wrapping_add(1001)))?;
+    }
+    corners.push((4_998_500, 0))?;
+    corners.push((0, 0))?;
+    corners.push((0, 1000))?;
+    Ok(corners)
+}
+
+/// The corners of the tips of its teeth, this far north of them.
+fn tips(alloc: Global, north: i64) -> Result<Vec<(i64, i64)>, AllocError> {
+    let mut corners = Vec::new(alloc);
+    for i in 0..TEETH {
+        let x = i.wrapping_mul(1000);
+        let y = i.wrapping_add(9_000_000).wrapping_add(north);
+        corners.push((x, y))?;
+        corners.push((x.wrapping_add(500), y))?;
+    }
+    corners.push((0, 9_000_000i64.wrapping_add(north)))?;
+    Ok(corners)
+}
+
+#[test]
+fn a_unit_of_the_tips_of_a_comb(rt: HostRuntime) -> Result<(), Fail> {
+    let alloc = rt.alloc();
+    let level = polygon(alloc, comb(alloc)?.as_slice(), &[])?;
+    // The tolerance, how far north of the tips the unit's vertices lie, and whether it leaves the level.
+    let table = [
+        (0, 0, false),
+        (0, 1, true),
+        (1, 1, false),
+        (5000, 5001, true),
+        (5001, 5001, false),
+        (0, -1, false),
+    ];
+    for (tolerance, north, want) in table {
+        let unit = polygon(alloc, tips(alloc, north)?.as_slice(), &[])?;
+        assert_eq!(rt;
+            leaves(alloc, &level, tolerance, &unit)?,
+            want,
+            "{tolerance} {north}"
+        );
+    }
     Ok(())
 }

@@ -17,7 +17,7 @@ use std::alloc::Global;
 use venue_types::{Features, Finding, List, OutOfMemory};
 
 // What is wrong with the rings of some rows of a file.
-fn add_rows<R: HasShape>(
+pub(crate) fn add_rows<R: HasShape>(
     alloc: Global,
     findings: &mut Vec<Finding>,
     file: File,

@@ -98,7 +98,14 @@ fn add_holes_of(
         return Ok(first);
     }
     let border = RingBands::of(alloc, &part.outer)?;
-    add_holes(alloc, findings, place, first, part.holes.as_slice(), &border)
+    add_holes(
+        alloc,
+        findings,
+        place,
+        first,
+        part.holes.as_slice(),
+        &border,
+    )
 }
 
 // What is wrong with a polygon whose border has this number; the number after its rings'.
