@@ -1,7 +1,6 @@
+mod Bands
 mod Boxes
 mod Closeness
-mod Framing
 mod Judgements
 mod Lists
-mod Numbers
 mod RowRules

@@ -83,8 +83,3 @@ amenity_rule features t amenity holds decides =
 -- nothing holds it, for what isn't there
 pub never : (P : Type 0) → ¬ P → IsTrue false ↔ P
 never P none = ((λ e. cc), (λ p. absurd (none p)))
-
--- beyond its frame a shape holds nothing
-pub shut : (b : Bool) (P : Type 0) → b ≡ true → ¬ P → IsTrue (not b) ↔ P
-shut true P e none = ((λ h. cc), (λ p. absurd (none p)))
-shut false P e none = cc

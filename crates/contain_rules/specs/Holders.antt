@@ -1,4 +1,4 @@
--- What the code keeps of the features that hold others: where they stand by identifier, and the frames of their shapes.
+-- What the code keeps of the features that hold others: where they stand by identifier, and their shapes made ready.
 -- This is the code's own machinery, which no public contract cites.
 use Rattle.std.specs.Prelude.{List}
 use Rattle.venue_types.specs.declared.feature_id.FeatureId.{FeatureId}
@@ -8,7 +8,7 @@ use Rattle.imdf_schema.specs.declared.files.File.TheVariants as file
 use Rattle.feature_rows.specs.Rows.{ids_of}
 use Rattle.feature_rows.specs.Figures.{shapes_of}
 use Rattle.feature_rows.specs.Indexes.{AreOnce, IsIndex}
-use Rattle.contain_rules.specs.Frames.{AreFramed}
+use Rattle.contain_rules.specs.Banding.{AreBanded}
 use Rattle.contain_rules.specs.declared.holders.ShapeIndex.{ShapeIndex}
 use Rattle.contain_rules.specs.declared.holders.Holders.{Holders}
 
@@ -16,7 +16,7 @@ use Rattle.contain_rules.specs.declared.holders.Holders.{Holders}
 pub record IsShapeIndex (ids : List FeatureId) (shapes : List Shape) (index : ShapeIndex) : Type 0 where
   pub once : AreOnce ids
   pub places : IsIndex ids index.places
-  pub frames : AreFramed shapes index.frames.items
+  pub bands : AreBanded shapes index.bands.items
 
 -- the levels and the units
 pub record AreHolders (features : Features) (holders : Holders) : Type 0 where

@@ -1,4 +1,4 @@
 pub mod Rules
-pub mod Frames
+pub mod Banding
 pub mod Holders
 pub mod Judging

@@ -35,9 +35,9 @@ fn judge<R: HasHolder>(
 
 /// Adds what is not held by what is to hold it, in a folder whose positions lie close together.
 ///
-/// The tolerance is in nanodegrees. A position that lies south, north or east of a shape is compared with none of its
-/// edges, and any other with all of them. So it takes time in proportion to positions times edges of what holds them at
-/// worst, and memory in proportion to levels, units and findings.
+/// The tolerance is in nanodegrees. Trees of octagons are made of all levels and units, and dropped at the end. On most
+/// shapes a position is compared with a number of octagons that grows as the logarithm of the shape's edges, at worst with
+/// all its edges. The memory is that of the trees and of the findings.
 pub fn add_hold_findings(
     alloc: Global,
     features: &Features,

@@ -1,7 +1,7 @@
 //! The rules on what holds what: a level its units and openings, a unit its anchors and amenities.
 #![tactic(auto)]
 
-mod frame;
+mod banding;
 mod holders;
 mod holding;
 mod leaving;

@@ -59,7 +59,7 @@ impl HasHolder for UnitRow {
     fn leaves(&self, features: &Features, holders: &Holders, tolerance: u32) -> bool {
         unit_vertex_law();
         match holders.levels.find(&features.levels, self.level) {
-            Some((level, frame)) => figure_leaves(&level.shape, frame, tolerance, &self.shape),
+            Some((_, level)) => figure_leaves(level, tolerance, &self.shape),
             None => false,
         }
     }
@@ -87,7 +87,7 @@ impl HasHolder for AnchorRow {
     fn leaves(&self, features: &Features, holders: &Holders, tolerance: u32) -> bool {
         anchor_point_law();
         match holders.units.find(&features.units, self.unit) {
-            Some((unit, frame)) => !is_held(&unit.shape, frame, tolerance, self.point),
+            Some((_, unit)) => !is_held(unit, tolerance, self.point),
             None => false,
         }
     }
@@ -107,7 +107,7 @@ fn unit_holds(
 {
     amenity_point_law();
     match holders.units.find(&features.units, id) {
-        Some((unit, frame)) => is_held(&unit.shape, frame, tolerance, amenity.point),
+        Some((_, unit)) => is_held(unit, tolerance, amenity.point),
         None => false,
     }
 }
@@ -177,9 +177,7 @@ impl HasHolder for OpeningRow {
     fn leaves(&self, features: &Features, holders: &Holders, tolerance: u32) -> bool {
         opening_point_law();
         match holders.levels.find(&features.levels, self.level) {
-            Some((level, frame)) => {
-                some_leaves(&level.shape, frame, tolerance, self.line.points.as_slice())
-            }
+            Some((_, level)) => some_leaves(level, tolerance, self.line.points.as_slice()),
             None => false,
         }
     }

@@ -4,12 +4,12 @@ ghost use Rattle.std.specs.Prelude.{All, IfOk};
 ghost use Rattle.plane_exact.specs.Testing.{IsInBox};
 ghost use Rattle.plane_exact.specs.Figure.{vertices};
 
-use crate::frame::frame_of;
 use crate::leaving::figure_leaves;
 use crate::rules::HoldRule;
+use plane_bands::Bands;
 use std::alloc::{AllocError, Global};
 use std::test::Fail;
-use venue_types::{Finding, List, Part, Point, Ring, Shape};
+use venue_types::{Finding, List, OutOfMemory, Part, Point, Ring, Shape};
 
 /// A position at most 100,000,000 from the middle on each axis, so that any two are close.
 fn at(place: (i64, i64)) -> Point
@@ -47,11 +47,12 @@ fn polygon(alloc: Global, outer: &[(i64, i64)], hole: &[(i64, i64)]) -> Result<S
     })
 }
 
-fn leaves(level: &Shape, tolerance: u32, unit: &Shape) -> bool
+fn leaves(alloc: Global, level: &Shape, tolerance: u32, unit: &Shape) -> Result<bool, OutOfMemory>
     requires level { All IsInBox (vertices level.now) }
     requires unit { All IsInBox (vertices unit.now) }
 {
-    figure_leaves(level, frame_of(level), u32::min(tolerance, 1_000_000), unit)
+    let bands = Bands::of(alloc, level)?;
+    Ok(figure_leaves(&bands, u32::min(tolerance, 1_000_000), unit))
 }
 
 #[test]
@@ -85,7 +86,7 @@ fn units_leave_their_level(rt: HostRuntime) -> Result<(), Fail> {
         let corners = [low, (high.0, low.1), high, (low.0, high.1), low];
         let unit = polygon(rt.alloc(), &corners, &[])?;
         assert_eq!(rt;
-            leaves(&level, tolerance, &unit),
+            leaves(rt.alloc(), &level, tolerance, &unit)?,
             want,
             "{tolerance} {low:?} {high:?}"
         );
@@ -97,5 +98,62 @@ fn units_leave_their_level(rt: HostRuntime) -> Result<(), Fail> {
         member: 0,
     };
     assert_eq!(rt; HoldRule::K3.finding(7), finding);
+    Ok(())
+}
+
+/// How many teeth the comb has.
+const TEETH: i64 = 4_999;
+
+/// A comb whose teeth point north, each a nanodegree longer than the one west of it.
+fn comb(alloc: Global) -> Result<Vec<(i64, i64)>, AllocError> {
+    let mut corners = Vec::new(alloc);
+    for i in 0..TEETH {
+        let x = i.wrapping_mul(1000);
+        let right = x.wrapping_add(500);
+        corners.push((x, i.wrapping_add(1000)))?;
+        corners.push((x, i.wrapping_add(9_000_000)))?;
+        corners.push((right, i.wrapping_add(9_000_000)))?;
+        corners.push((right, i.wrapping_add(1001)))?;
+    }
+    corners.push((4_998_500, 0))?;
+    corners.push((0, 0))?;
+    corners.push((0, 1000))?;
+    Ok(corners)
+}
+
+/// The corners of the tips of its teeth, this far north of them.
+fn tips(alloc: Global, north: i64) -> Result<Vec<(i64, i64)>, AllocError> {
+    let mut corners = Vec::new(alloc);
+    for i in 0..TEETH {
+        let x = i.wrapping_mul(1000);
+        let y = i.wrapping_add(9_000_000).wrapping_add(north);
+        corners.push((x, y))?;
+        corners.push((x.wrapping_add(500), y))?;
+    }
+    corners.push((0, 9_000_000i64.wrapping_add(north)))?;
+    Ok(corners)
+}
+
+#[test]
+fn a_unit_of_the_tips_of_a_comb(rt: HostRuntime) -> Result<(), Fail> {
+    let alloc = rt.alloc();
+    let level = polygon(alloc, comb(alloc)?.as_slice(), &[])?;
+    // The tolerance, how far north of the tips the unit's vertices lie, and whether it leaves the level.
+    let table = [
+        (0, 0, false),
+        (0, 1, true),
+        (1, 1, false),
+        (5000, 5001, true),
+        (5001, 5001, false),
+        (0, -1, false),
+    ];
+    for (tolerance, north, want) in table {
+        let unit = polygon(alloc, tips(alloc, north)?.as_slice(), &[])?;
+        assert_eq!(rt;
+            leaves(alloc, &level, tolerance, &unit)?,
+            want,
+            "{tolerance} {north}"
+        );
+    }
     Ok(())
 }

@@ -24,7 +24,10 @@ points_in list ring has p h = (Contains-flat_map (λ (r : Ring). r.points) list 
 points_of : (list : List Ring) (p : Point) → Contains (ring_points list) p → (ring : Ring) × Contains list ring × Contains ring.points p
 points_of list p h = (Contains-flat_map (λ (r : Ring). r.points) list p).0 h
 
--- ---- two of them
+-- ---- one of them, and two
+
+pub close_first : (ring : Ring) (rest : List Ring) → AreFit (ring ∷ rest) → AllClose ring.points
+close_first ring rest fit = fewer_close ring.points (ring_points (ring ∷ rest)) (λ p h. points_in (ring ∷ rest) ring (Contains-first ring rest) p h) fit.close
 
 pub close_two : (list : List Ring) (one other : Ring) → Contains list one → Contains list other → AreFit list → AllClose (one.points ++ other.points)
 close_two list one other has_one has_other fit = fewer_close (one.points ++ other.points) (ring_points list)

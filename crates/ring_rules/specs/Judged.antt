@@ -1,10 +1,9 @@
--- What holds of rings that are judged, and what is asked of their edges and vertices.
-use Rattle.std.specs.Prelude.{◌≤◌, List, All, Any, Contains, length}
+-- What holds of rings that are judged, and what is asked of their vertices.
+use Rattle.std.specs.Prelude.{◌≤◌, List, All, Contains, length}
 use Rattle.venue_types.specs.declared.point.Point.{Point}
 use Rattle.venue_types.specs.declared.point.Ring.{Ring}
 use Rattle.venue_types.specs.declared.point.Shape.{Shape}
-use Rattle.plane_exact.specs.Segment.{Crosses}
-use Rattle.plane_exact.specs.Figure.{Edge, AllClose, ring_points, rings}
+use Rattle.plane_exact.specs.Figure.{AllClose, ring_points, rings}
 use Rattle.feature_rows.specs.Sound.{IsOnEarth}
 use Rattle.ring_rules.specs.Rings.{IsInsideRing, IsOnRing}
 
@@ -21,18 +20,6 @@ pub record AreFit (list : List Ring) : Type 0 where
 -- so are the rings of each shape
 pub record AreFitShapes (shapes : List Shape) : Type 0 where
   pub fit : (shape : Shape) → Contains shapes shape → AreFit (rings shape)
-
--- one of the edges crosses this one
-abbrev pub CrossesSome : Edge → List Edge → Type 0
-CrossesSome edge list = Any (λ (other : Edge). Crosses edge.from edge.to other.from other.to) list
-
--- two of the edges cross
-pub record HaveCrossing (list : List Edge) : Type 0 where
-  pub one : Edge
-  pub other : Edge
-  pub has_one : Contains list one
-  pub has_other : Contains list other
-  pub cross : Crosses one.from one.to other.from other.to
 
 -- the position is neither inside the ring nor on it
 abbrev pub IsOutside : Ring → Point → Type 0

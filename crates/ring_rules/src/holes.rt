@@ -5,11 +5,11 @@ ghost use Rattle.plane_exact.specs.Figure.{AllClose};
 ghost use Rattle.ring_rules.specs.Rings.{as_hole, LeavesBorder};
 ghost use Rattle.ring_rules.specs.Judged.{IsOutside};
 
-use plane_exact::{inside_ring, near_ring};
+use plane_bands::RingBands;
 use venue_types::{Point, Ring};
 
 /// Whether a vertex of the hole is neither inside the border nor on it.
-pub(crate) fn leaves_border(hole: &Ring, border: &Ring) -> bool
+pub(crate) fn leaves_border(hole: &Ring, border: &RingBands) -> bool
     requires { AllClose (hole.now.points ++ border.now.points) }
     ensures { IsTrue result ↔ LeavesBorder (as_hole border.now hole.now) }
 {
@@ -17,7 +17,7 @@ pub(crate) fn leaves_border(hole: &Ring, border: &Ring) -> bool
 }
 
 // Whether one of the positions is neither inside the ring nor on it.
-fn has_outside(points: &[Point], ring: &Ring) -> bool
+fn has_outside(points: &[Point], ring: &RingBands) -> bool
     requires { AllClose (points.now ++ ring.now.points) }
     ensures { IsTrue result ↔ Any (IsOutside ring.now) points.now }
 {
@@ -29,9 +29,9 @@ fn has_outside(points: &[Point], ring: &Ring) -> bool
     false
 }
 
-fn is_outside(p: Point, ring: &Ring) -> bool
+fn is_outside(p: Point, ring: &RingBands) -> bool
     requires { AllClose (p ∷ ring.now.points) }
     ensures { IsTrue result ↔ IsOutside ring.now p }
 {
-    !inside_ring(p, ring) && !near_ring(p, ring, 0)
+    !ring.inside(p) && !ring.near(p, 0)
 }

@@ -6,6 +6,8 @@ mod bounds;
 mod crossings;
 mod holes;
 mod laws;
+#[cfg(test)]
+mod long_rings;
 mod place;
 mod positioned;
 mod ring_findings;

@@ -13,10 +13,12 @@ use crate::place::Place;
 use crate::shape_findings::add_shape;
 use feature_rows::HasShape;
 use imdf_schema::File;
+use std::alloc::Global;
 use venue_types::{Features, Finding, List, OutOfMemory};
 
 // What is wrong with the rings of some rows of a file.
-fn add_rows<R: HasShape>(
+pub(crate) fn add_rows<R: HasShape>(
+    alloc: Global,
     findings: &mut Vec<Finding>,
     file: File,
     rows: &[R],
@@ -27,13 +29,14 @@ fn add_rows<R: HasShape>(
 {
     for k in 0..rows.len() {
         let index = k as u32;
-        add_shape(findings, Place { file, index }, rows[k].shape())?;
+        add_shape(alloc, findings, Place { file, index }, rows[k].shape())?;
     }
     Ok(())
 }
 
 // What is wrong with the rings of a file.
 fn add_file<R: HasShape>(
+    alloc: Global,
     findings: &mut Vec<Finding>,
     file: File,
     rows: &List<R>,
@@ -42,14 +45,16 @@ fn add_file<R: HasShape>(
     requires fit { AreFitShapes (map R.shape_of rows.now) }
     ensures { OnOk result (Adds (FindsInShapes file (map R.shape_of rows.now)) findings.old.items findings.new.items) }
 {
-    add_rows(findings, file, rows.as_slice())
+    add_rows(alloc, findings, file, rows.as_slice())
 }
 
 /// Adds what is wrong with the rings of a folder whose positions lie close together.
 ///
-/// The edges of a ring are compared pair by pair, so it takes time in proportion to the sum of the squares of the
-/// rings' lengths, and memory in proportion to the findings.
+/// A tree of octagons is made of one ring at a time, and of a border once for all its holes. So on most rings it takes
+/// n log n time for n positions, at worst time in proportion to the sum of the squares of the rings' lengths, and memory
+/// for the findings and for the trees of two rings.
 pub fn add_ring_findings(
+    alloc: Global,
     features: &Features,
     findings: &mut Vec<Finding>,
 ) -> Result<(), OutOfMemory>
@@ -57,9 +62,9 @@ pub fn add_ring_findings(
     requires close { AllClose (judged_positions features.now) }
     ensures { OnOk result (Adds (BreaksInRing features.now) findings.old.items findings.new.items) }
 {
-    add_file(findings, File::Fixture, &features.fixtures)?;
-    add_file(findings, File::Footprint, &features.footprints)?;
-    add_file(findings, File::Level, &features.levels)?;
-    add_file(findings, File::Unit, &features.units)?;
-    add_file(findings, File::Venue, &features.venues)
+    add_file(alloc, findings, File::Fixture, &features.fixtures)?;
+    add_file(alloc, findings, File::Footprint, &features.footprints)?;
+    add_file(alloc, findings, File::Level, &features.levels)?;
+    add_file(alloc, findings, File::Unit, &features.units)?;
+    add_file(alloc, findings, File::Venue, &features.venues)
 }

@@ -12,7 +12,9 @@ use crate::crossings::crosses_itself;
 use crate::holes::leaves_border;
 use crate::place::Place;
 use crate::rules::RingRule;
+use plane_bands::RingBands;
 use report_laws::add;
+use std::alloc::Global;
 use venue_types::{Finding, OutOfMemory, Part, Ring, Shape};
 
 // The number after this one. No feature that fits into memory has a ring whose number fits no `u32`.
@@ -27,6 +29,7 @@ fn next(number: u32) -> Result<u32, OutOfMemory>
 
 // What is wrong with a ring, be it a hole or not.
 fn add_ring(
+    alloc: Global,
     findings: &mut Vec<Finding>,
     place: Place,
     number: u32,
@@ -35,7 +38,7 @@ fn add_ring(
     requires { AreFit (ring.now ∷ []) }
     ensures { OnOk result (Adds (FindsInRing place.file place.index number (alone ring.now)) findings.old.items findings.new.items) }
 {
-    let crosses = crosses_itself(ring);
+    let crosses = crosses_itself(alloc, ring)?;
     add(findings, crosses, place.finding(RingRule::G3, number))?;
     let flat = has_no_area(ring);
     add(findings, flat, place.finding(RingRule::G5, number))
@@ -43,27 +46,29 @@ fn add_ring(
 
 // What is wrong with a hole.
 fn add_hole(
+    alloc: Global,
     findings: &mut Vec<Finding>,
     place: Place,
     number: u32,
     hole: &Ring,
-    border: &Ring,
+    border: &RingBands,
 ) -> Result<(), OutOfMemory>
     requires { AreFit (border.now ∷ hole.now ∷ []) }
     ensures { OnOk result (Adds (FindsInRing place.file place.index number (as_hole border.now hole.now)) findings.old.items findings.new.items) }
 {
     let leaves = leaves_border(hole, border);
     add(findings, leaves, place.finding(RingRule::G4, number))?;
-    add_ring(findings, place, number, hole)
+    add_ring(alloc, findings, place, number, hole)
 }
 
 // What is wrong with holes, of which the first has this number; the number after theirs.
 fn add_holes(
+    alloc: Global,
     findings: &mut Vec<Finding>,
     place: Place,
     first: u32,
     holes: &[Ring],
-    border: &Ring,
+    border: &RingBands,
 ) -> Result<u32, OutOfMemory>
     requires { AreFit (border.now ∷ holes.now) }
     ensures adds { OnOk result (Adds (FindsFrom place.file place.index first (map (as_hole border.now) holes.now)) findings.old.items findings.new.items) }
@@ -71,14 +76,41 @@ fn add_holes(
 {
     let mut number = first;
     for hole in holes {
-        add_hole(findings, place, number, hole, border)?;
+        add_hole(alloc, findings, place, number, hole, border)?;
         number = next(number)?;
     }
     Ok(number)
 }
 
+// What is wrong with the holes of a polygon, whose border is made ready once for all of them.
+fn add_holes_of(
+    alloc: Global,
+    findings: &mut Vec<Finding>,
+    place: Place,
+    first: u32,
+    part: &Part,
+) -> Result<u32, OutOfMemory>
+    requires { AreFit (rings_of part.now) }
+    ensures adds { OnOk result (Adds (FindsFrom place.file place.index first (map (as_hole part.now.outer) part.now.holes)) findings.old.items findings.new.items) }
+    ensures next { IfOk result (λ n. n ≡ first + length part.now.holes) }
+{
+    if part.holes.is_empty() {
+        return Ok(first);
+    }
+    let border = RingBands::of(alloc, &part.outer)?;
+    add_holes(
+        alloc,
+        findings,
+        place,
+        first,
+        part.holes.as_slice(),
+        &border,
+    )
+}
+
 // What is wrong with a polygon whose border has this number; the number after its rings'.
 fn add_part(
+    alloc: Global,
     findings: &mut Vec<Finding>,
     place: Place,
     first: u32,
@@ -88,25 +120,31 @@ fn add_part(
     ensures adds { OnOk result (Adds (FindsFrom place.file place.index first (placed_in part.now)) findings.old.items findings.new.items) }
     ensures next { IfOk result (λ n. n ≡ first + length (placed_in part.now)) }
 {
-    add_ring(findings, place, first, &part.outer)?;
+    add_ring(alloc, findings, place, first, &part.outer)?;
     let hole = next(first)?;
-    add_holes(findings, place, hole, part.holes.as_slice(), &part.outer)
+    add_holes_of(alloc, findings, place, hole, part)
 }
 
 // What is wrong with polygons.
-fn add_parts(findings: &mut Vec<Finding>, place: Place, parts: &[Part]) -> Result<(), OutOfMemory>
+fn add_parts(
+    alloc: Global,
+    findings: &mut Vec<Finding>,
+    place: Place,
+    parts: &[Part],
+) -> Result<(), OutOfMemory>
     requires { AreFit (flat_map rings_of parts.now) }
     ensures { OnOk result (Adds (FindsFrom place.file place.index 0 (flat_map placed_in parts.now)) findings.old.items findings.new.items) }
 {
     let mut number = 0;
     for part in parts {
-        number = add_part(findings, place, number, part)?;
+        number = add_part(alloc, findings, place, number, part)?;
     }
     Ok(())
 }
 
 /// What is wrong with the rings of a shape.
 pub(crate) fn add_shape(
+    alloc: Global,
     findings: &mut Vec<Finding>,
     place: Place,
     shape: &Shape,
@@ -114,5 +152,5 @@ pub(crate) fn add_shape(
     requires { AreFit (rings shape.now) }
     ensures { OnOk result (Adds (FindsFrom place.file place.index 0 (placed_rings shape.now)) findings.old.items findings.new.items) }
 {
-    add_parts(findings, place, shape.parts.as_slice())
+    add_parts(alloc, findings, place, shape.parts.as_slice())
 }

@@ -2,9 +2,8 @@
 
 ghost use Rattle.std.specs.Prelude.{◌≤◌, All, IfOk, length};
 ghost use Rattle.plane_exact.specs.Figure.{rings, rings_of};
-ghost use Rattle.plane_exact.specs.Testing.{IsInBox};
 ghost use Rattle.ring_rules.specs.Judged.{AreFit};
-ghost use Rattle.ring_rules.specs.Testing.{IsSmall};
+ghost use Rattle.ring_rules.specs.Testing.{IsInTown, IsSmall};
 
 use crate::is_spread;
 use crate::place::Place;
@@ -16,7 +15,7 @@ use venue_types::{
     AnchorRow, FeatureId, Features, List, OutOfMemory, Part, Point, Ring, Shape, Text, UnitRow,
 };
 
-type Corner = (i64, i64);
+pub(crate) type Corner = (i64, i64);
 
 const SQUARE: &[Corner] = &[(0, 0), (9, 0), (9, 9), (0, 9), (0, 0)];
 
@@ -38,17 +37,18 @@ const OTHER: &[Corner] = &[(20, 0), (29, 0), (29, 9), (20, 9), (20, 0)];
 
 const IN_OTHER: &[Corner] = &[(23, 3), (26, 3), (26, 6), (23, 3)];
 
-fn at(corner: (i64, i64)) -> Point
-    ensures { IsInBox result }
+/// A position this far from 10 degrees east, 50 degrees north, at most 100,000,000 on each axis.
+fn at(corner: Corner) -> Point
+    ensures { IsInTown result }
 {
     Point {
-        x: corner.0.clamp(-100_000_000, 100_000_000),
-        y: corner.1.clamp(-100_000_000, 100_000_000),
+        x: 10_000_000_000 + corner.0.clamp(-100_000_000, 100_000_000),
+        y: 50_000_000_000 + corner.1.clamp(-100_000_000, 100_000_000),
     }
 }
 
-fn ring(alloc: Global, corners: &[(i64, i64)]) -> Result<Ring, OutOfMemory>
-    requires { length corners.now ≤ 20 }
+pub(crate) fn ring(alloc: Global, corners: &[Corner]) -> Result<Ring, OutOfMemory>
+    requires { length corners.now ≤ 20000 }
     ensures { IfOk result IsSmall }
 {
     let mut list = Vec::new(alloc);
@@ -60,7 +60,7 @@ fn ring(alloc: Global, corners: &[(i64, i64)]) -> Result<Ring, OutOfMemory>
     })
 }
 
-fn polygon(outer: Ring, holes: Vec<Ring>) -> Part
+pub(crate) fn polygon(outer: Ring, holes: Vec<Ring>) -> Part
     requires outer { IsSmall outer }
     requires holes { All IsSmall holes.items }
     ensures { All IsSmall (rings_of result) }
@@ -71,7 +71,7 @@ fn polygon(outer: Ring, holes: Vec<Ring>) -> Part
     }
 }
 
-fn shape(parts: Vec<Part>) -> Shape
+pub(crate) fn shape(parts: Vec<Part>) -> Shape
     requires { All (λ part. All IsSmall (rings_of part)) parts.items }
     ensures { AreFit (rings result) }
 {
@@ -112,7 +112,7 @@ fn a_ring_has_its_findings(rt: HostRuntime) -> Result<(), Fail> {
             file: File::Unit,
             index: 7,
         };
-        add_shape(&mut findings, place, &shape).expect(&rt, "memory");
+        add_shape(alloc, &mut findings, place, &shape).expect(&rt, "memory");
         assert_eq!(rt;
             findings.len(),
             wanted.len(),

@@ -37,7 +37,7 @@ pub(crate) fn plane_findings(
         findings.push(SPREAD)?;
         return Ok(in_order(findings));
     }
-    add_ring_findings(features, &mut findings)?;
+    add_ring_findings(alloc, features, &mut findings)?;
     add_hold_findings(alloc, features, settings.contain_tol, &mut findings)?;
     Ok(in_order(findings))
 }

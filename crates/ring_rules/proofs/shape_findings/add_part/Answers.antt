@@ -1,9 +1,7 @@
-use Rattle.std.proofs.Common.{List, [], ◌∷◌, map, subst}
-use Rattle.venue_types.specs.declared.point.Ring.{Ring}
-use Rattle.report_laws.specs.Passes.{Adds}
+use Rattle.std.proofs.Common.{[], ◌∷◌, map}
 use Rattle.report_laws.proofs.Adding.{on_ok}
 use Rattle.ring_rules.specs.Rings.{as_hole}
-use Rattle.ring_rules.specs.Findings.{FindsFrom, alone}
+use Rattle.ring_rules.specs.Findings.{alone}
 use Rattle.ring_rules.proofs.FitLemmas.{fit_first}
 use Rattle.ring_rules.proofs.FindingLemmas.{adds_one, adds_more}
 use Rattle.ring_rules.proofs.shape_findings.add_part.Goals as goal
@@ -19,6 +17,5 @@ returns-clause-adds c =
     let border = c.args.part.now.outer in
     let old = c.args.findings.now.items in
     let outer = adds_one f i first (alone border) old c.add_ring.new.findings.items c.in_ok-add_ring.ensures in
-    on_ok c.add_holes.result _ _ c.add_holes.ensures.adds (λ adds.
-    adds_more f i first c.in_ok-hole.hole (alone border ∷ []) (map (as_hole border) c.args.part.now.holes) old c.add_ring.new.findings.items c.add_holes.new.findings.items c.in_ok-hole.ensures outer
-    (subst (λ (holes : List Ring). Adds (FindsFrom f i c.in_ok-hole.hole (map (as_hole border) holes)) c.add_ring.new.findings.items c.add_holes.new.findings.items) c.as_slice.ensures adds))
+    on_ok c.add_holes_of.result _ _ c.add_holes_of.ensures.adds (λ adds.
+    adds_more f i first c.in_ok-hole.hole (alone border ∷ []) (map (as_hole border) c.args.part.now.holes) old c.add_ring.new.findings.items c.add_holes_of.new.findings.items c.in_ok-hole.ensures outer adds)
