@@ -3,17 +3,18 @@ use Rattle.std.proofs.Common.{◌≡◌, ◌≢◌, ℕ, ◌+◌, ◌<◌, ◌�
 use Rattle.std.specs.Prelude.{Contains, slice_get, AllPairs}
 use Rattle.std.specs.List.Sorted.{IsStrictlyIncreasing}
 use Rattle.std.proofs.lemmas.Bool.{cases_lt}
-use Rattle.std.proofs.lemmas.List.{take_all, length-replicate, get_or-replicate, length-append}
+use Rattle.std.proofs.lemmas.List.{take_all, length-replicate, length-append, get_or_append_left, get_or_push}
 use Rattle.std.proofs.lemmas.List.Elements.{All-replicate, All-contains, Contains-append_left, Contains-push, Contains-push_cases, Contains-get_or}
 use Rattle.std.proofs.lemmas.Option.{slice_get_within, slice_get-get_or, get_or_from_slice_get, same_Some}
 use Rattle.venue_types.specs.declared.features.Features.{Features}
+use Rattle.venue_types.specs.declared.features.OpeningRow.{OpeningRow}
 use Rattle.venue_types.specs.declared.features.UnitRow.{UnitRow}
 use Rattle.venue_types.specs.declared.link.Touches as touching
 use Rattle.plane_exact.specs.Opening.{HaveTouch, AreTouches}
 use Rattle.opening_match.specs.Places.{AreDistinct}
 use Rattle.opening_match.specs.Matches.{TouchesAt, AreMatches}
 use Rattle.opening_match.specs.Rows.{GainsAt, GainsUnit, AreTouchesBelow}
-use Rattle.opening_match.proofs.Items.{Contains-nil, some_at, member_at, stands, one_more, apart_before}
+use Rattle.opening_match.proofs.Items.{Contains-nil, some_at, item_at, member_at, stands, one_more, apart_before}
 
 -- ---- one unit, row by row
 
@@ -68,7 +69,21 @@ of_touch t features k unit o there have =
 rises_with : (row : List ℕ) (k : ℕ) → IsStrictlyIncreasing row → ((u : ℕ) → Contains row u → u < k) → IsStrictlyIncreasing (row ++ k ∷ [])
 rises_with row k rise under = from row k rise (λ i within. under (get_or row i 0) (Contains-get_or row i 0 within)) where
   from : (row : List ℕ) (k : ℕ) → IsStrictlyIncreasing row → ((i : ℕ) → i < length row → get_or row i 0 < k) → IsStrictlyIncreasing (row ++ k ∷ [])
-  from row k rise under i within = ?
+  from row k rise under i within =
+      let whole : length (row ++ k ∷ []) ≡ length row + 1 = length-append row (k ∷ []) in
+      elim (cases_lt (i + 1) (length row)) [
+        | inl inside ↦
+            let a : get_or (row ++ k ∷ []) i 0 ≡ get_or row i 0 = get_or_append_left row (k ∷ []) 0 i (omega arith) in
+            let b : get_or (row ++ k ∷ []) (i + 1) 0 ≡ get_or row (i + 1) 0 = get_or_append_left row (k ∷ []) 0 (i + 1) inside in
+            let less : get_or row i 0 < get_or row (i + 1) 0 = rise i inside in
+            omega (arith, a, b, less)
+        | inr past ↦
+            let last : length row ≡ i + 1 = omega (arith, within, whole) in
+            let a : get_or (row ++ k ∷ []) i 0 ≡ get_or row i 0 = get_or_append_left row (k ∷ []) 0 i (omega arith) in
+            let b : get_or (row ++ k ∷ []) (i + 1) 0 ≡ k = get_or_push row k 0 (i + 1) last in
+            let less : get_or row i 0 < k = under i (omega arith) in
+            omega (arith, a, b, less)
+      ]
 
 -- what one unit more makes of a row
 pub record IsRowBelow (t : ℕ) (features : Features) (count o : ℕ) (row : List ℕ) : Type 0 where
@@ -146,3 +161,18 @@ below_all t features k touches past below = record {
 } where
   inside : (o u : ℕ) → HaveTouch t features o u → u < k
   inside o u have = omega (arith, past, slice_get_within features.units u have.unit have.has_unit)
+
+-- ---- rows as they stand in the loop
+
+pub found_there : (t : ℕ) (features : Features) (openings : List OpeningRow) (unit : UnitRow) (k : ℕ) (found : List ℕ) (rows : List (List ℕ)) → openings ≡ features.openings → AreMatches t openings unit found → AreTouchesBelow t features k rows → All (λ o. o < length rows) found
+found_there t features openings unit k found rows same are below i d within =
+    let o = get_or found i d in
+    let touch = (are.exact o).0 (Contains-get_or found i d within) in
+    let under : o < length openings = slice_get_within openings o touch.opening touch.there in
+    omega (arith, under, below.all, ap length same)
+
+pub below_next : (t : ℕ) (features : Features) (openings : List OpeningRow) (units : List UnitRow) (k : ℕ) (unit : UnitRow) (found places : List ℕ) (rows new : List (List ℕ)) → openings ≡ features.openings → units ≡ features.units → k < length units → unit ≡ get_or units k unit
+    → places ≡ found → AreMatches t openings unit found → GainsUnit k places rows new → AreTouchesBelow t features k rows → AreTouchesBelow t features (k + 1) new
+below_next t features openings units k unit found places rows new same file within is list are gains below =
+    let there : slice_get features.units k ≡ Some unit = subst (λ (us : List UnitRow). slice_get us k ≡ Some unit) file (item_at units k unit within is) in
+    below_more t features k unit found rows new there (subst (λ (os : List OpeningRow). AreMatches t os unit found) same are) (subst (λ (ps : List ℕ). GainsUnit k ps rows new) list gains) below

@@ -59,7 +59,7 @@ stands xs n = from_end xs n where
 
 pub some_in : {X : Type 0} (xs : List X) → ¬ (xs ≡ []) → (x : X) × Contains xs x
 some_in [] filled = absurd (filled refl)
-some_in (x ∷ xs) filled = (x, 0, omega arith, refl)
+some_in (x ∷ xs) filled = (x, (0, omega arith, refl))
 
 -- ---- items that differ pairwise by a number
 

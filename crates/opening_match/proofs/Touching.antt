@@ -1,14 +1,19 @@
 -- The openings that touch a unit, by what the index and the bands say.
-use Rattle.std.proofs.Common.{◌≡◌, ◌≢◌, ℕ, ◌<◌, ◌≤◌, zero, suc, Bool, true, false, IsTrue, true≢false, List, [], ◌∷◌, Some, length, get_or, ◌↔◌, refl, sym, ap, subst, ◌∙◌, arith, inl, inr, All}
+use Rattle.std.proofs.Common.{◌≡◌, ◌≢◌, ℕ, ◌<◌, ◌≤◌, zero, suc, Bool, true, false, IsTrue, true≢false, eqb, eq-eqb, List, [], ◌∷◌, Some, length, get_or, ◌↔◌, refl, sym, ap, subst, ◌∙◌, arith, inl, inr, All}
 use Rattle.std.specs.Prelude.{Contains, slice_get}
 use Rattle.std.proofs.lemmas.List.Elements.{All-contains, Contains-get_or, Contains-append_right}
 use Rattle.std.proofs.lemmas.Option.{slice_get_within, same_Some}
+use Rattle.std.proofs.lemmas.Bool.{eqb-true}
+use Rattle.venue_types.specs.declared.feature_id.FeatureId.{FeatureId}
+use Rattle.venue_types.specs.declared.features.Features.{Features}
 use Rattle.venue_types.specs.declared.features.OpeningRow.{OpeningRow}
 use Rattle.venue_types.specs.declared.features.UnitRow.{UnitRow}
 use Rattle.venue_types.specs.declared.point.Point.{Point}
 use Rattle.venue_types.specs.declared.point.Shape.{Shape}
 use Rattle.plane_exact.specs.Figure.{AllClose, vertices, IsNear}
 use Rattle.plane_exact.specs.Opening.{Touches}
+use Rattle.feature_rows.specs.Figures.{judged_positions}
+use Rattle.feature_rows.specs.Named.{IsUnit}
 use Rattle.opening_match.specs.declared.entries.Entry.{Entry}
 use Rattle.opening_match.specs.declared.frame.Frame.{Frame}
 use Rattle.opening_match.specs.Entries.{IsEntry, AreEntries, start_of}
@@ -17,7 +22,7 @@ use Rattle.opening_match.specs.Stretches.{IsStretch}
 use Rattle.opening_match.specs.Places.{ArePlaces}
 use Rattle.opening_match.specs.Matches.{AreCloseTo, AreBeside, RunsAlong, TouchesAt, AreMatches}
 use Rattle.opening_match.proofs.Framing.{LeastLaw, GreatestLaw, near_framed}
-use Rattle.opening_match.proofs.Items.{member_at, some_in, Contains-nil}
+use Rattle.opening_match.proofs.Items.{item_at, member_at, some_in, Contains-nil}
 
 -- the opening at this place is there, with a vertex
 pub record StartsAt (openings : List OpeningRow) (o : ℕ) : Type 0 where
@@ -57,10 +62,10 @@ candidates least greatest t openings unit entries stretch frame places are frame
       subst (λ (k : ℕ). Contains places k) w.2 (at.whole w.0 (part.whole w.0 w.1 level around.width) around.height);
 }
 
-pub matches : (t : ℕ) (openings : List OpeningRow) (unit : UnitRow) (shape : Shape) (places found : List ℕ) → shape ≡ unit.shape → AreCandidates t openings unit places
-    → ArePlaces (λ (o : ℕ). o) (RunsAlong t openings shape) places found → AreMatches t openings unit found
-matches t openings unit shape places found same of are =
-    let here : ArePlaces (λ (o : ℕ). o) (RunsAlong t openings unit.shape) places found = subst (λ (s : Shape). ArePlaces (λ (o : ℕ). o) (RunsAlong t openings s) places found) same are in
+pub matches : (t : ℕ) (openings : List OpeningRow) (unit : UnitRow) (shape : Shape) (list places found : List ℕ) → shape ≡ unit.shape → list ≡ places → AreCandidates t openings unit places
+    → ArePlaces (λ (o : ℕ). o) (RunsAlong t openings shape) list found → AreMatches t openings unit found
+matches t openings unit shape list places found same is of are =
+    let here : ArePlaces (λ (o : ℕ). o) (RunsAlong t openings unit.shape) places found = subst (λ (s : Shape). ArePlaces (λ (o : ℕ). o) (RunsAlong t openings s) places found) same (subst (λ (ps : List ℕ). ArePlaces (λ (o : ℕ). o) (RunsAlong t openings shape) ps found) is are) in
     record {
       exact = λ o. (
         (λ h.
@@ -110,5 +115,22 @@ along_true t openings shape o opening points near there are decides is = record 
 
 pub along_false : (t : ℕ) (openings : List OpeningRow) (shape : Shape) (o : ℕ) (opening : OpeningRow) (points : List Point) (near : Bool) → slice_get openings o ≡ Some opening → points ≡ opening.line.points → (IsTrue near ↔ All (λ p. IsNear p shape t) points) → near ≡ false → ¬ RunsAlong t openings shape o
 along_false t openings shape o opening points near there are decides is along =
-    let yes : near ≡ true = decides.1 (subst (λ (ps : List Point). All (λ p. IsNear p shape t) ps) (sym are) (along_is t openings shape o opening there along)) in
-    true≢false (sym yes ∙ is)
+    let met : near ≡ true = decides.1 (subst (λ (ps : List Point). All (λ p. IsNear p shape t) ps) (sym are) (along_is t openings shape o opening there along)) in
+    true≢false (sym met ∙ is)
+
+-- ---- in a folder whose positions are close
+
+abbrev pub UnitLaw : Type 0
+UnitLaw = (features : Features) (opening : OpeningRow) (p : Point) (id : FeatureId) (unit : UnitRow) → AllClose (judged_positions features) → Contains features.openings opening → Contains opening.line.points p → IsUnit features id unit → AllClose (p ∷ vertices unit.shape)
+
+pub unit_beside : UnitLaw → (features : Features) (openings : List OpeningRow) (units : List UnitRow) (k : ℕ) (unit : UnitRow) → AllClose (judged_positions features) → openings ≡ features.openings → units ≡ features.units → k < length units → unit ≡ get_or units k unit → AreBeside unit.shape openings
+unit_beside law features openings units k unit close same file within is =
+    let has : Contains features.units unit = subst (λ (us : List UnitRow). Contains us unit) file (member_at units k unit (item_at units k unit within is)) in
+    record { beside = λ opening own. record { close = λ p at. law features opening p unit.id unit close (subst (λ (os : List OpeningRow). Contains os opening) same own) at (record { has = has; named = refl }) } }
+
+pub filled : (xs : List ℕ) (n : ℕ) (b : Bool) → n ≡ length xs → b ≡ eqb n 0 → b ≡ false → ¬ (xs ≡ [])
+filled xs n b count is other empty = true≢false (sym (eq-eqb n 0 (count ∙ ap length empty)) ∙ sym is ∙ other)
+
+pub unfilled : (xs : List ℕ) (n : ℕ) (b : Bool) → n ≡ length xs → b ≡ eqb n 0 → b ≡ true → xs ≡ []
+unfilled [] n b count is met = refl
+unfilled (x ∷ xs) n b count is met = let none : n ≡ 0 = eqb-true n 0 (sym is ∙ met) in absurd (omega (arith, count, none))

@@ -36,7 +36,7 @@ fn places_at_height(
 {
     let mut places = Vec::new(alloc);
     for entry in entries {
-        if frame.is_at_height(tolerance, entry.y) {
+        if frame.is_at_height(tolerance, entry) {
             places.push(entry.place)?;
         }
     }

@@ -4,6 +4,7 @@ ghost use Rattle.std.specs.Prelude.{◌≡◌, ◌↔◌, pos, ◌+ℤ◌, ◌�
 ghost use Rattle.plane_exact.specs.Figure.{ring_points, part_points};
 ghost use Rattle.opening_match.specs.Frames.{Grows, IsFramed, IsAtHeight};
 
+use crate::entries::Entry;
 use venue_types::{Part, Point, Ring, Shape};
 
 /// How far west, east, south and north the vertices of a shape lie, in nanodegrees.
@@ -16,11 +17,11 @@ pub(crate) struct Frame {
 }
 
 impl Frame {
-    /// Whether a latitude lies in the frame, or beyond it by no more than the tolerance.
-    pub(crate) fn is_at_height(&self, tolerance: u32, y: i64) -> bool
-        ensures { IsTrue result ↔ IsAtHeight self.now tolerance y }
+    /// Whether an opening begins at a latitude of the frame, or beyond it by no more than the tolerance.
+    pub(crate) fn is_at_height(&self, tolerance: u32, entry: &Entry) -> bool
+        ensures { IsTrue result ↔ IsAtHeight self.now tolerance entry.now.y }
     {
-        is_within(self.south, y, tolerance) && is_within(y, self.north, tolerance)
+        is_within(self.south, entry.y, tolerance) && is_within(entry.y, self.north, tolerance)
     }
 
     /// With one more position.
