@@ -22,7 +22,7 @@ use Rattle.opening_match.specs.Stretches.{IsStretch}
 use Rattle.opening_match.specs.Places.{ArePlaces}
 use Rattle.opening_match.specs.Matches.{AreCloseTo, AreBeside, RunsAlong, TouchesAt, AreMatches}
 use Rattle.opening_match.proofs.Framing.{LeastLaw, GreatestLaw, near_framed}
-use Rattle.opening_match.proofs.Items.{item_at, member_at, some_in, Contains-nil}
+use Rattle.opening_match.proofs.Items.{member_at, some_in, Contains-nil}
 
 -- the opening at this place is there, with a vertex
 pub record StartsAt (openings : List OpeningRow) (o : ℕ) : Type 0 where
@@ -123,9 +123,10 @@ along_false t openings shape o opening points near there are decides is along =
 abbrev pub UnitLaw : Type 0
 UnitLaw = (features : Features) (opening : OpeningRow) (p : Point) (id : FeatureId) (unit : UnitRow) → AllClose (judged_positions features) → Contains features.openings opening → Contains opening.line.points p → IsUnit features id unit → AllClose (p ∷ vertices unit.shape)
 
-pub unit_beside : UnitLaw → (features : Features) (openings : List OpeningRow) (units : List UnitRow) (k : ℕ) (unit : UnitRow) → AllClose (judged_positions features) → openings ≡ features.openings → units ≡ features.units → k < length units → unit ≡ get_or units k unit → AreBeside unit.shape openings
-unit_beside law features openings units k unit close same file within is =
-    let has : Contains features.units unit = subst (λ (us : List UnitRow). Contains us unit) file (member_at units k unit (item_at units k unit within is)) in
+pub units_beside : UnitLaw → (features : Features) (openings : List OpeningRow) (units : List UnitRow) → AllClose (judged_positions features) → openings ≡ features.openings → units ≡ features.units → All (λ (unit : UnitRow). AreBeside unit.shape openings) units
+units_beside law features openings units close same file k d within =
+    let unit = get_or units k d in
+    let has : Contains features.units unit = subst (λ (us : List UnitRow). Contains us unit) file (Contains-get_or units k d within) in
     record { beside = λ opening own. record { close = λ p at. law features opening p unit.id unit close (subst (λ (os : List OpeningRow). Contains os opening) same own) at (record { has = has; named = refl }) } }
 
 pub filled : (xs : List ℕ) (n : ℕ) (b : Bool) → n ≡ length xs → b ≡ eqb n 0 → b ≡ false → ¬ (xs ≡ [])
