@@ -1,0 +1,7 @@
+mod Items
+mod Framing
+mod Placing
+mod Ordering
+mod Stretching
+mod Touching
+mod Gaining

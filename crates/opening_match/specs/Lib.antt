@@ -1,0 +1,6 @@
+pub mod Entries
+pub mod Frames
+pub mod Stretches
+pub mod Places
+pub mod Matches
+pub mod Rows

@@ -1,0 +1,1 @@
+//! Openings beside units.
