@@ -1,0 +1,81 @@
+-- The status of each reply, and the lines of its head.
+use Rattle.std.specs.Prelude.{ℕ, Bool, true, false, List, [], ◌++◌, codes, decimal, if◌then◌else◌}
+use Rattle.http.specs.StatusCode.{status_text}
+use Rattle.venue_types.specs.declared.reply.Reply.{Reply}
+use Rattle.venue_types.specs.declared.reply.Reply.TheVariants as reply
+use Rattle.wire_frames.specs.declared.refusals.Methods.{Methods}
+use Rattle.wire_frames.specs.declared.refusals.Methods.TheVariants.{Get, Post, Both}
+use Rattle.wire_frames.specs.declared.refusals.Refusal.{Refusal}
+use Rattle.wire_frames.specs.declared.refusals.Refusal.TheVariants as refusal
+
+-- the status of a reply (RFC 9110, section 15)
+abbrev pub reply_status : Reply → ℕ
+reply_status (reply.Version version closed places) = 200
+reply_status (reply.Places version rows) = 200
+reply_status (reply.Place version row closed) = 200
+reply_status (reply.Closures version closed) = 200
+reply_status (reply.Route version from to profile start cost steps potentials) = 200
+reply_status (reply.NoRoute version from to profile reached) = 200
+reply_status (reply.ClosureDone version feature closed changed) = 200
+reply_status (reply.Published version dropped) = 200
+reply_status (reply.Ahead since version) = 409
+reply_status reply.NoProfile = 404
+reply_status (reply.NoPlace which) = 404
+reply_status reply.NoFeature = 404
+reply_status (reply.FolderFault before after) = 502
+reply_status (reply.Rejected report) = 422
+reply_status (reply.HistoryFull version) = 409
+reply_status reply.OutOfMemory = 503
+
+-- the status of a refusal (RFC 9110, section 15; RFC 6585, section 5)
+abbrev pub refusal_status : Refusal → ℕ
+refusal_status refusal.HeadTooLarge = 431
+refusal_status refusal.BadHead = 400
+refusal_status refusal.TransferCoding = 501
+refusal_status refusal.BodyTooLarge = 413
+refusal_status refusal.NoPath = 404
+refusal_status (refusal.Method methods) = 405
+refusal_status refusal.NotStaff = 403
+refusal_status refusal.BadBody = 400
+refusal_status refusal.BadQuery = 400
+
+-- whether a refusal ends the session: those of a head do, since nobody knows where the next one begins
+abbrev pub ends_session : Refusal → Bool
+ends_session refusal.HeadTooLarge = true
+ends_session refusal.BadHead = true
+ends_session refusal.TransferCoding = true
+ends_session refusal.BodyTooLarge = true
+ends_session refusal.NoPath = false
+ends_session (refusal.Method methods) = false
+ends_session refusal.NotStaff = false
+ends_session refusal.BadBody = false
+ends_session refusal.BadQuery = false
+
+-- the methods that a path has, as a list of RFC 9110, section 5.6.1
+abbrev pub methods_text : Methods → List ℕ
+methods_text Get = codes "GET"
+methods_text Post = codes "POST"
+methods_text Both = codes "GET, POST"
+
+-- the field that names the methods, where the refused one isn't among them (RFC 9110, section 10.2.1)
+abbrev pub allow_line : Refusal → List ℕ
+allow_line refusal.HeadTooLarge = []
+allow_line refusal.BadHead = []
+allow_line refusal.TransferCoding = []
+allow_line refusal.BodyTooLarge = []
+allow_line refusal.NoPath = []
+allow_line (refusal.Method methods) = codes "allow: " ++ methods_text methods ++ codes "\r\n"
+allow_line refusal.NotStaff = []
+allow_line refusal.BadBody = []
+allow_line refusal.BadQuery = []
+
+-- the field that tells the end of a session (RFC 9112, section 9.6)
+abbrev pub connection_line : Bool → List ℕ
+connection_line close = if close then codes "connection: close\r\n" else []
+
+-- the status line, and the fields that each reply has (RFC 9112, sections 4 and 6.2)
+abbrev pub first_lines : ℕ → ℕ → List ℕ
+first_lines status length =
+    codes "HTTP/1.1 " ++ status_text status ++ codes "\r\n"
+    ++ codes "content-type: application/json\r\n"
+    ++ codes "content-length: " ++ decimal length ++ codes "\r\n"

@@ -1,0 +1,6 @@
+//! The bytes of a reply: a status, its head lines and a body of compact JSON (RFC 9112; RFC 8259).
+#![tactic(auto)]
+
+mod answer;
+
+pub use answer::Answer;
