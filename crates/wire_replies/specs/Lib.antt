@@ -2,3 +2,4 @@ pub mod Bodies
 pub mod Heads
 pub mod Names
 pub mod Replies
+pub mod Tokens

@@ -2,5 +2,8 @@
 #![tactic(auto)]
 
 mod answer;
+mod rows;
+mod words;
+mod written;
 
 pub use answer::Answer;
