@@ -14,6 +14,7 @@ use Rattle.venue_types.specs.declared.reply.PlaceRow.{PlaceRow}
 use Rattle.venue_types.specs.declared.reply.Reply.{Reply}
 use Rattle.venue_types.specs.declared.reply.Reply.TheVariants as reply
 use Rattle.venue_types.specs.declared.reply.StepRow.{StepRow}
+use Rattle.venue_types.specs.declared.reply.Which.{Which}
 use Rattle.wire_frames.specs.declared.refusals.Refusal.{Refusal}
 use Rattle.wire_replies.specs.Names.{kind_name, class_name, which_name, refusal_name}
 
@@ -164,9 +165,9 @@ ahead_data since version =
     no_members)))
 
 -- an identifier that names no place
-abbrev pub no_place_data : List ℕ → Data
+abbrev pub no_place_data : Which → Data
 no_place_data which =
-    object (member (codes "error") (string (codes "no_such_place")) (member (codes "which") (string which) no_members))
+    object (member (codes "error") (string (codes "no_such_place")) (member (codes "which") (string (which_name which)) no_members))
 
 -- a folder that breaks rules: the first 500 places, and how many there are in all
 abbrev pub rejected_data : Report → Data
@@ -195,7 +196,7 @@ body_of (reply.ClosureDone version feature closed changed) = closure_data versio
 body_of (reply.Published version dropped) = published_data version dropped
 body_of (reply.Ahead since version) = ahead_data since version
 body_of reply.NoProfile = error_data (codes "no_such_profile")
-body_of (reply.NoPlace which) = no_place_data (which_name which)
+body_of (reply.NoPlace which) = no_place_data which
 body_of reply.NoFeature = error_data (codes "no_such_feature")
 body_of (reply.FolderFault before after) = error_data (codes "folder_fault")
 body_of (reply.Rejected report) = rejected_data report

@@ -1,5 +1,5 @@
 -- The status of each reply, and the lines of its head.
-use Rattle.std.specs.Prelude.{ℕ, Bool, true, false, List, [], ◌++◌, codes, decimal, if◌then◌else◌}
+use Rattle.std.specs.Prelude.{ℕ, Bool, true, false, List, [], ◌++◌, codes, if◌then◌else◌, Option, Some, None}
 use Rattle.http.specs.StatusCode.{status_text}
 use Rattle.venue_types.specs.declared.reply.Reply.{Reply}
 use Rattle.venue_types.specs.declared.reply.Reply.TheVariants as reply
@@ -51,31 +51,38 @@ ends_session refusal.NotStaff = false
 ends_session refusal.BadBody = false
 ends_session refusal.BadQuery = false
 
--- the methods that a path has, as a list of RFC 9110, section 5.6.1
+-- the methods that a refusal tells, where it is of the method (RFC 9110, section 15.5.6)
+abbrev pub allowed : Refusal → Option Methods
+allowed refusal.HeadTooLarge = None
+allowed refusal.BadHead = None
+allowed refusal.TransferCoding = None
+allowed refusal.BodyTooLarge = None
+allowed refusal.NoPath = None
+allowed (refusal.Method methods) = Some methods
+allowed refusal.NotStaff = None
+allowed refusal.BadBody = None
+allowed refusal.BadQuery = None
+
+-- methods, as a list of RFC 9110, section 5.6.1
 abbrev pub methods_text : Methods → List ℕ
 methods_text Get = codes "GET"
 methods_text Post = codes "POST"
 methods_text Both = codes "GET, POST"
 
--- the field that names the methods, where the refused one isn't among them (RFC 9110, section 10.2.1)
-abbrev pub allow_line : Refusal → List ℕ
-allow_line refusal.HeadTooLarge = []
-allow_line refusal.BadHead = []
-allow_line refusal.TransferCoding = []
-allow_line refusal.BodyTooLarge = []
-allow_line refusal.NoPath = []
-allow_line (refusal.Method methods) = codes "allow: " ++ methods_text methods ++ codes "\r\n"
-allow_line refusal.NotStaff = []
-allow_line refusal.BadBody = []
-allow_line refusal.BadQuery = []
+-- the field that tells methods (RFC 9110, section 10.2.1)
+abbrev pub allow_line : Option Methods → List ℕ
+allow_line None = []
+allow_line (Some methods) = codes "allow: " ++ methods_text methods ++ codes "\r\n"
 
 -- the field that tells the end of a session (RFC 9112, section 9.6)
 abbrev pub connection_line : Bool → List ℕ
 connection_line close = if close then codes "connection: close\r\n" else []
 
--- the status line, and the fields that each reply has (RFC 9112, sections 4 and 6.2)
-abbrev pub first_lines : ℕ → ℕ → List ℕ
-first_lines status length =
-    codes "HTTP/1.1 " ++ status_text status ++ codes "\r\n"
-    ++ codes "content-type: application/json\r\n"
-    ++ codes "content-length: " ++ decimal length ++ codes "\r\n"
+-- the status line, the form of the body, and the name of its length (RFC 9112, section 4; RFC 9110, section 8)
+abbrev pub front_lines : ℕ → List ℕ
+front_lines status =
+    codes "HTTP/1.1 " ++ status_text status ++ codes "\r\n" ++ codes "content-type: application/json\r\n" ++ codes "content-length: "
+
+-- the end of the length's line, the further fields, and the empty line
+abbrev pub last_lines : Option Methods → Bool → List ℕ
+last_lines methods close = codes "\r\n" ++ allow_line methods ++ connection_line close ++ codes "\r\n"

@@ -3,3 +3,4 @@ pub mod Heads
 pub mod Names
 pub mod Replies
 pub mod Tokens
+pub mod Statuses

@@ -2,8 +2,15 @@
 #![tactic(auto)]
 
 mod answer;
+mod bodies;
+mod heads;
+mod labels;
+mod replies;
+mod reply;
 mod rows;
+mod walks;
 mod words;
 mod written;
 
 pub use answer::Answer;
+pub use reply::{reply_bytes, want_of_memory};

@@ -1,22 +1,23 @@
 //! The rows of lists: steps, potentials, places and findings.
 
+use crate::labels::Name;
 use crate::words::{FileNumber, RuleNumber};
 use crate::written::{Written, begin, end, member};
 use json::Writer;
-use std::alloc::AllocError;
-use venue_types::{Finding, Mark, StepRow};
+use std::alloc::{AllocError, Global};
+use venue_types::{Finding, Mark, PlaceRow, StepRow};
 
 impl Written for StepRow {
     ghost use Rattle.wire_replies.specs.Bodies.{step_data};
 
     ghost shown = { step_data };
 
-    fn write_to(&self, out: &mut Writer) -> Result<(), AllocError> {
+    fn write_to(&self, alloc: Global, out: &mut Writer) -> Result<(), AllocError> {
         begin(out)?;
-        member(out, "cost", &self.cost)?;
-        member(out, "kind", &self.kind)?;
-        member(out, "to", &self.to)?;
-        member(out, "via", &self.via)?;
+        member(alloc, out, "cost", &self.cost)?;
+        member(alloc, out, "kind", &self.kind)?;
+        member(alloc, out, "to", &self.to)?;
+        member(alloc, out, "via", &self.via)?;
         end(out)
     }
 }
@@ -26,10 +27,10 @@ impl Written for Mark {
 
     ghost shown = { mark_data };
 
-    fn write_to(&self, out: &mut Writer) -> Result<(), AllocError> {
+    fn write_to(&self, alloc: Global, out: &mut Writer) -> Result<(), AllocError> {
         begin(out)?;
-        member(out, "node", &self.node)?;
-        member(out, "value", &self.value)?;
+        member(alloc, out, "node", &self.node)?;
+        member(alloc, out, "value", &self.value)?;
         end(out)
     }
 }
@@ -39,12 +40,27 @@ impl Written for Finding {
 
     ghost shown = { finding_data };
 
-    fn write_to(&self, out: &mut Writer) -> Result<(), AllocError> {
+    fn write_to(&self, alloc: Global, out: &mut Writer) -> Result<(), AllocError> {
         begin(out)?;
-        member(out, "file", &FileNumber(self.file))?;
-        member(out, "index", &self.index)?;
-        member(out, "member", &self.member)?;
-        member(out, "rule", &RuleNumber(self.rule))?;
+        member(alloc, out, "file", &FileNumber(self.file))?;
+        member(alloc, out, "index", &self.index)?;
+        member(alloc, out, "member", &self.member)?;
+        member(alloc, out, "rule", &RuleNumber(self.rule))?;
+        end(out)
+    }
+}
+
+impl Written for PlaceRow {
+    ghost use Rattle.wire_replies.specs.Bodies.{row_data};
+
+    ghost shown = { row_data };
+
+    fn write_to(&self, alloc: Global, out: &mut Writer) -> Result<(), AllocError> {
+        begin(out)?;
+        member(alloc, out, "id", &self.id)?;
+        member(alloc, out, "kind", &self.class)?;
+        member(alloc, out, "name", &Name(&self.name))?;
+        member(alloc, out, "ordinal", &self.ordinal)?;
         end(out)
     }
 }

@@ -1,22 +1,21 @@
 //! Numbers, texts, identifiers and the words for them.
 
 ghost use Rattle.std.specs.Prelude.{◌≡◌};
-ghost use Rattle.wire_replies.specs.Names.{kind_name, class_name, which_name, refusal_name};
+ghost use Rattle.wire_replies.specs.Names.{kind_name, class_name, which_name};
 
 use crate::written::Written;
 use check_text::{file_name, rule_name};
 use json::Writer;
-use std::alloc::AllocError;
+use std::alloc::{AllocError, Global};
 use std::str;
 use venue_types::{Class, FeatureId, Kind, Text, Which, identifier_text_law};
-use wire_frames::Refusal;
 
 impl Written for u32 {
     ghost use Rattle.wire_replies.specs.Bodies.{count};
 
     ghost shown = { count };
 
-    fn write_to(&self, out: &mut Writer) -> Result<(), AllocError> {
+    fn write_to(&self, _alloc: Global, out: &mut Writer) -> Result<(), AllocError> {
         out.u64(u64::from(*self))
     }
 }
@@ -26,7 +25,7 @@ impl Written for u64 {
 
     ghost shown = { count };
 
-    fn write_to(&self, out: &mut Writer) -> Result<(), AllocError> {
+    fn write_to(&self, _alloc: Global, out: &mut Writer) -> Result<(), AllocError> {
         out.u64(*self)
     }
 }
@@ -37,7 +36,7 @@ impl Written for i16 {
 
     ghost shown = { λ value. number (of_integer value) };
 
-    fn write_to(&self, out: &mut Writer) -> Result<(), AllocError> {
+    fn write_to(&self, _alloc: Global, out: &mut Writer) -> Result<(), AllocError> {
         out.i64(i64::from(*self))
     }
 }
@@ -47,7 +46,7 @@ impl Written for bool {
 
     ghost shown = { boolean };
 
-    fn write_to(&self, out: &mut Writer) -> Result<(), AllocError> {
+    fn write_to(&self, _alloc: Global, out: &mut Writer) -> Result<(), AllocError> {
         out.boolean(*self)
     }
 }
@@ -57,7 +56,7 @@ impl Written for &str {
 
     ghost shown = { λ text. string text.now };
 
-    fn write_to(&self, out: &mut Writer) -> Result<(), AllocError> {
+    fn write_to(&self, _alloc: Global, out: &mut Writer) -> Result<(), AllocError> {
         out.string(self)
     }
 }
@@ -67,7 +66,18 @@ impl Written for Text {
 
     ghost shown = { string };
 
-    fn write_to(&self, out: &mut Writer) -> Result<(), AllocError> {
+    fn write_to(&self, _alloc: Global, out: &mut Writer) -> Result<(), AllocError> {
+        out.string(self.as_str())
+    }
+}
+
+impl Written for String {
+    ghost use Rattle.std.specs.Prelude.{string_bytes};
+    ghost use Rattle.serde_json.specs.Data.{string};
+
+    ghost shown = { λ text. string (string_bytes text) };
+
+    fn write_to(&self, _alloc: Global, out: &mut Writer) -> Result<(), AllocError> {
         out.string(self.as_str())
     }
 }
@@ -77,7 +87,7 @@ impl Written for FeatureId {
 
     ghost shown = { id_data };
 
-    fn write_to(&self, out: &mut Writer) -> Result<(), AllocError> {
+    fn write_to(&self, _alloc: Global, out: &mut Writer) -> Result<(), AllocError> {
         identifier_text_law();
         match str::from_utf8(&self.write()) {
             Ok(text) => out.string(text),
@@ -107,7 +117,7 @@ impl Written for Kind {
 
     ghost shown = { λ kind. string (kind_name kind) };
 
-    fn write_to(&self, out: &mut Writer) -> Result<(), AllocError> {
+    fn write_to(&self, _alloc: Global, out: &mut Writer) -> Result<(), AllocError> {
         out.string(kind_name(*self))
     }
 }
@@ -131,7 +141,7 @@ impl Written for Class {
 
     ghost shown = { λ class. string (class_name class) };
 
-    fn write_to(&self, out: &mut Writer) -> Result<(), AllocError> {
+    fn write_to(&self, _alloc: Global, out: &mut Writer) -> Result<(), AllocError> {
         out.string(class_name(*self))
     }
 }
@@ -153,36 +163,8 @@ impl Written for Which {
 
     ghost shown = { λ which. string (which_name which) };
 
-    fn write_to(&self, out: &mut Writer) -> Result<(), AllocError> {
+    fn write_to(&self, _alloc: Global, out: &mut Writer) -> Result<(), AllocError> {
         out.string(which_name(*self))
-    }
-}
-
-/// Why a message is refused by itself.
-fn refusal_name(refusal: Refusal) -> &'static str
-    ensures { result.now ≡ refusal_name refusal }
-{
-    match refusal {
-        Refusal::HeadTooLarge => "head_too_large",
-        Refusal::BadHead => "bad_head",
-        Refusal::TransferCoding => "transfer_coding",
-        Refusal::BodyTooLarge => "body_too_large",
-        Refusal::NoPath => "no_such_path",
-        Refusal::Method(_) => "method",
-        Refusal::NotStaff => "not_staff",
-        Refusal::BadBody => "bad_body",
-        Refusal::BadQuery => "bad_query",
-    }
-}
-
-impl Written for Refusal {
-    ghost use Rattle.serde_json.specs.Data.{string};
-    ghost use Rattle.wire_replies.specs.Names.{refusal_name};
-
-    ghost shown = { λ refusal. string (refusal_name refusal) };
-
-    fn write_to(&self, out: &mut Writer) -> Result<(), AllocError> {
-        out.string(refusal_name(*self))
     }
 }
 
@@ -196,7 +178,7 @@ impl Written for FileNumber {
 
     ghost shown = { λ file. string (file_name file.0) };
 
-    fn write_to(&self, out: &mut Writer) -> Result<(), AllocError> {
+    fn write_to(&self, _alloc: Global, out: &mut Writer) -> Result<(), AllocError> {
         out.string(file_name(self.0))
     }
 }
@@ -211,7 +193,7 @@ impl Written for RuleNumber {
 
     ghost shown = { λ rule. string (rule_name rule.0) };
 
-    fn write_to(&self, out: &mut Writer) -> Result<(), AllocError> {
+    fn write_to(&self, _alloc: Global, out: &mut Writer) -> Result<(), AllocError> {
         out.string(rule_name(self.0))
     }
 }

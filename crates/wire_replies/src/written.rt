@@ -7,7 +7,7 @@ ghost use Rattle.wire_replies.specs.Bodies.{list_data};
 ghost use Rattle.wire_replies.specs.Tokens.{Adds, data_tokens, where_there_tokens};
 
 use json::Writer;
-use std::alloc::AllocError;
+use std::alloc::{AllocError, Global};
 use venue_types::List;
 
 /// What has a text as JSON.
@@ -15,7 +15,7 @@ pub(crate) trait Written {
     /// The value that the text stands for.
     ghost shown: { Self → Data };
 
-    fn write_to(&self, out: &mut Writer) -> Result<(), AllocError>
+    fn write_to(&self, alloc: Global, out: &mut Writer) -> Result<(), AllocError>
         ensures { OnOk result (Adds (data_tokens (shown self.now)) out.old out.new) };
 }
 
@@ -55,15 +55,21 @@ fn name_member(out: &mut Writer, name: &str) -> Result<(), AllocError>
 }
 
 /// Writes a member of an object.
-pub(crate) fn member<T: Written>(out: &mut Writer, name: &str, value: &T) -> Result<(), AllocError>
+pub(crate) fn member<T: Written>(
+    alloc: Global,
+    out: &mut Writer,
+    name: &str,
+    value: &T,
+) -> Result<(), AllocError>
     ensures { OnOk result (Adds (key name.now ∷ data_tokens (T.shown value.now)) out.old out.new) }
 {
     name_member(out, name)?;
-    value.write_to(out)
+    value.write_to(alloc, out)
 }
 
 /// Writes a member of an object, where there is a value for it.
 pub(crate) fn member_where_there<T: Written>(
+    alloc: Global,
     out: &mut Writer,
     name: &str,
     value: &Option<T>,
@@ -72,18 +78,22 @@ pub(crate) fn member_where_there<T: Written>(
         (Adds (where_there_tokens name.now (option_map T.shown value.now)) out.old out.new) }
 {
     match value {
-        Some(value) => member(out, name, value),
+        Some(value) => member(alloc, out, name, value),
         None => Ok(()),
     }
 }
 
 /// Writes a list.
-pub(crate) fn write_items<T: Written>(out: &mut Writer, items: &[T]) -> Result<(), AllocError>
+pub(crate) fn write_items<T: Written>(
+    alloc: Global,
+    out: &mut Writer,
+    items: &[T],
+) -> Result<(), AllocError>
     ensures { OnOk result (Adds (data_tokens (list_data T.shown items.now)) out.old out.new) }
 {
     begin_list(out)?;
     for item in items {
-        item.write_to(out)?;
+        item.write_to(alloc, out)?;
     }
     end_list(out)
 }
@@ -93,7 +103,7 @@ impl<T: Written> Written for List<T> {
 
     ghost shown = { λ items. list_data T.shown items };
 
-    fn write_to(&self, out: &mut Writer) -> Result<(), AllocError> {
-        write_items(out, self.as_slice())
+    fn write_to(&self, alloc: Global, out: &mut Writer) -> Result<(), AllocError> {
+        write_items(alloc, out, self.as_slice())
     }
 }
