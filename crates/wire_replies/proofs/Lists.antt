@@ -2,6 +2,7 @@
 use Rattle.std.proofs.Common.{◌≡◌, ◌∙◌, ℕ, List, [], ◌∷◌, ◌++◌, Option, Some, None, map, flat_map, refl, ap, sym, append_assoc, append-nil, Result, OnOk}
 use Rattle.std.proofs.lemmas.Result.{on_ok_weaker}
 use Rattle.json.specs.Token.{Token}
+use Rattle.json.specs.Print.{print}
 use Rattle.json.specs.Written.{Written, Writes}
 use Rattle.json.specs.Tree.{items_tokens, members_tokens}
 use Rattle.serde_json.specs.Data.{Data, Members}
@@ -34,3 +35,8 @@ after {a = a} {b = b} {old = old} first second = record {
 -- nothing is written
 pub nothing : (w : Written) → Adds [] w w
 nothing w = record { before = refl; adds = sym (append-nil w.tokens) }
+
+-- what stands in a writer that began with nothing
+pub whole : {ts : List Token} {old now : Written} → old.tokens ≡ [] → old.before ≡ [] → Adds ts old now → now.before ++ print now.tokens ≡ print ts
+whole {ts = ts} {now = now} none first w =
+    ap (λ (b : List ℕ). b ++ print now.tokens) (w.before ∙ first) ∙ ap print (w.adds ∙ ap (λ (old : List Token). old ++ ts) none)

@@ -78,10 +78,13 @@ allow_line (Some methods) = codes "allow: " ++ methods_text methods ++ codes "\r
 abbrev pub connection_line : Bool → List ℕ
 connection_line close = if close then codes "connection: close\r\n" else []
 
--- the status line, the form of the body, and the name of its length (RFC 9112, section 4; RFC 9110, section 8)
-abbrev pub front_lines : ℕ → List ℕ
-front_lines status =
-    codes "HTTP/1.1 " ++ status_text status ++ codes "\r\n" ++ codes "content-type: application/json\r\n" ++ codes "content-length: "
+-- the status line (RFC 9112, section 4)
+abbrev pub status_line : ℕ → List ℕ
+status_line status = codes "HTTP/1.1 " ++ status_text status ++ codes "\r\n"
+
+-- the form of the body, and the name of its length (RFC 9110, sections 8.3 and 8.6)
+abbrev pub content_lines : List ℕ
+content_lines = codes "content-type: application/json\r\ncontent-length: "
 
 -- the end of the length's line, the further fields, and the empty line
 abbrev pub last_lines : Option Methods → Bool → List ℕ

@@ -97,64 +97,41 @@ pub(crate) fn allowed(refusal: Refusal) -> Option<Methods>
     }
 }
 
-/// The lines in front of the length, and the name of its field.
-pub(crate) fn front_lines(status: Status) -> &'static [u8]
-    ensures { result.now ≡ heads.front_lines (status_code status) }
-{
-    front_text(status).as_bytes()
-}
-
-fn front_text(status: Status) -> &'static str
-    ensures { result.now ≡ heads.front_lines (status_code status) }
+/// The first line of a head.
+pub(crate) fn status_line(status: Status) -> &'static str
+    ensures { result.now ≡ heads.status_line (status_code status) }
 {
     match status {
-        Status::Ok => {
-            "HTTP/1.1 200 OK\r\ncontent-type: application/json\r\ncontent-length: "
-        }
-        Status::BadRequest => {
-            "HTTP/1.1 400 Bad Request\r\ncontent-type: application/json\r\ncontent-length: "
-        }
-        Status::Forbidden => {
-            "HTTP/1.1 403 Forbidden\r\ncontent-type: application/json\r\ncontent-length: "
-        }
-        Status::NotFound => {
-            "HTTP/1.1 404 Not Found\r\ncontent-type: application/json\r\ncontent-length: "
-        }
-        Status::MethodNotAllowed => {
-            "HTTP/1.1 405 Method Not Allowed\r\ncontent-type: application/json\r\ncontent-length: "
-        }
-        Status::Conflict => {
-            "HTTP/1.1 409 Conflict\r\ncontent-type: application/json\r\ncontent-length: "
-        }
-        Status::ContentTooLarge => {
-            "HTTP/1.1 413 Payload Too Large\r\ncontent-type: application/json\r\ncontent-length: "
-        }
-        Status::Unprocessable => {
-            "HTTP/1.1 422 Unprocessable Entity\r\ncontent-type: application/json\r\ncontent-length: "
-        }
-        Status::HeadTooLarge => {
-            "HTTP/1.1 431 Request Header Fields Too Large\r\ncontent-type: application/json\r\ncontent-length: "
-        }
-        Status::NotImplemented => {
-            "HTTP/1.1 501 Not Implemented\r\ncontent-type: application/json\r\ncontent-length: "
-        }
-        Status::BadGateway => {
-            "HTTP/1.1 502 Bad Gateway\r\ncontent-type: application/json\r\ncontent-length: "
-        }
-        Status::Unavailable => {
-            "HTTP/1.1 503 Service Unavailable\r\ncontent-type: application/json\r\ncontent-length: "
-        }
+        Status::Ok => "HTTP/1.1 200 OK\r\n",
+        Status::BadRequest => "HTTP/1.1 400 Bad Request\r\n",
+        Status::Forbidden => "HTTP/1.1 403 Forbidden\r\n",
+        Status::NotFound => "HTTP/1.1 404 Not Found\r\n",
+        Status::MethodNotAllowed => "HTTP/1.1 405 Method Not Allowed\r\n",
+        Status::Conflict => "HTTP/1.1 409 Conflict\r\n",
+        Status::ContentTooLarge => "HTTP/1.1 413 Payload Too Large\r\n",
+        Status::Unprocessable => "HTTP/1.1 422 Unprocessable Entity\r\n",
+        Status::HeadTooLarge => "HTTP/1.1 431 Request Header Fields Too Large\r\n",
+        Status::NotImplemented => "HTTP/1.1 501 Not Implemented\r\n",
+        Status::BadGateway => "HTTP/1.1 502 Bad Gateway\r\n",
+        Status::Unavailable => "HTTP/1.1 503 Service Unavailable\r\n",
     }
 }
 
+/// The form of the body, and the name of its length.
+pub(crate) fn content_lines() -> &'static str
+    ensures { result.now ≡ heads.content_lines }
+{
+    "content-type: application/json\r\ncontent-length: "
+}
+
 /// The rest of a head behind the length.
-pub(crate) fn last_lines(methods: Option<Methods>, close: bool) -> &'static [u8]
+pub(crate) fn last_lines(methods: Option<Methods>, close: bool) -> &'static str
     ensures { result.now ≡ heads.last_lines methods close }
 {
     if close {
-        closing_text(methods).as_bytes()
+        closing_text(methods)
     } else {
-        open_text(methods).as_bytes()
+        open_text(methods)
     }
 }
 

@@ -9,7 +9,8 @@ ghost use Rattle.wire_replies.specs.Statuses.{status_code};
 
 use crate::answer::Answer;
 use crate::heads::{
-    Status, allowed, ends_session, front_lines, last_lines, refusal_status, reply_status,
+    Status, allowed, content_lines, ends_session, last_lines, refusal_status, reply_status,
+    status_line,
 };
 use crate::written::Written;
 use itoa::Buffer;
@@ -45,9 +46,10 @@ fn message(
 {
     let mut length = Buffer::new();
     let mut bytes = Vec::with_capacity(alloc, body.len().saturating_add(HEAD_ROOM))?;
-    bytes.extend_from_slice(front_lines(status))?;
+    bytes.extend_from_slice(status_line(status).as_bytes())?;
+    bytes.extend_from_slice(content_lines().as_bytes())?;
     bytes.extend_from_slice(length.format(body.len()).as_bytes())?;
-    bytes.extend_from_slice(last_lines(methods, close))?;
+    bytes.extend_from_slice(last_lines(methods, close).as_bytes())?;
     bytes.extend_from_slice(body)?;
     Ok(bytes)
 }
@@ -84,13 +86,20 @@ pub fn reply_bytes(alloc: Global, answer: &Answer, close: bool) -> Result<Bytes,
     Ok(Bytes::from_vec(bytes))
 }
 
+/// The text of the reply that memory ran out.
+fn wants_text(close: bool) -> &'static str
+    ensures { result.now ≡ reply_text (Of WantOfMemory) close }
+{
+    if close {
+        "HTTP/1.1 503 Service Unavailable\r\ncontent-type: application/json\r\ncontent-length: 26\r\nconnection: close\r\n\r\n{\"error\":\"want_of_memory\"}"
+    } else {
+        "HTTP/1.1 503 Service Unavailable\r\ncontent-type: application/json\r\ncontent-length: 26\r\n\r\n{\"error\":\"want_of_memory\"}"
+    }
+}
+
 /// The bytes of the reply that memory ran out, which take none.
 pub fn want_of_memory(close: bool) -> &'static [u8]
     ensures { result.now ≡ reply_text (Of WantOfMemory) close }
 {
-    if close {
-        "HTTP/1.1 503 Service Unavailable\r\ncontent-type: application/json\r\ncontent-length: 26\r\nconnection: close\r\n\r\n{\"error\":\"want_of_memory\"}".as_bytes()
-    } else {
-        "HTTP/1.1 503 Service Unavailable\r\ncontent-type: application/json\r\ncontent-length: 26\r\n\r\n{\"error\":\"want_of_memory\"}".as_bytes()
-    }
+    wants_text(close).as_bytes()
 }
