@@ -30,7 +30,8 @@ one_token {r = r} w = on_ok_weaker r (λ e. record { before = w.room.0; adds = e
 pub after : {a b : List Token} {old now last : Written} → Adds a old now → Adds b now last → Adds (a ++ b) old last
 after {a = a} {b = b} {old = old} first second = record {
   before = second.before ∙ first.before;
-  adds = second.adds ∙ ap (λ (ts : List Token). ts ++ b) first.adds ∙ append_assoc old.tokens a b }
+  adds = second.adds ∙ ap (λ (ts : List Token). ts ++ b) first.adds ∙ append_assoc old.tokens a b;
+}
 
 -- nothing is written
 pub nothing : (w : Written) → Adds [] w w

@@ -155,7 +155,7 @@ fn first_findings(findings: &[Finding]) -> &[Finding]
 
 /// The findings of a report that are told.
 #[derive(Clone, Copy)]
-struct Told<'r>(&'r [Finding]);
+struct Told<'r>(&'r List<Finding>);
 
 impl Written for Told<'_> {
     ghost use Rattle.std.specs.Prelude.{take};
@@ -164,7 +164,7 @@ impl Written for Told<'_> {
     ghost shown = { λ told. list_data finding_data (take 500 told.0.now) };
 
     fn write_to(&self, alloc: Global, out: &mut Writer) -> Result<(), AllocError> {
-        write_items(alloc, out, first_findings(self.0))
+        write_items(alloc, out, first_findings(self.0.as_slice()))
     }
 }
 
@@ -177,7 +177,7 @@ pub(crate) fn write_rejected(
 {
     begin(out)?;
     member(alloc, out, "error", &"rejected")?;
-    member(alloc, out, "findings", &Told(report.first.as_slice()))?;
+    member(alloc, out, "findings", &Told(&report.first))?;
     member(alloc, out, "total", &report.total)?;
     end(out)
 }

@@ -13,11 +13,7 @@ use std::collections::BTreeMap;
 use venue_types::{Label, List};
 
 /// Puts in a text by its tag, in place of an earlier one of that tag.
-fn put(
-    texts: &mut BTreeMap<String, String>,
-    tag: String,
-    text: String,
-) -> Result<(), AllocError>
+fn put(texts: &mut BTreeMap<String, String>, tag: String, text: String) -> Result<(), AllocError>
     ensures { OnOk result (text_members texts.new.entries
         ≡ put (string_bytes tag) (string (string_bytes text)) (text_members texts.old.entries)) }
 {

@@ -8,6 +8,8 @@ mod labels;
 mod replies;
 mod reply;
 mod rows;
+#[cfg(test)]
+mod tests;
 mod walks;
 mod words;
 mod written;

@@ -66,7 +66,13 @@ fn refusal_message(alloc: Global, refusal: Refusal, close: bool) -> Result<Vec<u
 {
     let body = body_text(alloc, &refusal)?;
     let closes = close || ends_session(refusal);
-    message(alloc, refusal_status(refusal), allowed(refusal), closes, &body)
+    message(
+        alloc,
+        refusal_status(refusal),
+        allowed(refusal),
+        closes,
+        &body,
+    )
 }
 
 fn answer_message(alloc: Global, answer: &Answer, close: bool) -> Result<Vec<u8>, AllocError>

@@ -8,5 +8,5 @@ returns g c =
     let written = rw (take_all c.loop-item.item-index c.args.items.now c.loop-item-test.false) at c.loop-item.invariant in
     on_ok_weaker c.end_list.result
     (λ last. rw (items_list g.T.Written.shown c.args.items.now)
-        (after c.in_ok-begin_list.ensures (after written last)))
+    (after c.in_ok-begin_list.ensures (after written last)))
     c.end_list.ensures
