@@ -44,7 +44,7 @@ fn name_at(names: &[&'static str], place: u8) -> &'static str
 }
 
 /// The name of a rule, by its number.
-pub(crate) fn rule_name(rule: u8) -> &'static str
+pub fn rule_name(rule: u8) -> &'static str
     ensures { result.now ≡ rule_name rule }
 {
     name_at(&RULES, rule)
@@ -58,7 +58,7 @@ pub(crate) fn note_name(note: u8) -> &'static str
 }
 
 /// The name of a folder's file, by its number.
-pub(crate) fn file_name(file: u8) -> &'static str
+pub fn file_name(file: u8) -> &'static str
     ensures { result.now ≡ file_name file }
 {
     name_at(&FILES, file)

@@ -1,0 +1,208 @@
+-- The JSON body of each reply, its members in the order of their names' bytes.
+use Rattle.std.specs.Prelude.{ℕ, Bool, List, [], ◌∷◌, map, take, fold, codes, Option, Some, None, option_map}
+use Rattle.serde_json.specs.Data.{Data, null, boolean, number, unsigned, string, array, object, Members, member, no_members, put}
+use Rattle.serde_json.specs.Find.{of_integer}
+use Rattle.serde_json.specs.View.{items_of}
+use Rattle.check_text.specs.Names.{rule_name, file_name}
+use Rattle.venue_types.specs.Identifier.{identifier_text}
+use Rattle.venue_types.specs.declared.feature_id.FeatureId.{FeatureId}
+use Rattle.venue_types.specs.declared.features.Label.{Label}
+use Rattle.venue_types.specs.declared.finding.Finding.{Finding}
+use Rattle.venue_types.specs.declared.finding.Report.{Report}
+use Rattle.venue_types.specs.declared.reply.Mark.{Mark}
+use Rattle.venue_types.specs.declared.reply.PlaceRow.{PlaceRow}
+use Rattle.venue_types.specs.declared.reply.Reply.{Reply}
+use Rattle.venue_types.specs.declared.reply.Reply.TheVariants as reply
+use Rattle.venue_types.specs.declared.reply.StepRow.{StepRow}
+use Rattle.venue_types.specs.declared.reply.Which.{Which}
+use Rattle.wire_frames.specs.declared.refusals.Refusal.{Refusal}
+use Rattle.wire_replies.specs.Names.{kind_name, class_name, which_name, refusal_name}
+
+-- a whole number from 0
+abbrev pub count : ℕ → Data
+count n = number (unsigned n)
+
+-- an identifier, by its text
+abbrev pub id_data : FeatureId → Data
+id_data id = string (identifier_text id)
+
+-- the items of a list, in order
+abbrev pub list_data : {A : Type 0} → (A → Data) → List A → Data
+list_data item_data items = array (items_of (map item_data items))
+
+-- a member in front of others, where there is a value for it
+abbrev pub where_there : List ℕ → Option Data → Members → Members
+where_there name None members = members
+where_there name (Some value) members = member name value members
+
+-- the texts by their tags, in the order of the tags' bytes
+abbrev pub label_members : List Label → Members
+label_members labels = fold (λ members label. put label.tag (string label.text) members) no_members labels
+
+-- a name: its texts by their tags, null where there is none
+abbrev pub name_data : List Label → Data
+name_data [] = null
+name_data (label ∷ labels) = object (label_members (label ∷ labels))
+
+-- a step of a walk
+abbrev pub step_data : StepRow → Data
+step_data step =
+    object
+    (member (codes "cost") (count step.cost)
+    (member (codes "kind") (string (kind_name step.kind))
+    (member (codes "to") (id_data step.to)
+    (member (codes "via") (id_data step.via)
+    no_members))))
+
+-- a node's potential
+abbrev pub mark_data : Mark → Data
+mark_data mark = object (member (codes "node") (id_data mark.node) (member (codes "value") (count mark.value) no_members))
+
+-- a place, as one of a list
+abbrev pub row_data : PlaceRow → Data
+row_data row =
+    object
+    (member (codes "id") (id_data row.id)
+    (member (codes "kind") (string (class_name row.class))
+    (member (codes "name") (name_data row.name)
+    (member (codes "ordinal") (number (of_integer row.ordinal))
+    no_members))))
+
+-- where a rule is broken
+abbrev pub finding_data : Finding → Data
+finding_data found =
+    object
+    (member (codes "file") (string (file_name found.file))
+    (member (codes "index") (count found.index)
+    (member (codes "member") (count found.member)
+    (member (codes "rule") (string (rule_name found.rule))
+    no_members))))
+
+-- a refusal that is told by its name alone
+abbrev pub error_data : List ℕ → Data
+error_data name = object (member (codes "error") (string name) no_members)
+
+-- how many features are closed, and how many places there are
+abbrev pub version_data : ℕ → ℕ → ℕ → Data
+version_data version closed places =
+    object
+    (member (codes "closed") (count closed)
+    (member (codes "places") (count places)
+    (member (codes "version") (count version)
+    no_members)))
+
+-- all places of a version
+abbrev pub places_data : ℕ → List PlaceRow → Data
+places_data version rows =
+    object (member (codes "places") (list_data row_data rows) (member (codes "version") (count version) no_members))
+
+-- one place, and whether it is closed
+abbrev pub place_data : ℕ → PlaceRow → Bool → Data
+place_data version row closed =
+    object
+    (member (codes "closed") (boolean closed)
+    (member (codes "id") (id_data row.id)
+    (member (codes "kind") (string (class_name row.class))
+    (member (codes "name") (name_data row.name)
+    (member (codes "ordinal") (number (of_integer row.ordinal))
+    (member (codes "version") (count version)
+    no_members))))))
+
+-- what is closed
+abbrev pub closures_data : ℕ → List FeatureId → Data
+closures_data version closed =
+    object (member (codes "closures") (list_data id_data closed) (member (codes "version") (count version) no_members))
+
+-- a walk
+abbrev pub route_data : ℕ → FeatureId → FeatureId → List ℕ → FeatureId → ℕ → List StepRow → Option (List Mark) → Data
+route_data version from to profile start cost steps potentials =
+    object
+    (member (codes "cost") (count cost)
+    (member (codes "from") (id_data from)
+    (where_there (codes "potentials") (option_map (list_data mark_data) potentials)
+    (member (codes "profile") (string profile)
+    (member (codes "result") (string (codes "route"))
+    (member (codes "start") (id_data start)
+    (member (codes "steps") (list_data step_data steps)
+    (member (codes "to") (id_data to)
+    (member (codes "version") (count version)
+    no_members)))))))))
+
+-- that there is no walk
+abbrev pub no_route_data : ℕ → FeatureId → FeatureId → List ℕ → Option (List FeatureId) → Data
+no_route_data version from to profile reached =
+    object
+    (member (codes "from") (id_data from)
+    (member (codes "profile") (string profile)
+    (where_there (codes "reached") (option_map (list_data id_data) reached)
+    (member (codes "result") (string (codes "none"))
+    (member (codes "to") (id_data to)
+    (member (codes "version") (count version)
+    no_members))))))
+
+-- a feature that was closed or opened
+abbrev pub closure_data : ℕ → FeatureId → Bool → Bool → Data
+closure_data version feature closed changed =
+    object
+    (member (codes "changed") (boolean changed)
+    (member (codes "closed") (boolean closed)
+    (member (codes "feature") (id_data feature)
+    (member (codes "version") (count version)
+    no_members))))
+
+-- a folder that was published
+abbrev pub published_data : ℕ → List FeatureId → Data
+published_data version dropped =
+    object (member (codes "dropped") (list_data id_data dropped) (member (codes "version") (count version) no_members))
+
+-- a version that isn't there yet
+abbrev pub ahead_data : ℕ → ℕ → Data
+ahead_data since version =
+    object
+    (member (codes "error") (string (codes "version_ahead"))
+    (member (codes "since") (count since)
+    (member (codes "version") (count version)
+    no_members)))
+
+-- an identifier that names no place
+abbrev pub no_place_data : Which → Data
+no_place_data which =
+    object (member (codes "error") (string (codes "no_such_place")) (member (codes "which") (string (which_name which)) no_members))
+
+-- a folder that breaks rules: the first 500 places, and how many there are in all
+abbrev pub rejected_data : Report → Data
+rejected_data report =
+    object
+    (member (codes "error") (string (codes "rejected"))
+    (member (codes "findings") (list_data finding_data (take 500 report.first))
+    (member (codes "total") (count report.total)
+    no_members)))
+
+-- that no further version fits
+abbrev pub full_data : ℕ → Data
+full_data version =
+    object (member (codes "error") (string (codes "history_full")) (member (codes "version") (count version) no_members))
+
+-- the body of a reply
+abbrev pub body_of : Reply → Data
+body_of (reply.Version version closed places) = version_data version closed places
+body_of (reply.Places version rows) = places_data version rows
+body_of (reply.Place version row closed) = place_data version row closed
+body_of (reply.Closures version closed) = closures_data version closed
+body_of (reply.Route version from to profile start cost steps potentials) =
+    route_data version from to profile start cost steps potentials
+body_of (reply.NoRoute version from to profile reached) = no_route_data version from to profile reached
+body_of (reply.ClosureDone version feature closed changed) = closure_data version feature closed changed
+body_of (reply.Published version dropped) = published_data version dropped
+body_of (reply.Ahead since version) = ahead_data since version
+body_of reply.NoProfile = error_data (codes "no_such_profile")
+body_of (reply.NoPlace which) = no_place_data which
+body_of reply.NoFeature = error_data (codes "no_such_feature")
+body_of (reply.FolderFault before after) = error_data (codes "folder_fault")
+body_of (reply.Rejected report) = rejected_data report
+body_of (reply.HistoryFull version) = full_data version
+body_of reply.OutOfMemory = error_data (codes "want_of_memory")
+
+-- the body of a refusal
+abbrev pub refusal_body : Refusal → Data
+refusal_body refusal = error_data (refusal_name refusal)

@@ -1,0 +1,158 @@
+//! The heads of replies: their statuses, and the lines around the length.
+
+ghost use Rattle.std.specs.Prelude.{◌≡◌, true, false};
+ghost use Rattle.wire_replies.specs.Heads as heads;
+ghost use Rattle.wire_replies.specs.Statuses.{status_code};
+
+use venue_types::Reply;
+use wire_frames::{Methods, Refusal};
+
+/// The status of a reply (RFC 9110, section 15).
+#[derive(Clone, Copy)]
+pub(crate) enum Status {
+    Ok,
+    BadRequest,
+    Forbidden,
+    NotFound,
+    MethodNotAllowed,
+    Conflict,
+    ContentTooLarge,
+    Unprocessable,
+    HeadTooLarge,
+    NotImplemented,
+    BadGateway,
+    Unavailable,
+}
+
+pub(crate) fn reply_status(reply: &Reply) -> Status
+    ensures { status_code result ≡ heads.reply_status reply.now }
+{
+    match reply {
+        Reply::Version { .. } => Status::Ok,
+        Reply::Places { .. } => Status::Ok,
+        Reply::Place { .. } => Status::Ok,
+        Reply::Closures { .. } => Status::Ok,
+        Reply::Route { .. } => Status::Ok,
+        Reply::NoRoute { .. } => Status::Ok,
+        Reply::ClosureDone { .. } => Status::Ok,
+        Reply::Published { .. } => Status::Ok,
+        Reply::Ahead { .. } => Status::Conflict,
+        Reply::NoProfile => Status::NotFound,
+        Reply::NoPlace(_) => Status::NotFound,
+        Reply::NoFeature => Status::NotFound,
+        Reply::FolderFault { .. } => Status::BadGateway,
+        Reply::Rejected(_) => Status::Unprocessable,
+        Reply::HistoryFull { .. } => Status::Conflict,
+        Reply::OutOfMemory => Status::Unavailable,
+    }
+}
+
+pub(crate) fn refusal_status(refusal: Refusal) -> Status
+    ensures { status_code result ≡ heads.refusal_status refusal }
+{
+    match refusal {
+        Refusal::HeadTooLarge => Status::HeadTooLarge,
+        Refusal::BadHead => Status::BadRequest,
+        Refusal::TransferCoding => Status::NotImplemented,
+        Refusal::BodyTooLarge => Status::ContentTooLarge,
+        Refusal::NoPath => Status::NotFound,
+        Refusal::Method(_) => Status::MethodNotAllowed,
+        Refusal::NotStaff => Status::Forbidden,
+        Refusal::BadBody => Status::BadRequest,
+        Refusal::BadQuery => Status::BadRequest,
+    }
+}
+
+/// Whether a refusal ends the session, whatever else does.
+pub(crate) fn ends_session(refusal: Refusal) -> bool
+    ensures { result ≡ heads.ends_session refusal }
+{
+    match refusal {
+        Refusal::HeadTooLarge => true,
+        Refusal::BadHead => true,
+        Refusal::TransferCoding => true,
+        Refusal::BodyTooLarge => true,
+        Refusal::NoPath => false,
+        Refusal::Method(_) => false,
+        Refusal::NotStaff => false,
+        Refusal::BadBody => false,
+        Refusal::BadQuery => false,
+    }
+}
+
+/// The methods that a refusal tells.
+pub(crate) fn allowed(refusal: Refusal) -> Option<Methods>
+    ensures { result ≡ heads.allowed refusal }
+{
+    match refusal {
+        Refusal::HeadTooLarge => None,
+        Refusal::BadHead => None,
+        Refusal::TransferCoding => None,
+        Refusal::BodyTooLarge => None,
+        Refusal::NoPath => None,
+        Refusal::Method(methods) => Some(methods),
+        Refusal::NotStaff => None,
+        Refusal::BadBody => None,
+        Refusal::BadQuery => None,
+    }
+}
+
+/// The first line of a head.
+pub(crate) fn status_line(status: Status) -> &'static str
+    ensures { result.now ≡ heads.status_line (status_code status) }
+{
+    match status {
+        Status::Ok => "HTTP/1.1 200 OK\r\n",
+        Status::BadRequest => "HTTP/1.1 400 Bad Request\r\n",
+        Status::Forbidden => "HTTP/1.1 403 Forbidden\r\n",
+        Status::NotFound => "HTTP/1.1 404 Not Found\r\n",
+        Status::MethodNotAllowed => "HTTP/1.1 405 Method Not Allowed\r\n",
+        Status::Conflict => "HTTP/1.1 409 Conflict\r\n",
+        Status::ContentTooLarge => "HTTP/1.1 413 Payload Too Large\r\n",
+        Status::Unprocessable => "HTTP/1.1 422 Unprocessable Entity\r\n",
+        Status::HeadTooLarge => "HTTP/1.1 431 Request Header Fields Too Large\r\n",
+        Status::NotImplemented => "HTTP/1.1 501 Not Implemented\r\n",
+        Status::BadGateway => "HTTP/1.1 502 Bad Gateway\r\n",
+        Status::Unavailable => "HTTP/1.1 503 Service Unavailable\r\n",
+    }
+}
+
+/// The form of the body, and the name of its length.
+pub(crate) fn content_lines() -> &'static str
+    ensures { result.now ≡ heads.content_lines }
+{
+    "content-type: application/json\r\ncontent-length: "
+}
+
+/// The rest of a head behind the length.
+pub(crate) fn last_lines(methods: Option<Methods>, close: bool) -> &'static str
+    ensures { result.now ≡ heads.last_lines methods close }
+{
+    if close {
+        closing_text(methods)
+    } else {
+        open_text(methods)
+    }
+}
+
+fn open_text(methods: Option<Methods>) -> &'static str
+    ensures { result.now ≡ heads.last_lines methods false }
+{
+    match methods {
+        None => "\r\n\r\n",
+        Some(Methods::Get) => "\r\nallow: GET\r\n\r\n",
+        Some(Methods::Post) => "\r\nallow: POST\r\n\r\n",
+        Some(Methods::Both) => "\r\nallow: GET, POST\r\n\r\n",
+    }
+}
+
+fn closing_text(methods: Option<Methods>) -> &'static str
+    ensures { result.now ≡ heads.last_lines methods true }
+{
+    match methods {
+        None => "\r\nconnection: close\r\n\r\n",
+        Some(Methods::Get) => "\r\nallow: GET\r\nconnection: close\r\n\r\n",
+        Some(Methods::Post) => "\r\nallow: POST\r\nconnection: close\r\n\r\n",
+        Some(Methods::Both) => "\r\nallow: GET, POST\r\nconnection: close\r\n\r\n",
+    }
+}

@@ -1,0 +1,115 @@
+//! Replies and refusals, each as the JSON of its body.
+
+ghost use Rattle.std.specs.Prelude.{◌≡◌, OnOk};
+ghost use Rattle.wire_replies.specs.Bodies.{body_of};
+ghost use Rattle.wire_replies.specs.Names.{refusal_name};
+ghost use Rattle.wire_replies.specs.Tokens.{Adds, data_tokens};
+
+use crate::bodies::{
+    write_ahead, write_closure, write_closures, write_error, write_full, write_no_place,
+    write_place, write_places, write_published, write_rejected, write_version,
+};
+use crate::walks::{Asked, write_no_route, write_route};
+use crate::written::Written;
+use json::Writer;
+use std::alloc::{AllocError, Global};
+use venue_types::Reply;
+use wire_frames::Refusal;
+
+impl Written for Reply {
+    ghost use Rattle.wire_replies.specs.Bodies.{body_of};
+
+    ghost shown = { body_of };
+
+    fn write_to(&self, alloc: Global, out: &mut Writer) -> Result<(), AllocError> {
+        match self {
+            Reply::Version {
+                number,
+                closed,
+                places,
+            } => write_version(alloc, out, *number, *closed, *places),
+            Reply::Places { number, rows } => write_places(alloc, out, *number, rows),
+            Reply::Place {
+                number,
+                row,
+                closed,
+            } => write_place(alloc, out, *number, row, *closed),
+            Reply::Closures { number, closed } => write_closures(alloc, out, *number, closed),
+            Reply::Route {
+                number,
+                from,
+                to,
+                profile,
+                start,
+                cost,
+                steps,
+                potentials,
+            } => {
+                let asked = Asked {
+                    version: *number,
+                    from: *from,
+                    to: *to,
+                    profile,
+                };
+                write_route(alloc, out, &asked, *start, *cost, steps, potentials)
+            }
+            Reply::NoRoute {
+                number,
+                from,
+                to,
+                profile,
+                reached,
+            } => {
+                let asked = Asked {
+                    version: *number,
+                    from: *from,
+                    to: *to,
+                    profile,
+                };
+                write_no_route(alloc, out, &asked, reached)
+            }
+            Reply::ClosureDone {
+                number,
+                feature,
+                closed,
+                changed,
+            } => write_closure(alloc, out, *number, *feature, *closed, *changed),
+            Reply::Published { number, dropped } => write_published(alloc, out, *number, dropped),
+            Reply::Ahead { since, number } => write_ahead(alloc, out, *since, *number),
+            Reply::NoProfile => write_error(alloc, out, "no_such_profile"),
+            Reply::NoPlace(which) => write_no_place(alloc, out, *which),
+            Reply::NoFeature => write_error(alloc, out, "no_such_feature"),
+            Reply::FolderFault { .. } => write_error(alloc, out, "folder_fault"),
+            Reply::Rejected(report) => write_rejected(alloc, out, report),
+            Reply::HistoryFull { number } => write_full(alloc, out, *number),
+            Reply::OutOfMemory => write_error(alloc, out, "want_of_memory"),
+        }
+    }
+}
+
+/// Why a message is refused by itself.
+fn refusal_name(refusal: Refusal) -> &'static str
+    ensures { result.now ≡ refusal_name refusal }
+{
+    match refusal {
+        Refusal::HeadTooLarge => "head_too_large",
+        Refusal::BadHead => "bad_head",
+        Refusal::TransferCoding => "transfer_coding",
+        Refusal::BodyTooLarge => "body_too_large",
+        Refusal::NoPath => "no_such_path",
+        Refusal::Method(_) => "method",
+        Refusal::NotStaff => "not_staff",
+        Refusal::BadBody => "bad_body",
+        Refusal::BadQuery => "bad_query",
+    }
+}
+
+impl Written for Refusal {
+    ghost use Rattle.wire_replies.specs.Bodies.{refusal_body};
+
+    ghost shown = { refusal_body };
+
+    fn write_to(&self, alloc: Global, out: &mut Writer) -> Result<(), AllocError> {
+        write_error(alloc, out, refusal_name(*self))
+    }
+}
