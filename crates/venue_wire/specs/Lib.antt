@@ -1,0 +1,5 @@
+pub mod Bodies
+pub mod Finding
+pub mod Messages
+pub mod Paths
+pub mod Queries
