@@ -1,0 +1,46 @@
+//! What stands in a query under a key.
+
+ghost use Rattle.std.specs.Prelude.{◌≡◌, ◌∷◌, ◌++◌, [], List, ℕ, IfOk, bytes_eq};
+ghost use Rattle.form_urlencoded.specs.Form.{raw_pairs};
+ghost use Rattle.venue_wire.specs.Finding.{is_pair_of, raw_values};
+ghost use Rattle.venue_wire.specs.Queries.{text_of};
+ghost use Rattle.wire_frames.specs.Outcomes.{AreValues};
+
+use form_urlencoded::{decode, raw_pairs};
+use std::alloc::{AllocError, Global};
+use wire_frames::Named;
+
+/// The values found, and one more.
+fn with<'q>(found: Named<'q>, value: &'q [u8]) -> Named<'q>
+    ensures { (values : List (List ℕ)) → AreValues found.entry values → AreValues result (values ++ value.now ∷ []) }
+{
+    match found {
+        Named::Absent => Named::Once(value),
+        _ => Named::Several,
+    }
+}
+
+/// Whether a name of a query stands for this key.
+fn is_named(alloc: Global, raw: &[u8], key: &str) -> Result<bool, AllocError>
+    ensures { IfOk result (λ same. same ≡ bytes_eq (text_of raw.now) key.now) }
+{
+    let text = decode(alloc, raw)?;
+    Ok(&*text == key)
+}
+
+/// The values of a key, as they stand in the query.
+pub(crate) fn find_values<'q>(
+    alloc: Global,
+    query: &'q [u8],
+    key: &str,
+) -> Result<Named<'q>, AllocError>
+    ensures { IfOk result (λ found. AreValues found (raw_values key.now (raw_pairs query.now))) }
+{
+    let mut found = Named::Absent;
+    for (raw, value) in raw_pairs(query) {
+        if is_named(alloc, raw, key)? {
+            found = with(found, value);
+        }
+    }
+    Ok(found)
+}
