@@ -2,13 +2,22 @@
 
 ghost use Rattle.std.specs.Prelude.{◌≡◌, ◌∷◌, ◌++◌, [], List, ℕ, IfOk, bytes_eq};
 ghost use Rattle.form_urlencoded.specs.Form.{raw_pairs};
-ghost use Rattle.venue_wire.specs.Finding.{is_pair_of, raw_values};
-ghost use Rattle.venue_wire.specs.Queries.{text_of};
+ghost use Rattle.venue_wire.specs.Finding.{AreTexts, raw_values};
+ghost use Rattle.venue_wire.specs.Queries.{text_of, values_of};
 ghost use Rattle.wire_frames.specs.Outcomes.{AreValues};
 
 use form_urlencoded::{decode, raw_pairs};
 use std::alloc::{AllocError, Global};
+use std::borrow::CowStr;
 use wire_frames::Named;
+
+/// The texts of the values of a key, borrowed where nothing is encoded.
+#[derive(Drop)]
+pub(crate) enum Sought<'q> {
+    Absent,
+    Once(CowStr<'q, Global>),
+    Several,
+}
 
 /// The values found, and one more.
 fn with<'q>(found: Named<'q>, value: &'q [u8]) -> Named<'q>
@@ -29,7 +38,7 @@ fn is_named(alloc: Global, raw: &[u8], key: &str) -> Result<bool, AllocError>
 }
 
 /// The values of a key, as they stand in the query.
-pub(crate) fn find_values<'q>(
+fn find_values<'q>(
     alloc: Global,
     query: &'q [u8],
     key: &str,
@@ -43,4 +52,22 @@ pub(crate) fn find_values<'q>(
         }
     }
     Ok(found)
+}
+
+/// The texts of the values of a key.
+pub(crate) fn seek<'q>(
+    alloc: Global,
+    query: &'q [u8],
+    key: &str,
+) -> Result<Sought<'q>, AllocError>
+    ensures { IfOk result (λ sought. AreTexts sought (values_of key.now query.now)) }
+{
+    match find_values(alloc, query, key)? {
+        Named::Absent => Ok(Sought::Absent),
+        Named::Once(value) => {
+            let text = decode(alloc, value)?;
+            Ok(Sought::Once(text))
+        }
+        Named::Several => Ok(Sought::Several),
+    }
 }
