@@ -1,1 +1,4 @@
+pub mod MessageLemmas
+pub mod PathLemmas
+pub mod RouteLemmas
 pub mod ValueLemmas

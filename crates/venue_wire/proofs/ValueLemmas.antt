@@ -1,5 +1,5 @@
 -- The values of a key, as they stand in a query and decoded.
-use Rattle.std.proofs.Common.{◌≡◌, ℕ, ◌<◌, Bool, true, false, List, [], ◌∷◌, length, map, refl, ap, ◌∙◌, arith}
+use Rattle.std.proofs.Common.{◌≡◌, ℕ, ◌<◌, Bool, true, false, List, [], ◌∷◌, length, map, refl, ap, arith}
 use Rattle.std.specs.Prelude.{bytes_eq, if◌then◌else◌, flat_map}
 use Rattle.form_urlencoded.specs.Form.{raw_pairs}
 use Rattle.venue_wire.specs.Finding.{raw_values}

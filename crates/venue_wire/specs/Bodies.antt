@@ -8,7 +8,6 @@ use Rattle.venue_types.specs.Identifier.{identifier_read}
 use Rattle.venue_types.specs.declared.query.Change.{Change}
 use Rattle.venue_types.specs.declared.query.Change.TheVariants.{Closure, Publish}
 use Rattle.venue_wire.specs.declared.paths.Path.{Path}
-use Rattle.venue_wire.specs.declared.paths.Path.TheVariants as Path
 
 -- the body is the text of this value; of equal names the last one counts
 pub record IsBody (body : List ℕ) (value : Data) : Type 0 where

@@ -5,17 +5,13 @@ use Rattle.http1.specs.Fields.{values_named}
 use Rattle.venue_types.specs.declared.query.Change.{Change}
 use Rattle.venue_types.specs.declared.query.Query.{Query}
 use Rattle.wire_frames.specs.Frames.{IsShort, IsRefused, PlainFrame, HasFrame}
-use Rattle.wire_frames.specs.declared.refusals.Refusal.{Refusal}
 use Rattle.wire_frames.specs.declared.refusals.Refusal.TheVariants.{NoPath, Method, NotStaff, BadBody, BadQuery}
 use Rattle.venue_wire.specs.Bodies.{AsksChange}
 use Rattle.venue_wire.specs.Paths.{route_of, methods_of, has_method, is_get, path_in, query_in}
 use Rattle.venue_wire.specs.Queries.{query_of}
 use Rattle.venue_wire.specs.declared.calls.Call.{Call}
-use Rattle.venue_wire.specs.declared.calls.Call.TheVariants as Call
 use Rattle.venue_wire.specs.declared.messages.Message.{Message}
-use Rattle.venue_wire.specs.declared.messages.Message.TheVariants as Message
 use Rattle.venue_wire.specs.declared.messages.Taken.{Taken}
-use Rattle.venue_wire.specs.declared.messages.Taken.TheVariants as Taken
 use Rattle.venue_wire.specs.declared.paths.Path.{Path}
 
 -- there is one value, and it equals a key, byte for byte

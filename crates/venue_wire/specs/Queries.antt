@@ -7,7 +7,6 @@ use Rattle.std.specs.Str.Parse.{digits_value}
 use Rattle.form_urlencoded.specs.Form.{raw_pairs, decode}
 use Rattle.venue_types.specs.Identifier.{identifier_read}
 use Rattle.venue_types.specs.declared.query.Ask.{Ask}
-use Rattle.venue_types.specs.declared.query.Ask.TheVariants as Ask
 use Rattle.venue_types.specs.declared.feature_id.FeatureId.{FeatureId}
 use Rattle.venue_types.specs.declared.query.Query.{Query}
 use Rattle.venue_wire.specs.declared.paths.Path.{Path}

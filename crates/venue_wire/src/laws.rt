@@ -8,6 +8,8 @@ ghost use Rattle.venue_wire.specs.declared.messages.Taken.{Taken};
 ghost use Rattle.venue_wire.specs.declared.paths.Path.{Path};
 ghost use Rattle.wire_frames.specs.declared.refusals.Refusal.{Refusal};
 
+use wire_frames::{front_more_law, one_front_law, short_law};
+
 /// At a front stands one thing alone: less than a message, one refused head, or one message.
 pub fn one_message_law()
     ensures more_or_fault { (keys : List (List ℕ)) (bytes : List ℕ) (least : ℕ) (r : Refusal)
@@ -25,7 +27,9 @@ pub fn one_message_law()
     ensures one_message { (keys : List (List ℕ)) (bytes : List ℕ) (m n : Message) (length size : ℕ) (close closes : Bool)
         → At keys bytes (Taken.Message m length close) → At keys bytes (Taken.Message n size closes)
         → (m ≡ n) × (length ≡ size) × (close ≡ closes) }
-{}
+{
+    one_front_law();
+}
 
 /// A refused head and a message stay what they are, whatever bytes follow.
 pub fn message_more_law()
@@ -35,13 +39,17 @@ pub fn message_more_law()
         → At keys bytes (Taken.Message m length close) → At keys (bytes ++ more) (Taken.Message m length close) }
     ensures memory { (keys : List (List ℕ)) (bytes more : List ℕ)
         → At keys bytes Taken.OutOfMemory → At keys (bytes ++ more) Taken.OutOfMemory }
-{}
+{
+    front_more_law();
+}
 
 /// Less than a message has room in 81,920 bytes, the greatest head and the greatest body.
 pub fn more_is_short_law()
     ensures { (keys : List (List ℕ)) (bytes : List ℕ) (least : ℕ)
         → At keys bytes (Taken.More least) → length bytes < 81920 }
-{}
+{
+    short_law();
+}
 
 /// A message has a byte or more, and no more than there are.
 pub fn message_length_law()

@@ -29,8 +29,9 @@ fn message_of(alloc: Global, front: &Front, framed: &Framed<'_>) -> Result<Messa
 }
 
 fn take_framed(alloc: Global, front: &Front, framed: &Framed<'_>) -> Taken
-    ensures { (bytes : List ℕ) (frame : PlainFrame) → HasFrame bytes frame → ShowsFrame framed.now frame
+    ensures at { (bytes : List ℕ) (frame : PlainFrame) → HasFrame bytes frame → ShowsFrame framed.now frame
         → At front.now bytes result }
+    ensures there { IfMore result (λ _. ⊥) }
 {
     match message_of(alloc, front, framed) {
         Ok(message) => Taken::Message {
