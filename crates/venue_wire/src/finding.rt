@@ -38,11 +38,7 @@ fn is_named(alloc: Global, raw: &[u8], key: &str) -> Result<bool, AllocError>
 }
 
 /// The values of a key, as they stand in the query.
-fn find_values<'q>(
-    alloc: Global,
-    query: &'q [u8],
-    key: &str,
-) -> Result<Named<'q>, AllocError>
+fn find_values<'q>(alloc: Global, query: &'q [u8], key: &str) -> Result<Named<'q>, AllocError>
     ensures { IfOk result (λ found. AreValues found (raw_values key.now (raw_pairs query.now))) }
 {
     let mut found = Named::Absent;
@@ -55,11 +51,7 @@ fn find_values<'q>(
 }
 
 /// The texts of the values of a key.
-pub(crate) fn seek<'q>(
-    alloc: Global,
-    query: &'q [u8],
-    key: &str,
-) -> Result<Sought<'q>, AllocError>
+pub(crate) fn seek<'q>(alloc: Global, query: &'q [u8], key: &str) -> Result<Sought<'q>, AllocError>
     ensures { IfOk result (λ sought. AreTexts sought (values_of key.now query.now)) }
 {
     match find_values(alloc, query, key)? {

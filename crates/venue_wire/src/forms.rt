@@ -56,9 +56,7 @@ pub(crate) fn read_answer(text: &str) -> Option<bool>
 fn is_plain(name: &str) -> bool
     ensures { result ≡ list_all is_folder_byte name.now }
 {
-    name.as_bytes()
-        .iter()
-        .all(|byte| matches!(*byte, b'a'..=b'z' | b'0'..=b'9' | b'_' | b'-'))
+    name.as_bytes().iter().all(|byte| matches!(*byte, b'a'..=b'z' | b'0'..=b'9' | b'_' | b'-'))
 }
 
 /// Whether a text is the name of a folder.

@@ -11,9 +11,13 @@ mod laws;
 mod messages;
 mod paths;
 mod taking;
+#[cfg(test)]
+mod tests;
 
 pub use front::Front;
-pub use laws::{message_length_law, message_more_law, more_is_short_law, one_message_law, path_law};
+pub use laws::{
+    message_length_law, message_more_law, more_is_short_law, one_message_law, path_law,
+};
 pub use messages::{Message, Taken};
 pub use paths::Path;
 pub use taking::take;

@@ -18,7 +18,9 @@ pub enum Message {
 #[derive(Drop)]
 pub enum Taken {
     /// Not yet decided; it won't be before `least` bytes are there in all.
-    More { least: usize },
+    More {
+        least: usize,
+    },
     /// The head is refused, and so is all that stands behind it.
     Fault(Refusal),
     /// A message of `length` bytes, behind which no other may follow where `close`.
