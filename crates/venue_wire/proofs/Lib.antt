@@ -1,3 +1,4 @@
+pub mod BodyLemmas
 pub mod MessageLemmas
 pub mod PathLemmas
 pub mod RouteLemmas

@@ -1,7 +1,7 @@
 -- The values of a key, as they stand in a query and decoded.
 use Rattle.std.proofs.Common.{◌≡◌, ℕ, ◌<◌, Bool, true, false, List, [], ◌∷◌, length, map, refl, ap, arith}
 use Rattle.std.specs.Prelude.{bytes_eq, if◌then◌else◌, flat_map}
-use Rattle.form_urlencoded.specs.Form.{raw_pairs}
+use Rattle.form_urlencoded.specs.Form.{raw_pairs, split}
 use Rattle.venue_wire.specs.Finding.{raw_values}
 use Rattle.venue_wire.specs.Queries.{text_of, values_of}
 
@@ -33,3 +33,9 @@ pub two_values : (values : List (List ℕ)) → 1 < length values
 two_values [] more = absurd (omega arith)
 two_values (value ∷ []) more = absurd (omega arith)
 two_values (value ∷ other ∷ others) more = (text_of value, text_of other, map text_of others, refl)
+
+-- an empty query has no values
+pub no_values : (key query : List ℕ) → length query ≡ 0 → values_of key query ≡ []
+unfolding raw_pairs split
+no_values key [] e = refl
+no_values key (b ∷ query) e = absurd (omega arith)

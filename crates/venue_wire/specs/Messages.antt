@@ -1,5 +1,5 @@
 -- What a framed message asks for, and what stands at the front of some bytes.
-use Rattle.std.specs.Prelude.{◌≡◌, ℕ, Bool, false, not, List, [], ◌∷◌, codes, if◌then◌else◌, Option, Some, None, bytes_eq}
+use Rattle.std.specs.Prelude.{◌≡◌, ◌<◌, length, ℕ, Bool, false, not, List, [], ◌∷◌, codes, if◌then◌else◌, Option, Some, None, bytes_eq}
 use Rattle.std.specs.List.{list_any}
 use Rattle.http1.specs.Fields.{values_named}
 use Rattle.venue_types.specs.declared.query.Change.{Change}
@@ -62,11 +62,17 @@ IsCalled (Call.Post path) frame message = IsChanged path frame.body message
 abbrev pub IsMessage : List (List ℕ) → PlainFrame → Message → Type 0
 IsMessage keys frame message = IsCalled (call_of keys frame) frame message
 
+-- what a call reads of its frame beside path, method and key: its query, or its body
+abbrev pub read_by : Call → PlainFrame → List ℕ
+read_by (Call.Refused refusal) frame = []
+read_by (Call.Get path) frame = query_in frame.target
+read_by (Call.Post path) frame = frame.body
+
 -- this stands at the front of the bytes: less than a message, a refused head, or a message with its length and whether it closes.
--- Want of memory only where a whole message stands.
+-- Want of memory only where a whole message stands whose query or body has to be read and has a byte.
 abbrev pub At : List (List ℕ) → List ℕ → Taken → Type 0
 At keys bytes (Taken.More least) = IsShort bytes
 At keys bytes (Taken.Fault refusal) = IsRefused bytes refusal
 At keys bytes (Taken.Message message length close) =
     (frame : PlainFrame) × HasFrame bytes frame × IsMessage keys frame message × (length ≡ frame.length) × (close ≡ frame.close)
-At keys bytes Taken.OutOfMemory = (frame : PlainFrame) × HasFrame bytes frame
+At keys bytes Taken.OutOfMemory = (frame : PlainFrame) × HasFrame bytes frame × (0 < length (read_by (call_of keys frame) frame))

@@ -1,6 +1,6 @@
 //! What a query asks of a path.
 
-ghost use Rattle.std.specs.Prelude.{◌≡◌, false, [], IfOk, codes};
+ghost use Rattle.std.specs.Prelude.{◌≡◌, ◌<◌, false, [], IfOk, OnErr, codes, length};
 ghost use Rattle.venue_wire.specs.Messages.{asked};
 ghost use Rattle.venue_wire.specs.Paths.{place_in};
 ghost use Rattle.venue_wire.specs.Queries.{answer_read, ask_of, end_of, query_of, only_value, route_asked, since_of, value_or, values_of};
@@ -15,7 +15,8 @@ use wire_frames::Refusal;
 
 /// The version that is asked for at least, if any; none where the query isn't of its form.
 fn since_of(alloc: Global, query: &[u8]) -> Result<Option<Option<u32>>, OutOfMemory>
-    ensures { IfOk result (λ since. since ≡ since_of query.now) }
+    ensures value { IfOk result (λ since. since ≡ since_of query.now) }
+    ensures memory { OnErr result (0 < length query.now) }
 {
     match seek(alloc, query, "since")? {
         Sought::Absent => Ok(Some(None)),
@@ -29,7 +30,8 @@ fn since_of(alloc: Global, query: &[u8]) -> Result<Option<Option<u32>>, OutOfMem
 
 /// The place at one end of a route.
 fn end_of(alloc: Global, query: &[u8], key: &str) -> Result<Option<FeatureId>, OutOfMemory>
-    ensures { IfOk result (λ place. place ≡ end_of key.now query.now) }
+    ensures value { IfOk result (λ place. place ≡ end_of key.now query.now) }
+    ensures memory { OnErr result (0 < length query.now) }
 {
     match seek(alloc, query, key)? {
         Sought::Once(text) => Ok(FeatureId::read((&*text).as_bytes())),
@@ -39,9 +41,14 @@ fn end_of(alloc: Global, query: &[u8], key: &str) -> Result<Option<FeatureId>, O
 }
 
 /// The profile, which may be an empty name.
+#[tactic(auto, using(crate::proofs::ValueLemmas::no_values))]
 fn profile_of(alloc: Global, query: &[u8]) -> Result<Option<Text>, OutOfMemory>
-    ensures { IfOk result (λ profile. profile ≡ only_value (values_of (codes "profile") query.now)) }
+    ensures value { IfOk result (λ profile. profile ≡ only_value (values_of (codes "profile") query.now)) }
+    ensures memory { OnErr result (0 < length query.now) }
 {
+    if query.is_empty() {
+        return Ok(None);
+    }
     match seek(alloc, query, "profile")? {
         Sought::Once(text) => Ok(Some(Text::from_string(text.into_owned(alloc)?))),
         Sought::Absent => Ok(None),
@@ -50,7 +57,8 @@ fn profile_of(alloc: Global, query: &[u8]) -> Result<Option<Text>, OutOfMemory>
 }
 
 fn certificate_of(alloc: Global, query: &[u8]) -> Result<Option<bool>, OutOfMemory>
-    ensures { IfOk result (λ certificate. certificate ≡ value_or false answer_read (values_of (codes "certificate") query.now)) }
+    ensures value { IfOk result (λ certificate. certificate ≡ value_or false answer_read (values_of (codes "certificate") query.now)) }
+    ensures memory { OnErr result (0 < length query.now) }
 {
     match seek(alloc, query, "certificate")? {
         Sought::Absent => Ok(Some(false)),
@@ -60,7 +68,8 @@ fn certificate_of(alloc: Global, query: &[u8]) -> Result<Option<bool>, OutOfMemo
 }
 
 fn route_asked(alloc: Global, query: &[u8]) -> Result<Option<Ask>, OutOfMemory>
-    ensures { IfOk result (λ ask. ask ≡ route_asked query.now) }
+    ensures value { IfOk result (λ ask. ask ≡ route_asked query.now) }
+    ensures memory { OnErr result (0 < length query.now) }
 {
     let Some(from) = end_of(alloc, query, "from")? else {
         return Ok(None);
@@ -98,7 +107,8 @@ fn place_asked(text: &str) -> Option<Ask>
 }
 
 fn ask_of(alloc: Global, path: Path, text: &str, query: &[u8]) -> Result<Option<Ask>, OutOfMemory>
-    ensures { IfOk result (λ ask. ask ≡ ask_of path text.now query.now) }
+    ensures value { IfOk result (λ ask. ask ≡ ask_of path text.now query.now) }
+    ensures memory { OnErr result (0 < length query.now) }
 {
     match path {
         Path::Version => Ok(Some(Ask::Version)),
@@ -116,7 +126,8 @@ fn query_of(
     text: &str,
     query: &[u8],
 ) -> Result<Option<Query>, OutOfMemory>
-    ensures { IfOk result (λ asked. asked ≡ query_of path text.now query.now) }
+    ensures value { IfOk result (λ asked. asked ≡ query_of path text.now query.now) }
+    ensures memory { OnErr result (0 < length query.now) }
 {
     let Some(what) = ask_of(alloc, path, text, query)? else {
         return Ok(None);
@@ -134,7 +145,8 @@ pub(crate) fn asked(
     text: &str,
     query: &[u8],
 ) -> Result<Message, OutOfMemory>
-    ensures { IfOk result (λ message. message ≡ asked (query_of path text.now query.now)) }
+    ensures value { IfOk result (λ message. message ≡ asked (query_of path text.now query.now)) }
+    ensures memory { OnErr result (0 < length query.now) }
 {
     match query_of(alloc, path, text, query)? {
         Some(query) => Ok(Message::Ask(query)),

@@ -1,6 +1,6 @@
 //! What a body asks of a path.
 
-ghost use Rattle.std.specs.Prelude.{◌≡◌, IfOk, IfSome, IfNone, option_map};
+ghost use Rattle.std.specs.Prelude.{◌≡◌, ◌<◌, true, IfOk, OnErr, IfSome, IfNone, is_some, length, option_map};
 ghost use Rattle.serde_json.specs.View.{view};
 ghost use Rattle.venue_types.specs.declared.query.Change.{Change};
 ghost use Rattle.venue_wire.specs.Bodies.{AsksChange, change_in, closure_in, publish_in, text_in};
@@ -17,7 +17,8 @@ use wire_frames::Refusal;
 
 /// The value of a body, if it is one.
 fn value_in(alloc: Global, body: &[u8]) -> Result<Option<Value>, OutOfMemory>
-    ensures { IfOk result (λ found. IsReadAs body.now found) }
+    ensures read { IfOk result (λ found. IsReadAs body.now found) }
+    ensures memory { OnErr result (0 < length body.now) }
 {
     match Value::from_slice(alloc, body) {
         Err(error) => {
@@ -46,9 +47,10 @@ fn closure_in(value: &Value) -> Option<Change>
     Some(Change::Closure { feature, closed })
 }
 
-/// The folder to be published.
+/// The folder to be published. A refusal takes no memory.
 fn publish_in(alloc: Global, value: &Value) -> Result<Option<Change>, OutOfMemory>
-    ensures { IfOk result (λ change. change ≡ publish_in (view value.now)) }
+    ensures value { IfOk result (λ change. change ≡ publish_in (view value.now)) }
+    ensures memory { OnErr result (is_some (publish_in (view value.now)) ≡ true) }
 {
     let Some(name) = text_in(value, "folder") else {
         return Ok(None);
@@ -60,8 +62,10 @@ fn publish_in(alloc: Global, value: &Value) -> Result<Option<Change>, OutOfMemor
     Ok(Some(Change::Publish { folder }))
 }
 
+/// What a value asks of a path. A refusal takes no memory.
 fn change_in(alloc: Global, path: Path, value: &Value) -> Result<Option<Change>, OutOfMemory>
-    ensures { IfOk result (λ change. change ≡ change_in path (view value.now)) }
+    ensures value { IfOk result (λ change. change ≡ change_in path (view value.now)) }
+    ensures memory { OnErr result (is_some (change_in path (view value.now)) ≡ true) }
 {
     match path {
         Path::Closures => Ok(closure_in(value)),
@@ -74,6 +78,7 @@ fn change_in(alloc: Global, path: Path, value: &Value) -> Result<Option<Change>,
 fn change_of(alloc: Global, path: Path, body: &[u8]) -> Result<Option<Change>, OutOfMemory>
     ensures some { IfOk result (λ found. IfSome found (λ change. AsksChange path body.now change)) }
     ensures none { IfOk result (λ found. IfNone found ((change : Change) → ¬ AsksChange path body.now change)) }
+    ensures memory { OnErr result (0 < length body.now) }
 {
     match value_in(alloc, body)? {
         Some(value) => change_in(alloc, path, &value),
@@ -83,7 +88,8 @@ fn change_of(alloc: Global, path: Path, body: &[u8]) -> Result<Option<Change>, O
 
 /// The change that a body asks of a path, or its refusal.
 pub(crate) fn changed(alloc: Global, path: Path, body: &[u8]) -> Result<Message, OutOfMemory>
-    ensures { IfOk result (λ message. IsChanged path body.now message) }
+    ensures message { IfOk result (λ message. IsChanged path body.now message) }
+    ensures memory { OnErr result (0 < length body.now) }
 {
     match change_of(alloc, path, body)? {
         Some(change) => Ok(Message::Do(change)),

@@ -1,6 +1,6 @@
 //! What stands in a query under a key.
 
-ghost use Rattle.std.specs.Prelude.{◌≡◌, ◌∷◌, ◌++◌, [], List, ℕ, IfOk, bytes_eq};
+ghost use Rattle.std.specs.Prelude.{◌≡◌, ◌∷◌, ◌++◌, [], List, ℕ, ◌<◌, length, IfOk, OnErr, bytes_eq};
 ghost use Rattle.form_urlencoded.specs.Form.{raw_pairs};
 ghost use Rattle.venue_wire.specs.Finding.{AreTexts, raw_values};
 ghost use Rattle.venue_wire.specs.Queries.{text_of, values_of};
@@ -50,10 +50,15 @@ fn find_values<'q>(alloc: Global, query: &'q [u8], key: &str) -> Result<Named<'q
     Ok(found)
 }
 
-/// The texts of the values of a key.
+/// The texts of the values of a key. An empty query takes no memory.
+#[tactic(auto, using(crate::proofs::ValueLemmas::no_values))]
 pub(crate) fn seek<'q>(alloc: Global, query: &'q [u8], key: &str) -> Result<Sought<'q>, AllocError>
-    ensures { IfOk result (λ sought. AreTexts sought (values_of key.now query.now)) }
+    ensures texts { IfOk result (λ sought. AreTexts sought (values_of key.now query.now)) }
+    ensures memory { OnErr result (0 < length query.now) }
 {
+    if query.is_empty() {
+        return Ok(Sought::Absent);
+    }
     match find_values(alloc, query, key)? {
         Named::Absent => Ok(Sought::Absent),
         Named::Once(value) => {

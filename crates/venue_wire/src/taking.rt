@@ -1,7 +1,7 @@
 //! What stands at the front of some bytes.
 
-ghost use Rattle.std.specs.Prelude.{ℕ, List, IfOk};
-ghost use Rattle.venue_wire.specs.Messages.{At, IsMessage};
+ghost use Rattle.std.specs.Prelude.{ℕ, ◌<◌, List, IfOk, OnErr, length};
+ghost use Rattle.venue_wire.specs.Messages.{At, IsMessage, call_of, read_by};
 ghost use Rattle.venue_wire.specs.Outcomes.{IfMore};
 ghost use Rattle.wire_frames.specs.Frames.{HasFrame, PlainFrame};
 ghost use Rattle.wire_frames.specs.Outcomes.{ShowsFrame, WaitsFor};
@@ -16,9 +16,11 @@ use std::alloc::Global;
 use venue_types::OutOfMemory;
 use wire_frames::{Framed, Framing, frame};
 
-/// What a framed message asks for. A question without a query, or with a plain one, is read without memory, but for a profile's name.
+/// What a framed message asks for.
 fn message_of(alloc: Global, front: &Front, framed: &Framed<'_>) -> Result<Message, OutOfMemory>
-    ensures { IfOk result (λ message. (frame : PlainFrame) → ShowsFrame framed.now frame → IsMessage front.now frame message) }
+    ensures message { IfOk result (λ message. (frame : PlainFrame) → ShowsFrame framed.now frame → IsMessage front.now frame message) }
+    ensures memory { OnErr result ((frame : PlainFrame) → ShowsFrame framed.now frame
+        → 0 < length (read_by (call_of front.now frame) frame)) }
 {
     let (text, query) = cut_target(framed.target);
     match front.call_of(framed, text) {
@@ -43,8 +45,8 @@ fn take_framed(alloc: Global, front: &Front, framed: &Framed<'_>) -> Taken
     }
 }
 
-/// What stands at the front, from these bytes alone, whatever follows them. A question with a plain query takes no memory but
-/// for the profile of a route.
+/// What stands at the front, from these bytes alone, in time in proportion to them. A question takes no memory where its query
+/// has nothing encoded, but for a profile's name; a change takes as much as the values of its body do.
 pub fn take(alloc: Global, front: &Front, bytes: &[u8]) -> Taken
     ensures at { At front.now bytes.now result }
     ensures waits { IfMore result (WaitsFor bytes.now) }
