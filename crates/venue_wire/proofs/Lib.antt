@@ -1,0 +1,5 @@
+pub mod BodyLemmas
+pub mod MessageLemmas
+pub mod PathLemmas
+pub mod RouteLemmas
+pub mod ValueLemmas

@@ -1,0 +1,81 @@
+-- What a query asks of a path (the URL Standard, section 5).
+use Rattle.std.specs.Prelude.{ℕ, ◌^◌, Bool, true, false, not, ◌&&◌, ◌||◌, ◌==◌, nat_lt, nat_le, List, [], ◌∷◌, length, map, flat_map, codes, slice_index, if◌then◌else◌, Option, Some, None, option_map, option_and_then, bytes_eq}
+use Rattle.std.specs.Char.{is_ascii_digit}
+use Rattle.std.specs.List.{list_all}
+use Rattle.std.specs.Str.Lossy.{utf8_lossy}
+use Rattle.std.specs.Str.Parse.{digits_value}
+use Rattle.form_urlencoded.specs.Form.{raw_pairs, decode}
+use Rattle.venue_types.specs.Identifier.{identifier_read}
+use Rattle.venue_types.specs.declared.query.Ask.{Ask}
+use Rattle.venue_types.specs.declared.feature_id.FeatureId.{FeatureId}
+use Rattle.venue_types.specs.declared.query.Query.{Query}
+use Rattle.venue_wire.specs.declared.paths.Path.{Path}
+use Rattle.venue_wire.specs.declared.paths.Path.TheVariants.{Version, Places, Closures, Place, Route, Publish}
+use Rattle.venue_wire.specs.Paths.{place_in}
+
+-- the text that a name or a value stands for: decoded, with U+FFFD for what is no UTF-8
+abbrev pub text_of : List ℕ → List ℕ
+text_of raw = utf8_lossy (decode raw)
+
+-- the names and the values of a query, in order
+abbrev pub pairs_of : List ℕ → List (List ℕ × List ℕ)
+pairs_of query = map (λ pair. (text_of pair.0, text_of pair.1)) (raw_pairs query)
+
+-- the values of a key
+abbrev pub values_of : List ℕ → List ℕ → List (List ℕ)
+values_of key query = flat_map (λ pair. if bytes_eq pair.0 key then pair.1 ∷ [] else []) (pairs_of query)
+
+-- the value of a key that has to stand there once
+abbrev pub only_value : List (List ℕ) → Option (List ℕ)
+only_value [] = None
+only_value (value ∷ []) = Some value
+only_value (value ∷ other ∷ values) = None
+
+-- what a key that may stand there once is read as: the first where it doesn't stand there
+abbrev pub value_or : {A : Type 0} → A → (List ℕ → Option A) → List (List ℕ) → Option A
+value_or absent form [] = Some absent
+value_or absent form (value ∷ []) = form value
+value_or absent form (value ∷ other ∷ values) = None
+
+-- a number below 2 ^ 32, in digits without a zero in front of others
+abbrev pub number_read : List ℕ → Option ℕ
+number_read text =
+    if nat_lt 0 (length text) && (nat_le (length text) 10 && (list_all is_ascii_digit text
+    && ((length text == 1 || not (slice_index text 0 == 48)) && nat_lt (digits_value 10 text) (2 ^ 32))))
+    then Some (digits_value 10 text) else None
+
+-- `yes` or `no`
+abbrev pub answer_read : List ℕ → Option Bool
+answer_read text =
+    if bytes_eq text (codes "yes") then Some true else if bytes_eq text (codes "no") then Some false else None
+
+-- the version that is asked for at least, if any
+abbrev pub since_of : List ℕ → Option (Option ℕ)
+since_of query = value_or None (λ text. option_map (λ version. Some version) (number_read text)) (values_of (codes "since") query)
+
+-- the place at one end of a route
+abbrev pub end_of : List ℕ → List ℕ → Option FeatureId
+end_of key query = option_and_then identifier_read (only_value (values_of key query))
+
+-- the route that is asked for: both ends, the profile, and whether with its certificate, which isn't where nothing is said
+abbrev pub route_asked : List ℕ → Option Ask
+route_asked query =
+    option_and_then (λ from. option_and_then (λ to. option_and_then (λ profile. option_map (λ certificate. Ask.Route from to profile certificate)
+    (value_or false answer_read (values_of (codes "certificate") query)))
+    (only_value (values_of (codes "profile") query)))
+    (end_of (codes "to") query))
+    (end_of (codes "from") query)
+
+-- what is asked by GET of a path, in whose text a place's identifier stands, with a query
+abbrev pub ask_of : Path → List ℕ → List ℕ → Option Ask
+ask_of Version text query = Some Ask.Version
+ask_of Places text query = Some Ask.Places
+ask_of Closures text query = Some Ask.Closures
+ask_of Place text query = option_map (λ id. Ask.Place id) (identifier_read (place_in text))
+ask_of Route text query = route_asked query
+ask_of Publish text query = None
+
+-- the same, with the version that is asked for at least
+abbrev pub query_of : Path → List ℕ → List ℕ → Option Query
+query_of path text query =
+    option_and_then (λ what. option_map (λ since. record { since = since; what = what }) (since_of query)) (ask_of path text query)
