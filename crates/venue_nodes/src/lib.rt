@@ -2,8 +2,16 @@
 //! is worth a note where a door or a passage leads nowhere.
 #![tactic(auto)]
 
+mod filling;
+mod limits;
+mod lists;
+mod members;
+mod naming;
 mod notes;
 mod rules;
+mod walkables;
 
+pub use limits::{Crowding, crowding, limit_findings};
+pub use members::{Membership, Rows};
 pub use notes::PlaceNote;
 pub use rules::LimitRule;
