@@ -11,7 +11,7 @@ mod notes;
 mod rules;
 mod walkables;
 
-pub use limits::{Crowding, crowding, limit_findings};
+pub use limits::{Crowding, first_crowding, limit_findings};
 pub use members::{Membership, Rows};
 pub use notes::PlaceNote;
 pub use rules::LimitRule;

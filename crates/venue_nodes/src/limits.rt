@@ -44,7 +44,7 @@ impl Crowding {
 }
 
 /// The limit that the rows pass first, if they pass one.
-pub fn crowding(rows: &Rows) -> Option<Crowding>
+pub fn first_crowding(rows: &Rows) -> Option<Crowding>
     ensures { (features : Features) (border_tol : ℕ) → AreRowsOf features border_tol rows.now → Crowds features border_tol result }
 {
     match crowded(rows) {
@@ -59,7 +59,7 @@ pub fn limit_findings(alloc: Global, rows: &Rows) -> Result<List<Finding>, OutOf
     ensures { IfOk result (λ findings. (features : Features) (border_tol : ℕ) → AreRowsOf features border_tol rows.now → IsReport (BreaksLimit features border_tol) findings) }
 {
     let mut findings = List::new(alloc);
-    if let Some(limit) = crowding(rows) {
+    if let Some(limit) = first_crowding(rows) {
         findings.push(limit.finding())?;
     }
     Ok(findings)
