@@ -4,6 +4,8 @@
 
 mod notes;
 mod rules;
+mod touching;
 
 pub use notes::PlaceNote;
 pub use rules::LimitRule;
+pub use touching::touch_law;
