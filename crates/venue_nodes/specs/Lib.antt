@@ -4,3 +4,4 @@ pub mod Nodes
 pub mod Members
 pub mod Limits
 pub mod Unplaced
+pub mod Bounds

@@ -4,6 +4,7 @@
 
 mod notes;
 mod rules;
+mod spots;
 mod touching;
 
 pub use notes::PlaceNote;
