@@ -10,3 +10,4 @@ pub mod Standing
 pub mod Filling
 pub mod Rows
 pub mod Crowds
+pub mod Bounds

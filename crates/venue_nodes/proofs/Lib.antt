@@ -1,0 +1,3 @@
+pub mod Identifiers
+pub mod Nearness
+pub mod Boxes
