@@ -1,3 +1,5 @@
 pub mod Identifiers
 pub mod Nearness
 pub mod Boxes
+pub mod Places
+pub mod Spanned

@@ -1,6 +1,6 @@
 //! From the units that nodes name to the nodes that stand in each unit's row.
 
-ghost use Rattle.std.specs.Prelude.{◌≡◌, ◌≤◌, ◌<◌, ◌∷◌, ◌++◌, [], ℕ, List, All, IfOk, OnOk, map, length, vec_len, slice_index_or, slice_set};
+ghost use Rattle.std.specs.Prelude.{◌≡◌, ◌≤◌, ◌<◌, ◌∷◌, ◌++◌, [], ℕ, List, All, IfOk, OnOk, map, length, vec_len, replicate, slice_index_or, slice_set};
 ghost use Rattle.venue_types.specs.declared.feature_id.FeatureId.{FeatureId};
 ghost use Rattle.venue_nodes.specs.Filling.{AreFilled, AreNumbers, joined, seat};
 
@@ -35,7 +35,7 @@ pub(crate) fn filled(alloc: Global, walkables: &Walkables, named: &Lists<u32>) -
 
 // Rows without members, so many.
 fn empty_rows(alloc: Global, count: usize) -> Result<Vec<List<u32>>, OutOfMemory>
-    ensures { IfOk result (λ rows. (vec_len rows ≡ count) × All (λ row. row ≡ []) rows.items) }
+    ensures { IfOk result (λ rows. rows.items ≡ replicate count []) }
 {
     let mut rows = Vec::with_capacity(alloc, count)?;
     for _ in 0..count {

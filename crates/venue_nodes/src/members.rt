@@ -63,6 +63,7 @@ impl Rows {
     }
 
     /// How many rows there are: one for each walkable unit.
+    #[tactic(auto, unfolding(crate::specs::Rows::row_list))]
     pub fn len(&self) -> u32
         ensures count { result ≡ length (row_list self.now) }
         ensures few { result ≤ 100000 }
@@ -71,6 +72,7 @@ impl Rows {
     }
 
     /// The members of a walkable unit, of this number from 0 in file order: numbers of nodes, rising.
+    #[tactic(auto, unfolding(crate::specs::Rows::row_list))]
     pub fn row(&self, w: u32) -> &[u32]
         requires { w < length (row_list self.now) }
         ensures { slice_get (row_list self.now) w ≡ Some result.now }
@@ -79,6 +81,7 @@ impl Rows {
     }
 
     /// The index in its file of the unit whose row this is.
+    #[tactic(auto, unfolding(crate::specs::Rows::row_list, crate::specs::Rows::unit_indexes))]
     pub fn unit_index(&self, w: u32) -> u32
         requires { w < length (row_list self.now) }
         ensures { slice_get (unit_indexes self.now) w ≡ Some result }
@@ -87,6 +90,7 @@ impl Rows {
     }
 
     /// Where the node of this number is a member, rising by unit.
+    #[tactic(auto, unfolding(crate::specs::Rows::row_list))]
     pub fn memberships(&self, node: u32) -> &[Membership]
         ensures { result.now ≡ standings node 0 (row_list self.now) }
     {

@@ -118,7 +118,7 @@ fn ids_at(alloc: Global, units: &[UnitRow], indexes: &[u32]) -> Result<Vec<Featu
 
 // Adds the unit's identifier, if there is one.
 fn add_id(ids: &mut Vec<FeatureId>, unit: Option<&UnitRow>) -> Result<(), OutOfMemory>
-    ensures { OnOk result (ids.new.items ≡ ids.old.items ++ option_to_list (option_map unit_id (option_copied unit))) }
+    ensures { OnOk result (ids.new.items ≡ ids.old.items ++ option_to_list (option_map unit_id (option_copied unit.entry))) }
 {
     if let Some(row) = unit {
         ids.push(row.id)?;
