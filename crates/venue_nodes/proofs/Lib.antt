@@ -3,3 +3,5 @@ pub mod Nearness
 pub mod Boxes
 pub mod Places
 pub mod Spanned
+pub mod Items
+pub mod Named

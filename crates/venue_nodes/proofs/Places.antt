@@ -1,12 +1,15 @@
 -- The places at which a test holds.
-use Rattle.std.proofs.Common.{◌≡◌, ℕ, ◌+◌, ◌≤◌, ◌<◌, zero, suc, List, [], ◌∷◌, ◌++◌, Some, None, Bool, true, false, cond, length, refl, sym, ap, subst, ◌∙◌, arith, inl, inr, tt}
+use Rattle.std.proofs.Common.{◌≡◌, ℕ, ◌+◌, ◌≤◌, ◌<◌, zero, suc, List, [], ◌∷◌, ◌++◌, Some, None, Bool, true, false, cond, length, refl, sym, ap, subst, ◌∙◌, arith, inl, inr, take, get_or}
 use Rattle.std.specs.Prelude.{Contains, slice_get, filter}
 use Rattle.std.specs.List.{AllByRecursion, AllZip}
 use Rattle.std.specs.List.Sorted.{IsStrictlySortedBy}
 use Rattle.std.specs.declared.cmp.Ordering.TheVariants.{Less}
 use Rattle.std.specs.Ordering.{nat_cmp}
 use Rattle.std.proofs.lemmas.Option.{same_Some, slice_get_within, slice_get_read, get_or_from_slice_get}
+use Rattle.std.proofs.lemmas.Bool.{cases_lt}
 use Rattle.std.proofs.lemmas.Bool.Decides.{nat_tests}
+use Rattle.std.proofs.lemmas.List.{take_more, length-take-le}
+use Rattle.std.proofs.lemmas.Map.Keys.{below_from_sorted}
 use Rattle.venue_nodes.specs.Members.{places_where}
 
 -- ---- one list behind another
@@ -27,6 +30,12 @@ pub places-push : {A : Type 0} (t : A → Bool) (xs : List A) (x : A) → places
 places-push t xs x =
     let e : 0 + length xs ≡ length xs = omega arith in
     places-append t 0 xs (x ∷ []) ∙ ap (λ (m : ℕ). places_where t 0 xs ++ cond (t x) (m ∷ []) []) e
+
+pub places_more : {A : Type 0} (t : A → Bool) (xs : List A) (i : ℕ) (d : A) → i < length xs → places_where t 0 (take (i + 1) xs) ≡ places_where t 0 (take i xs) ++ cond (t (get_or xs i d)) (i ∷ []) []
+places_more t xs i d within =
+    ap (places_where t 0) (take_more xs i d within)
+    ∙ places-push t (take i xs) (get_or xs i d)
+    ∙ ap (λ (m : ℕ). places_where t 0 (take i xs) ++ cond (t (get_or xs i d)) (m ∷ []) []) (length-take-le i xs (omega arith))
 
 -- ---- how many
 
@@ -168,3 +177,37 @@ places_within t xs w p h =
     let within : r.k < length xs = slice_get_within xs r.k r.x r.there in
     let is : p ≡ 0 + r.k = r.is in
     omega arith
+
+-- a place has one number
+no_later : (ps : List ℕ) (k j p : ℕ) → IsStrictlySortedBy nat_cmp ps → slice_get ps k ≡ Some p → slice_get ps j ≡ Some p → k < j → ⊥
+no_later ps k j p up here there before =
+    let a : get_or ps k 0 ≡ p = get_or_from_slice_get ps k p 0 here in
+    let b : get_or ps j 0 ≡ p = get_or_from_slice_get ps j p 0 there in
+    let under : get_or ps k 0 < get_or ps j 0 = below_from_sorted ps k j 0 up before (slice_get_within ps j p there) in
+    omega arith
+
+pub one_number : (ps : List ℕ) (k j p : ℕ) → IsStrictlySortedBy nat_cmp ps → slice_get ps k ≡ Some p → slice_get ps j ≡ Some p → k ≡ j
+one_number ps k j p up here there = elim (cases_lt k j) [
+  | inl before ↦ absurd (no_later ps k j p up here there before)
+  | inr behind ↦ elim (cases_lt j k) [
+      | inl under ↦ absurd (no_later ps j k p up there here under)
+      | inr over ↦ omega arith
+    ]
+]
+
+-- a lesser place has a lesser number
+pub lesser_number : (ps : List ℕ) (k j p q : ℕ) → IsStrictlySortedBy nat_cmp ps → slice_get ps k ≡ Some p → slice_get ps j ≡ Some q → p < q → k < j
+lesser_number ps k j p q up here there under = elim (cases_lt k j) [
+  | inl before ↦ before
+  | inr behind ↦ elim (cases_lt j k) [
+      | inl after ↦
+          let a : get_or ps k 0 ≡ p = get_or_from_slice_get ps k p 0 here in
+          let b : get_or ps j 0 ≡ q = get_or_from_slice_get ps j q 0 there in
+          let over : get_or ps j 0 < get_or ps k 0 = below_from_sorted ps j k 0 up after (slice_get_within ps k p here) in
+          absurd (omega arith)
+      | inr over ↦
+          let same : j ≡ k = omega arith in
+          let c : p ≡ q = same_Some p q (sym here ∙ subst (λ (i : ℕ). slice_get ps i ≡ Some q) same there) in
+          absurd (omega arith)
+    ]
+]

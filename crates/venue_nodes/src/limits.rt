@@ -1,6 +1,7 @@
 //! Which limit on members a folder passes.
 
 ghost use Rattle.std.specs.Prelude.{◌≡◌, ◌↔◌, ◌<◌, ◌≤◌, ◌*◌, ℕ, List, All, IfOk, IsTrue, MatchOption, sum_by, length};
+ghost use Rattle.std.specs.Option.{option_map, option_to_list};
 ghost use Rattle.venue_types.specs.declared.features.Features.{Features};
 ghost use Rattle.report_laws.specs.Reports.{IsReport};
 ghost use Rattle.venue_nodes.specs.Crowds.{Crowds, IsFirstFull, IsRoomy, limit_finding, square_of};
@@ -58,9 +59,17 @@ pub fn first_crowding(rows: &Rows) -> Option<Crowding>
 pub fn limit_findings(alloc: Global, rows: &Rows) -> Result<List<Finding>, OutOfMemory>
     ensures { IfOk result (λ findings. (features : Features) (border_tol : ℕ) → AreRowsOf features border_tol rows.now → IsReport (BreaksLimit features border_tol) findings) }
 {
+    let findings = listed(alloc, first_crowding(rows))?;
+    Ok(findings)
+}
+
+// The finding of the limit, if there is one.
+fn listed(alloc: Global, limit: Option<Crowding>) -> Result<List<Finding>, OutOfMemory>
+    ensures { IfOk result (λ findings. findings ≡ option_to_list (option_map limit_finding limit)) }
+{
     let mut findings = List::new(alloc);
-    if let Some(limit) = first_crowding(rows) {
-        findings.push(limit.finding())?;
+    if let Some(crowding) = limit {
+        findings.push(crowding.finding())?;
     }
     Ok(findings)
 }

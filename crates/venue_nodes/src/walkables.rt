@@ -7,8 +7,9 @@ ghost use Rattle.feature_rows.specs.Indexes.{AreOnce, place_of};
 ghost use Rattle.venue_nodes.specs.Members.{places_where};
 ghost use Rattle.venue_nodes.specs.Naming.{AreKnown, AreWalkables, can_walk, numbers, unit_id};
 
-use feature_rows::Index;
+use feature_rows::{Index, index_law};
 use imdf_access::walkable;
+use report_laws::add;
 use std::alloc::Global;
 use venue_types::{FeatureId, OutOfMemory, UnitRow};
 
@@ -45,6 +46,7 @@ impl Walkables {
         requires { AreKnown self.now }
         ensures { IfOk result (λ found. found.items ≡ numbers self.now.ids.items ids.now) }
     {
+        index_law();
         let mut found = self.found(alloc, ids)?;
         found.sort_unstable();
         found.dedup();
@@ -95,9 +97,7 @@ fn indexes_of(alloc: Global, units: &[UnitRow]) -> Result<Vec<u32>, OutOfMemory>
 {
     let mut indexes = Vec::new(alloc);
     for (k, unit) in units.iter().enumerate() {
-        if can_walk(unit) {
-            indexes.push(k as u32)?;
-        }
+        add(&mut indexes, can_walk(unit), k as u32)?;
     }
     Ok(indexes)
 }
