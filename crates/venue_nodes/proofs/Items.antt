@@ -3,7 +3,7 @@ use Rattle.std.proofs.Common.{◌≡◌, ℕ, ◌+◌, ◌<◌, zero, suc, List,
 use Rattle.std.specs.Prelude.{Contains, slice_get}
 use Rattle.std.specs.List.{filter_map, cons_option}
 use Rattle.std.specs.Option.{option_map, option_to_list}
-use Rattle.std.proofs.lemmas.List.{take_more}
+use Rattle.std.proofs.lemmas.List.{take_more, map-append}
 use Rattle.std.proofs.lemmas.List.Elements.{filter_map-append}
 use Rattle.std.proofs.lemmas.Option.{slice_get_within, slice_get_read, slice_get-map, get_or_from_slice_get, same_Some}
 
@@ -67,3 +67,27 @@ pub given_to : {X Y : Type 0} (h : X → Option Y) (xs : List X) (k : ℕ) (x : 
 given_to h [] k x y at gives = absurd (let no : None ≡ Some x = at in cc)
 given_to h (z ∷ xs) zero x y at gives = (0, some_first (h z) (filter_map h xs) y (ap h (same_Some z x at) ∙ gives))
 given_to h (z ∷ xs) (suc k) x y at gives = let r = given_to h xs k x y at gives in some_behind (h z) (filter_map h xs) r.0 y r.1
+
+-- a loop's step, by what its calls say
+pub given_on : {X Y : Type 0} (h : X → Option Y) (xs : List X) (i : ℕ) (d : X) (o : Option Y) (old new : List Y) → i < length xs → old ≡ filter_map h (take i xs) → o ≡ h (get_or xs i d)
+    → new ≡ old ++ option_to_list o → new ≡ filter_map h (take (i + 1) xs)
+given_on {X} {Y} h xs i d o old new within before is grown =
+    grown
+    ∙ ap (λ (ys : List Y). ys ++ option_to_list o) before
+    ∙ ap (λ (p : Option Y). filter_map h (take i xs) ++ option_to_list p) is
+    ∙ sym (given_more h xs i d within)
+
+pub map_twice : {X Y Z : Type 0} (f : Y → Z) (g : X → Y) (xs : List X) → map f (map g xs) ≡ map (λ x. f (g x)) xs
+map_twice f g [] = refl
+map_twice {X} {Y} {Z} f g (x ∷ xs) = ap (λ (zs : List Z). f (g x) ∷ zs) (map_twice f g xs)
+
+-- what four passes add, one after another
+pub four_passes : {A B C D X Y : Type 0} (f : X → Y) (a : A → X) (b : B → X) (c : C → X) (d : D → X) (as1 as2 : List A) (bs bs' : List B) (cs cs' : List C) (ds ds' : List D) (l0 l1 l2 l3 l4 : List Y)
+    → l0 ≡ [] → as2 ≡ as1 → bs' ≡ bs → cs' ≡ cs → ds' ≡ ds
+    → l1 ≡ l0 ++ map (λ x. f (a x)) as2 → l2 ≡ l1 ++ map (λ x. f (b x)) bs' → l3 ≡ l2 ++ map (λ x. f (c x)) cs' → l4 ≡ l3 ++ map (λ x. f (d x)) ds'
+    → l4 ≡ map f (map a as1 ++ map b bs ++ map c cs ++ map d ds)
+four_passes {A} {B} {C} {D} {X} {Y} f a b c d as1 as2 bs bs' cs cs' ds ds' l0 l1 l2 l3 l4 e0 ea eb ec ed e1 e2 e3 e4 =
+    let one : l1 ≡ map f (map a as1) = e1 ∙ ap (λ (l : List Y). l ++ map (λ x. f (a x)) as2) e0 ∙ ap (map (λ x. f (a x))) ea ∙ sym (map_twice f a as1) in
+    let two : l2 ≡ map f (map a as1 ++ map b bs) = e2 ∙ ap (λ (l : List Y). l ++ map (λ x. f (b x)) bs') one ∙ ap (λ (l : List Y). map f (map a as1) ++ l) (ap (map (λ x. f (b x))) eb ∙ sym (map_twice f b bs)) ∙ sym (map-append f (map a as1) (map b bs)) in
+    let three : l3 ≡ map f (map a as1 ++ map b bs ++ map c cs) = e3 ∙ ap (λ (l : List Y). l ++ map (λ x. f (c x)) cs') two ∙ ap (λ (l : List Y). map f (map a as1 ++ map b bs) ++ l) (ap (map (λ x. f (c x))) ec ∙ sym (map_twice f c cs)) ∙ sym (map-append f (map a as1 ++ map b bs) (map c cs)) in
+    e4 ∙ ap (λ (l : List Y). l ++ map (λ x. f (d x)) ds') three ∙ ap (λ (l : List Y). map f (map a as1 ++ map b bs ++ map c cs) ++ l) (ap (map (λ x. f (d x))) ed ∙ sym (map_twice f d ds)) ∙ sym (map-append f (map a as1 ++ map b bs ++ map c cs) (map d ds))

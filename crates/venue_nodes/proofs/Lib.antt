@@ -5,3 +5,4 @@ pub mod Places
 pub mod Spanned
 pub mod Items
 pub mod Named
+pub mod Limiting

@@ -14,11 +14,12 @@ use Rattle.std.proofs.lemmas.List.Sorted.{Contains-permutation, IsPermutation-sy
 use Rattle.std.proofs.lemmas.Map.Keys.{IsStrictlyIncreasing-dedup, sorted_from_strictly_increasing}
 use Rattle.std.proofs.lemmas.Option.{same_Some, slice_get_within}
 use Rattle.venue_types.specs.declared.feature_id.FeatureId.{FeatureId}
-use Rattle.feature_rows.specs.Indexes.{AreOnce}
+use Rattle.feature_rows.specs.Indexes.{AreOnce, place_of}
 use Rattle.report_laws.proofs.Unique.{same_members}
 use Rattle.venue_nodes.specs.Identity.{is_same}
 use Rattle.venue_nodes.specs.Members.{places_where}
-use Rattle.venue_nodes.specs.Naming.{names, numbers}
+use Rattle.venue_nodes.specs.declared.walkables.Walkables.{Walkables}
+use Rattle.venue_nodes.specs.Naming.{names, numbers, AreKnown}
 use Rattle.venue_nodes.proofs.Identifiers.{same_id, id_same}
 use Rattle.venue_nodes.proofs.Items.{at_member, member_at, at_map, from_map, given_from, given_to}
 use Rattle.venue_nodes.proofs.Places.{places_rise, place_at, number_of, kept_at, one_number, places_count, places_few}
@@ -94,4 +95,12 @@ few_kept id_of t rows few =
     let long : length (map id_of (filter t rows)) ≡ length (filter t rows) = length-map (filter t rows) id_of in
     let kept : length (places_where t 0 rows) ≡ length (filter t rows) = places_count t 0 rows in
     let all : length (places_where t 0 rows) ≤ length rows = places_few t 0 rows in
+    omega arith
+
+-- a number found is one of those known
+pub found_within : (walkables : Walkables) (id : FeatureId) (o : Option ℕ) → AreKnown walkables → o ≡ place_of walkables.places id → (k : ℕ) → o ≡ Some k → k < 4294967296
+found_within walkables id o known is k e =
+    let here : slice_get walkables.ids.items k ≡ Some id = (known.places_are.only id k (sym is ∙ e)).here in
+    let within : k < length walkables.ids.items = slice_get_within walkables.ids.items k id here in
+    let few : length walkables.ids.items ≤ 100000 = known.few in
     omega arith
