@@ -6,3 +6,4 @@ pub mod Spanned
 pub mod Items
 pub mod Named
 pub mod Limiting
+pub mod Seating

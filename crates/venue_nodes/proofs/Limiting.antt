@@ -1,9 +1,10 @@
 -- The limits, from rows to units and back.
-use Rattle.std.proofs.Common.{◌≡◌, ℕ, ◌+◌, ◌*◌, ◌≤◌, ◌<◌, zero, suc, List, [], ◌∷◌, Option, Some, None, length, map, filter, take, get_or, refl, sym, ap, subst, ◌∙◌, arith, inl, inr}
+use Rattle.std.proofs.Common.{◌≡◌, ℕ, Bool, true, false, ◌+◌, ◌*◌, ◌≤◌, ◌<◌, zero, suc, List, [], ◌∷◌, Option, Some, None, length, map, filter, take, get_or, refl, sym, ap, subst, ◌∙◌, arith, inl, inr}
 use Rattle.std.specs.Prelude.{Contains, All, IsTrue, slice_get, sum_by}
 use Rattle.std.specs.Option.{option_map, option_to_list}
 use Rattle.std.specs.List.Sorted.{IsStrictlySortedBy}
 use Rattle.std.proofs.Math.Nat.{mul-le-mul}
+use Rattle.std.proofs.lemmas.Bool.{cases_lt}
 use Rattle.std.proofs.lemmas.List.Elements.{All-contains}
 use Rattle.std.proofs.lemmas.List.Sums.{sum_by-cons, sum_by_more}
 use Rattle.std.proofs.lemmas.Option.{same_Some, get_or_from_slice_get, slice_get_within}
@@ -27,7 +28,7 @@ use Rattle.venue_nodes.specs.Rows.{AreRowsOf, row_list, unit_indexes}
 use Rattle.venue_nodes.proofs.Items.{member_at, at_member, at_map, from_map}
 use Rattle.venue_nodes.proofs.Places.{places_rise, kept_at, number_of, lesser_number}
 
-abbrev walks : UnitRow → _
+abbrev walks : UnitRow → Bool
 walks row = is_walkable row.category
 
 -- ---- rows that have room
@@ -44,6 +45,12 @@ sum_on rows w sum row at before =
     let here : get_or rows w row ≡ row = get_or_from_slice_get rows w row row at in
     let more : sum_by square_of (take (w + 1) rows) ≡ sum_by square_of (take w rows) + square_of (get_or rows w row) = sum_by_more square_of rows w row (slice_get_within rows w row at) in
     ap (λ (n : ℕ). n + length row * length row) before ∙ ap (λ (r : List ℕ). sum_by square_of (take w rows) + square_of r) (sym here) ∙ sym more
+
+pub not_above : (n : ℕ) → (20000000 < n → IsTrue false) → n ≤ 20000000
+not_above n denied = elim (cases_lt 20000000 n) [
+  | inl over ↦ absurd (let e : false ≡ true = denied over in cc)
+  | inr under ↦ under
+]
 
 -- ---- the squares
 
@@ -127,3 +134,47 @@ breaks_members features border_tol k crowd = record {
 breaks_squares : (features : Features) (border_tol : ℕ) → NoneCrowded features border_tol → 20000000 < square_sum features border_tol → BreaksLimit features border_tol (limit_finding Squares)
 breaks_squares features border_tol none many = record {
   rule = S6; number = refl; breaks = (many, refl); first = only_S5_before_S6 features border_tol none; in_file = refl; at_member = refl }
+
+one_first : (features : Features) (border_tol k j : ℕ) → LimitBreaks S5 features border_tol k → LimitBreaks S5 features border_tol j → j ≡ k
+one_first features border_tol k j here there = elim (cases_lt k j) [
+  | inl before ↦ absurd (there.1 k before here.0)
+  | inr behind ↦ elim (cases_lt j k) [
+      | inl under ↦ absurd (here.1 j under there.0)
+      | inr over ↦ omega arith
+    ]
+]
+
+told_members : (features : Features) (border_tol k : ℕ) (x : Finding) → LimitBreaks S5 features border_tol k → (rule : LimitRule) → x.rule ≡ limit_rule_number rule → LimitBreaks rule features border_tol x.index
+    → ((before : LimitRule) (j : ℕ) → limit_rule_number before < limit_rule_number rule → ¬ LimitBreaks before features border_tol j) → x.file ≡ file_number file.Unit → x.member ≡ 0 → x ≡ limit_finding (Members k)
+told_members features border_tol k x crowd S5 number breaks first in_file at_member = same_finding x (limit_finding (Members k)) number in_file (one_first features border_tol k x.index crowd breaks) at_member
+told_members features border_tol k x crowd S6 number breaks first in_file at_member = absurd (first S5 k (omega arith) crowd)
+
+told_squares : (features : Features) (border_tol : ℕ) (x : Finding) → NoneCrowded features border_tol → (rule : LimitRule) → x.rule ≡ limit_rule_number rule → LimitBreaks rule features border_tol x.index
+    → x.file ≡ file_number file.Unit → x.member ≡ 0 → x ≡ limit_finding Squares
+told_squares features border_tol x none S5 number breaks in_file at_member = absurd (none x.index breaks.0)
+told_squares features border_tol x none S6 number breaks in_file at_member = same_finding x (limit_finding Squares) number in_file breaks.1 at_member
+
+told_nothing : (features : Features) (border_tol : ℕ) (x : Finding) → NoneCrowded features border_tol → square_sum features border_tol ≤ 20000000 → (rule : LimitRule) → LimitBreaks rule features border_tol x.index → ⊥
+told_nothing features border_tol x none few S5 breaks = none x.index breaks.0
+told_nothing features border_tol x none few S6 breaks = let many : 20000000 < square_sum features border_tol = breaks.0 in omega arith
+
+listed_one : {P : Finding → Type 0} (x : Finding) → P x → ((y : Finding) → P y → y ≡ x) → IsReport P (x ∷ [])
+unfolding IsStrictlySortedBy
+listed_one {P} x holds alone = record {
+  rises = (tt, tt);
+  only = λ y h. subst P (only_one x y h) holds;
+  whole = λ y p. member_at (x ∷ []) 0 y (ap (λ (z : Finding). Some z) (sym (alone y p)));
+}
+
+listed_none : {P : Finding → Type 0} → ((y : Finding) → ¬ P y) → IsReport P []
+unfolding IsStrictlySortedBy
+listed_none none = record {
+  rises = tt;
+  only = λ y h. absurd (omega (arith, h.1));
+  whole = λ y p. absurd (none y p);
+}
+
+pub report : (features : Features) (border_tol : ℕ) (limit : Option Crowding) → Crowds features border_tol limit → IsReport (BreaksLimit features border_tol) (option_to_list (option_map limit_finding limit))
+report features border_tol None crowds = listed_none (λ y b. told_nothing features border_tol y crowds.0 crowds.1 b.rule b.breaks)
+report features border_tol (Some (Members k)) crowds = listed_one (limit_finding (Members k)) (breaks_members features border_tol k crowds) (λ y b. told_members features border_tol k y crowds b.rule b.number b.breaks b.first b.in_file b.at_member)
+report features border_tol (Some Squares) crowds = listed_one (limit_finding Squares) (breaks_squares features border_tol crowds.0 crowds.1) (λ y b. told_squares features border_tol y crowds.0 b.rule b.number b.breaks b.in_file b.at_member)

@@ -25,7 +25,7 @@ pub(crate) fn named(
     let mut lists = Lists::new(alloc);
     add_amenities(alloc, &mut lists, walkables, features.amenities.as_slice())?;
     add_anchors(alloc, &mut lists, walkables, features.anchors.as_slice())?;
-    add_openings(alloc, &mut lists, walkables, features.units.as_slice(), touches.rows.as_slice())?;
+    add_openings(alloc, &mut lists, walkables, &features.units, touches.rows.as_slice())?;
     add_units(alloc, &mut lists, walkables)?;
     Ok(lists)
 }
@@ -78,7 +78,7 @@ fn add_openings(
     alloc: Global,
     lists: &mut Lists<u32>,
     walkables: &Walkables,
-    units: &[UnitRow],
+    units: &List<UnitRow>,
     touched: &[List<u32>],
 ) -> Result<(), OutOfMemory>
     requires { AreKnown walkables.now }
@@ -106,7 +106,7 @@ fn add_units(
 }
 
 // The identifiers of the units of these indexes.
-fn ids_at(alloc: Global, units: &[UnitRow], indexes: &[u32]) -> Result<Vec<FeatureId>, OutOfMemory>
+fn ids_at(alloc: Global, units: &List<UnitRow>, indexes: &[u32]) -> Result<Vec<FeatureId>, OutOfMemory>
     ensures { IfOk result (λ ids. ids.items ≡ ids_at units.now indexes.now) }
 {
     let mut ids = Vec::new(alloc);
