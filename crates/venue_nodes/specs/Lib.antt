@@ -4,3 +4,10 @@ pub mod Nodes
 pub mod Members
 pub mod Limits
 pub mod Unplaced
+pub mod Spans
+pub mod Naming
+pub mod Standing
+pub mod Filling
+pub mod Rows
+pub mod Crowds
+pub mod Bounds

@@ -2,8 +2,19 @@
 //! is worth a note where a door or a passage leads nowhere.
 #![tactic(auto)]
 
+mod filling;
+mod limits;
+mod lists;
+mod members;
+mod naming;
 mod notes;
 mod rules;
+mod spots;
+mod touching;
+mod walkables;
 
+pub use limits::{Crowding, first_crowding, limit_findings};
+pub use members::{Membership, Rows};
 pub use notes::PlaceNote;
 pub use rules::LimitRule;
+pub use touching::touch_law;

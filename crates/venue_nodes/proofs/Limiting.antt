@@ -1,0 +1,180 @@
+-- The limits, from rows to units and back.
+use Rattle.std.proofs.Common.{◌≡◌, ℕ, Bool, true, false, ◌+◌, ◌*◌, ◌≤◌, ◌<◌, zero, suc, List, [], ◌∷◌, Option, Some, None, length, map, filter, take, get_or, refl, sym, ap, subst, ◌∙◌, arith, inl, inr}
+use Rattle.std.specs.Prelude.{Contains, All, IsTrue, slice_get, sum_by}
+use Rattle.std.specs.Option.{option_map, option_to_list}
+use Rattle.std.specs.List.Sorted.{IsStrictlySortedBy}
+use Rattle.std.proofs.Math.Nat.{mul-le-mul}
+use Rattle.std.proofs.lemmas.Bool.{cases_lt}
+use Rattle.std.proofs.lemmas.List.Elements.{All-contains}
+use Rattle.std.proofs.lemmas.List.Sums.{sum_by-cons, sum_by_more}
+use Rattle.std.proofs.lemmas.Option.{same_Some, get_or_from_slice_get, slice_get_within}
+use Rattle.venue_types.specs.declared.features.Features.{Features}
+use Rattle.venue_types.specs.declared.features.UnitRow.{UnitRow}
+use Rattle.venue_types.specs.declared.finding.Finding.{Finding}
+use Rattle.imdf_access.specs.Categories.{is_walkable}
+use Rattle.imdf_schema.specs.declared.files.File.TheVariants as file
+use Rattle.imdf_schema.specs.Files.{file_number}
+use Rattle.report_laws.specs.Reports.{IsReport}
+use Rattle.venue_nodes.specs.declared.limits.Crowding.{Crowding}
+use Rattle.venue_nodes.specs.declared.limits.Crowding.TheVariants.{Members, Squares}
+use Rattle.venue_nodes.specs.declared.rules.LimitRule.{LimitRule}
+use Rattle.venue_nodes.specs.declared.rules.LimitRule.TheVariants.{S5, S6}
+use Rattle.venue_nodes.specs.declared.members.Rows.{Rows}
+use Rattle.venue_nodes.specs.Nodes.{walkable_units}
+use Rattle.venue_nodes.specs.Members.{members, places_where}
+use Rattle.venue_nodes.specs.Limits.{IsCrowded, LimitBreaks, BreaksLimit, member_count, square_sum, limit_rule_number}
+use Rattle.venue_nodes.specs.Crowds.{Crowds, NoneCrowded, IsFirstFull, IsRoomy, limit_finding, square_of}
+use Rattle.venue_nodes.specs.Rows.{AreRowsOf, row_list, unit_indexes}
+use Rattle.venue_nodes.proofs.Items.{member_at, at_member, at_map, from_map}
+use Rattle.venue_nodes.proofs.Places.{places_rise, kept_at, number_of, lesser_number}
+
+abbrev walks : UnitRow → Bool
+walks row = is_walkable row.category
+
+-- ---- rows that have room
+
+pub roomy_at : (rows : List (List ℕ)) (w : ℕ) (row : List ℕ) → All IsRoomy rows → slice_get rows w ≡ Some row → length row ≤ 4096
+roomy_at rows w row all at = All-contains IsRoomy rows row all (member_at rows w row at)
+
+pub square_few : (n : ℕ) → n ≤ 4096 → n * n ≤ 16777216
+square_few n few = mul-le-mul few few
+
+-- one row more in the sum
+pub sum_on : (rows : List (List ℕ)) (w sum : ℕ) (row : List ℕ) → slice_get rows w ≡ Some row → sum ≡ sum_by square_of (take w rows) → sum + length row * length row ≡ sum_by square_of (take (w + 1) rows)
+sum_on rows w sum row at before =
+    let here : get_or rows w row ≡ row = get_or_from_slice_get rows w row row at in
+    let more : sum_by square_of (take (w + 1) rows) ≡ sum_by square_of (take w rows) + square_of (get_or rows w row) = sum_by_more square_of rows w row (slice_get_within rows w row at) in
+    ap (λ (n : ℕ). n + length row * length row) before ∙ ap (λ (r : List ℕ). sum_by square_of (take w rows) + square_of r) (sym here) ∙ sym more
+
+pub not_above : (n : ℕ) → (20000000 < n → IsTrue false) → n ≤ 20000000
+not_above n denied = elim (cases_lt 20000000 n) [
+  | inl over ↦ absurd (let e : false ≡ true = denied over in cc)
+  | inr under ↦ under
+]
+
+-- ---- the squares
+
+sum_mapped : {A B : Type 0} (f : A → B) (g : B → ℕ) (xs : List A) → sum_by g (map f xs) ≡ sum_by (λ x. g (f x)) xs
+sum_mapped f g [] = refl
+sum_mapped f g (x ∷ xs) =
+    sum_by-cons g (f x) (map f xs) ∙ ap (λ (n : ℕ). g (f x) + n) (sum_mapped f g xs) ∙ sym (sum_by-cons (λ y. g (f y)) x xs)
+
+pub squares_are : (features : Features) (border_tol : ℕ) (rows : Rows) → AreRowsOf features border_tol rows → sum_by square_of (row_list rows) ≡ square_sum features border_tol
+squares_are features border_tol rows are = ap (sum_by square_of) are.members_are ∙ sum_mapped (members features border_tol) square_of (walkable_units features)
+
+-- ---- the first crowded unit
+
+-- a crowded unit has a row that is too long
+crowded_row : (features : Features) (border_tol : ℕ) (rows : Rows) (k : ℕ) → AreRowsOf features border_tol rows → IsCrowded features border_tol k
+    → (w : ℕ) × (row : List ℕ) × (slice_get (row_list rows) w ≡ Some row) × (4096 < length row) × (slice_get (unit_indexes rows) w ≡ Some k)
+crowded_row features border_tol rows k are crowd =
+    let number = number_of walks 0 features.units k crowd.unit crowd.there crowd.walkable in
+    let is : 0 + k ≡ k = omega arith in
+    let row = members features border_tol crowd.unit in
+    let at : slice_get (map (members features border_tol) (walkable_units features)) number.w ≡ Some row = at_map (members features border_tol) (walkable_units features) number.w crowd.unit number.is_kept in
+    (number.w, row, subst (λ (rs : List (List ℕ)). slice_get rs number.w ≡ Some row) (sym are.members_are) at, crowd.many,
+     subst (λ (ps : List ℕ). slice_get ps number.w ≡ Some k) (sym are.units_are) (number.placed ∙ ap (λ (m : ℕ). Some m) is))
+
+pub none_crowded : (features : Features) (border_tol : ℕ) (rows : Rows) → AreRowsOf features border_tol rows → All IsRoomy (row_list rows) → NoneCrowded features border_tol
+none_crowded features border_tol rows are all k crowd =
+    let r = crowded_row features border_tol rows k are crowd in
+    let few : length r.1 ≤ 4096 = roomy_at (row_list rows) r.0 r.1 all r.2 in
+    let many : 4096 < length r.1 = r.3 in
+    omega arith
+
+pub first_crowded : (features : Features) (border_tol : ℕ) (rows : Rows) (w k : ℕ) → AreRowsOf features border_tol rows → IsFirstFull (row_list rows) w → slice_get (unit_indexes rows) w ≡ Some k
+    → LimitBreaks S5 features border_tol k
+first_crowded features border_tol rows w k are first at =
+    let from = from_map (members features border_tol) (walkable_units features) w first.row (subst (λ (rs : List (List ℕ)). slice_get rs w ≡ Some first.row) are.members_are first.there) in
+    let kept = kept_at walks 0 features.units w from.0 from.1 in
+    let place : slice_get (places_where walks 0 features.units) w ≡ Some k = subst (λ (ps : List ℕ). slice_get ps w ≡ Some k) are.units_are at in
+    let same : 0 + kept.k ≡ k = same_Some (0 + kept.k) k (sym kept.placed ∙ place) in
+    let is : kept.k ≡ k = omega arith in
+    let full : 4096 < length first.row = first.full in
+    (record {
+       unit = from.0;
+       there = subst (λ (m : ℕ). slice_get features.units m ≡ Some from.0) is kept.there;
+       walkable = kept.passes;
+       many = subst (λ (row : List ℕ). 4096 < length row) (sym from.2) full;
+     },
+     λ j under crowd.
+         let r = crowded_row features border_tol rows j are crowd in
+         let there : slice_get (places_where walks 0 features.units) r.0 ≡ Some j = subst (λ (ps : List ℕ). slice_get ps r.0 ≡ Some j) are.units_are r.4 in
+         let before : r.0 < w = lesser_number (places_where walks 0 features.units) r.0 w j k (places_rise walks 0 features.units) there place under in
+         let few : length r.1 ≤ 4096 = first.before r.0 r.1 before r.2 in
+         let many : 4096 < length r.1 = r.3 in
+         omega arith)
+
+-- ---- the report
+
+no_rule_before_S5 : (before : LimitRule) → limit_rule_number before < limit_rule_number S5 → ⊥
+no_rule_before_S5 S5 under = omega arith
+no_rule_before_S5 S6 under = omega arith
+
+only_S5_before_S6 : (features : Features) (border_tol : ℕ) → NoneCrowded features border_tol → (before : LimitRule) (k : ℕ) → limit_rule_number before < limit_rule_number S6 → ¬ LimitBreaks before features border_tol k
+only_S5_before_S6 features border_tol none S5 k under breaks = none k breaks.0
+only_S5_before_S6 features border_tol none S6 k under breaks = omega arith
+
+same_finding : (x y : Finding) → x.rule ≡ y.rule → x.file ≡ y.file → x.index ≡ y.index → x.member ≡ y.member → x ≡ y
+same_finding x y rule file index member =
+    let made : ℕ → ℕ → ℕ → ℕ → Finding = λ r f i m. record { rule = r; file = f; index = i; member = m } in
+    ap (λ (r : ℕ). made r x.file x.index x.member) rule ∙ ap (λ (f : ℕ). made y.rule f x.index x.member) file ∙ ap (λ (i : ℕ). made y.rule y.file i x.member) index ∙ ap (λ (m : ℕ). made y.rule y.file y.index m) member
+
+only_one : {X : Type 0} (x y : X) → Contains (x ∷ []) y → x ≡ y
+only_one x y h = let at = at_member (x ∷ []) y h in one_at x y at.0 at.1
+  where
+    one_at : {X : Type 0} (x y : X) (k : ℕ) → slice_get (x ∷ []) k ≡ Some y → x ≡ y
+    one_at x y zero e = same_Some x y e
+    one_at x y (suc k) e = absurd (cc)
+
+breaks_members : (features : Features) (border_tol k : ℕ) → LimitBreaks S5 features border_tol k → BreaksLimit features border_tol (limit_finding (Members k))
+breaks_members features border_tol k crowd = record {
+  rule = S5; number = refl; breaks = crowd; first = λ before j under. absurd (no_rule_before_S5 before under); in_file = refl; at_member = refl }
+
+breaks_squares : (features : Features) (border_tol : ℕ) → NoneCrowded features border_tol → 20000000 < square_sum features border_tol → BreaksLimit features border_tol (limit_finding Squares)
+breaks_squares features border_tol none many = record {
+  rule = S6; number = refl; breaks = (many, refl); first = only_S5_before_S6 features border_tol none; in_file = refl; at_member = refl }
+
+one_first : (features : Features) (border_tol k j : ℕ) → LimitBreaks S5 features border_tol k → LimitBreaks S5 features border_tol j → j ≡ k
+one_first features border_tol k j here there = elim (cases_lt k j) [
+  | inl before ↦ absurd (there.1 k before here.0)
+  | inr behind ↦ elim (cases_lt j k) [
+      | inl under ↦ absurd (here.1 j under there.0)
+      | inr over ↦ omega arith
+    ]
+]
+
+told_members : (features : Features) (border_tol k : ℕ) (x : Finding) → LimitBreaks S5 features border_tol k → (rule : LimitRule) → x.rule ≡ limit_rule_number rule → LimitBreaks rule features border_tol x.index
+    → ((before : LimitRule) (j : ℕ) → limit_rule_number before < limit_rule_number rule → ¬ LimitBreaks before features border_tol j) → x.file ≡ file_number file.Unit → x.member ≡ 0 → x ≡ limit_finding (Members k)
+told_members features border_tol k x crowd S5 number breaks first in_file at_member = same_finding x (limit_finding (Members k)) number in_file (one_first features border_tol k x.index crowd breaks) at_member
+told_members features border_tol k x crowd S6 number breaks first in_file at_member = absurd (first S5 k (omega arith) crowd)
+
+told_squares : (features : Features) (border_tol : ℕ) (x : Finding) → NoneCrowded features border_tol → (rule : LimitRule) → x.rule ≡ limit_rule_number rule → LimitBreaks rule features border_tol x.index
+    → x.file ≡ file_number file.Unit → x.member ≡ 0 → x ≡ limit_finding Squares
+told_squares features border_tol x none S5 number breaks in_file at_member = absurd (none x.index breaks.0)
+told_squares features border_tol x none S6 number breaks in_file at_member = same_finding x (limit_finding Squares) number in_file breaks.1 at_member
+
+told_nothing : (features : Features) (border_tol : ℕ) (x : Finding) → NoneCrowded features border_tol → square_sum features border_tol ≤ 20000000 → (rule : LimitRule) → LimitBreaks rule features border_tol x.index → ⊥
+told_nothing features border_tol x none few S5 breaks = none x.index breaks.0
+told_nothing features border_tol x none few S6 breaks = let many : 20000000 < square_sum features border_tol = breaks.0 in omega arith
+
+listed_one : {P : Finding → Type 0} (x : Finding) → P x → ((y : Finding) → P y → y ≡ x) → IsReport P (x ∷ [])
+unfolding IsStrictlySortedBy
+listed_one {P} x holds alone = record {
+  rises = (tt, tt);
+  only = λ y h. subst P (only_one x y h) holds;
+  whole = λ y p. member_at (x ∷ []) 0 y (ap (λ (z : Finding). Some z) (sym (alone y p)));
+}
+
+listed_none : {P : Finding → Type 0} → ((y : Finding) → ¬ P y) → IsReport P []
+unfolding IsStrictlySortedBy
+listed_none none = record {
+  rises = tt;
+  only = λ y h. absurd (omega (arith, h.1));
+  whole = λ y p. absurd (none y p);
+}
+
+pub report : (features : Features) (border_tol : ℕ) (limit : Option Crowding) → Crowds features border_tol limit → IsReport (BreaksLimit features border_tol) (option_to_list (option_map limit_finding limit))
+report features border_tol None crowds = listed_none (λ y b. told_nothing features border_tol y crowds.0 crowds.1 b.rule b.breaks)
+report features border_tol (Some (Members k)) crowds = listed_one (limit_finding (Members k)) (breaks_members features border_tol k crowds) (λ y b. told_members features border_tol k y crowds b.rule b.number b.breaks b.first b.in_file b.at_member)
+report features border_tol (Some Squares) crowds = listed_one (limit_finding Squares) (breaks_squares features border_tol crowds.0 crowds.1) (λ y b. told_squares features border_tol y crowds.0 b.rule b.number b.breaks b.in_file b.at_member)

@@ -1,0 +1,40 @@
+-- Which limit the rows pass first.
+use Rattle.std.specs.Prelude.{◌≡◌, ℕ, ◌*◌, ◌≤◌, ◌<◌, List, length, slice_get, Option, Some, None}
+use Rattle.venue_types.specs.declared.features.Features.{Features}
+use Rattle.venue_nodes.specs.declared.limits.Crowding.{Crowding}
+use Rattle.venue_nodes.specs.declared.limits.Crowding.TheVariants.{Members, Squares}
+use Rattle.venue_types.specs.declared.finding.Finding.{Finding}
+use Rattle.imdf_schema.specs.declared.files.File.TheVariants as file
+use Rattle.imdf_schema.specs.Files.{file_number}
+use Rattle.venue_nodes.specs.declared.rules.LimitRule.TheVariants.{S5, S6}
+use Rattle.venue_nodes.specs.Limits.{IsCrowded, square_sum, limit_rule_number}
+
+-- no unit is crowded
+abbrev pub NoneCrowded : Features → ℕ → Type 0
+NoneCrowded features border_tol = (k : ℕ) → ¬ IsCrowded features border_tol k
+
+-- the unit of this index is the first that is crowded; or none is, and the squares pass their limit, or do not
+abbrev pub Crowds : Features → ℕ → Option Crowding → Type 0
+Crowds features border_tol (Some (Members k)) = IsCrowded features border_tol k × ((j : ℕ) → j < k → ¬ IsCrowded features border_tol j)
+Crowds features border_tol (Some Squares) = NoneCrowded features border_tol × (20000000 < square_sum features border_tol)
+Crowds features border_tol None = NoneCrowded features border_tol × (square_sum features border_tol ≤ 20000000)
+
+-- what is told of a limit that is passed: the unit that is crowded, or of the squares the first unit
+abbrev pub limit_finding : Crowding → Finding
+limit_finding (Members k) = record { rule = limit_rule_number S5; file = file_number file.Unit; index = k; member = 0 }
+limit_finding Squares = record { rule = limit_rule_number S6; file = file_number file.Unit; index = 0; member = 0 }
+
+-- the row has room: it is no longer than its limit
+abbrev pub IsRoomy : List ℕ → Type 0
+IsRoomy row = length row ≤ 4096
+
+-- the row of this number is there and too long, and each before it has room
+pub record IsFirstFull (rows : List (List ℕ)) (w : ℕ) : Type 0 where
+  pub row : List ℕ
+  pub there : slice_get rows w ≡ Some row
+  pub full : 4096 < length row
+  pub before : (v : ℕ) (other : List ℕ) → v < w → slice_get rows v ≡ Some other → IsRoomy other
+
+-- the square of the number of members in a row
+abbrev pub square_of : List ℕ → ℕ
+square_of row = length row * length row

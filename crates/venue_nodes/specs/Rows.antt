@@ -1,0 +1,21 @@
+-- The rows of members of a folder's walkable units.
+use Rattle.std.specs.Prelude.{◌≡◌, ℕ, List, map}
+use Rattle.venue_types.specs.declared.features.Features.{Features}
+use Rattle.venue_types.specs.declared.features.UnitRow.{UnitRow}
+use Rattle.imdf_access.specs.Categories.{is_walkable}
+use Rattle.venue_nodes.specs.declared.members.Rows.{Rows}
+use Rattle.venue_nodes.specs.Nodes.{walkable_units}
+use Rattle.venue_nodes.specs.Members.{members, places_where}
+
+-- the rows, each a list of numbers of nodes
+unfoldable pub row_list : Rows → List (List ℕ)
+row_list rows = rows.members
+
+-- for each row its unit's index
+unfoldable pub unit_indexes : Rows → List ℕ
+unit_indexes rows = rows.units.items
+
+-- one row of members for each walkable unit in file order, and that unit's index
+pub record AreRowsOf (features : Features) (border_tol : ℕ) (rows : Rows) : Type 0 where
+  pub members_are : row_list rows ≡ map (members features border_tol) (walkable_units features)
+  pub units_are : unit_indexes rows ≡ places_where (λ (row : UnitRow). is_walkable row.category) 0 features.units
