@@ -1,0 +1,2 @@
+//! The folders that are served: the seventeen files of each, by the folder's name below a base.
+#![tactic(auto)]
