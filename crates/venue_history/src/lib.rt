@@ -3,5 +3,7 @@
 #![tactic(auto)]
 
 mod entry;
+mod laws;
 
 pub use entry::{Act, Entry};
+pub use laws::{beginning_law, entry_law, number_law};
