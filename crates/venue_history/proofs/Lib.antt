@@ -1,5 +1,6 @@
 pub mod Beginnings
 pub mod Identities
-pub mod Sorting
 pub mod Settled
 pub mod Standing
+pub mod Once
+pub mod Sorting

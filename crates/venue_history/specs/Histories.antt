@@ -40,6 +40,12 @@ IsLegalFrom (Published venue) es = AreValid (arc_value venue).features (arc_valu
 IsLegalFrom (Closed id) es = ⊥
 IsLegalFrom (Reopened id) es = ⊥
 
+-- the act publishes this venue
+abbrev pub IsPublished : Venue → Act → Type 0
+IsPublished venue (Published it) = arc_value it ≡ venue
+IsPublished venue (Closed id) = ⊥
+IsPublished venue (Reopened id) = ⊥
+
 -- worker 0 publishes first, and each further entry may be made at the version after those before it
 abbrev pub KeepsTheRules : List Entry → Type 0
 KeepsTheRules [] = ⊥
