@@ -1,6 +1,7 @@
 -- Histories that are cut and lengthened.
 use Rattle.std.proofs.Common.{◌≡◌, ◌≢◌, ◌∙◌, ℕ, ◌+◌, List, [], ◌∷◌, ◌++◌, length, refl, sym, ap, arith, subst, Option, Some, None}
-use Rattle.std.proofs.Math.Logic.{∥∥₁_map}
+use Rattle.std.proofs.Math.Logic.{∥∥₁_map, ∥∥₁_elim}
+use mathlib.Core.HLevel.{⊥_prop}
 use mathlib.Core.List.{IsPrefix}
 use Rattle.venue_history.specs.declared.entry.Entry.{Entry}
 use Rattle.venue_history.specs.declared.entry.Act.{Act}
@@ -87,3 +88,14 @@ act_leads (Reopened id) es l = absurd l
 rules_lead : (h : List Entry) → KeepsTheRules h → (v : Version) × (replay h ≡ Some v)
 rules_lead [] k = absurd k
 rules_lead (e ∷ es) k = act_leads e.act es k.1
+
+no_rules : (h : List Entry) → replay h ≡ None → KeepsTheRules h → ⊥
+no_rules h none k = let led = rules_lead h k in absurd (cc (none, led.1))
+
+led : (h : List Entry) (o : Option Version) → replay h ≡ o → IsLegal h → (v : Version) × Replays h v
+led h None e legal = absurd (∥∥₁_elim legal ⊥_prop (no_rules h e))
+led h (Some v) e legal = (v, record { leads = e; legal = legal })
+
+-- a legal history leads to a version
+pub legal_leads : (h : List Entry) → IsLegal h → (v : Version) × Replays h v
+legal_leads h legal = led h (replay h) refl legal

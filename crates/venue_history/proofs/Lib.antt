@@ -4,3 +4,4 @@ pub mod Settled
 pub mod Standing
 pub mod Once
 pub mod Sorting
+pub mod Changing

@@ -33,9 +33,9 @@ unfolding closables before
 placed features n id e =
     elim (split_get (ids_of file.Opening features ++ ids_of file.Relationship features) (ids_of file.Unit features) n id e) [
       | inl front ↦ elim (split_get (ids_of file.Opening features) (ids_of file.Relationship features) n id front) [
-          | inl first ↦ record { source = file.Opening; place = n; is = first; at = omega arith }
-          | inr second ↦ record { source = file.Relationship; place = second.0; is = second.1; at = second.2 }
-        ]
+        | inl first ↦ record { source = file.Opening; place = n; is = first; at = omega arith }
+        | inr second ↦ record { source = file.Relationship; place = second.0; is = second.1; at = second.2 }
+      ]
       | inr third ↦ record { source = file.Unit; place = third.0; is = third.1; at = omega (arith, third.2, length-append (ids_of file.Opening features) (ids_of file.Relationship features)) }
     ]
 

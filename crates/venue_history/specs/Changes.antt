@@ -42,9 +42,13 @@ pub record Breaks (shelf : Option Shelf) (v : Version) (folder : List ℕ) (repo
 abbrev pub StandsSo : Version → FeatureId → Bool → Type 0
 StandsSo v feature closed = Contains (closables v.features) feature × (is_closed v feature ≡ closed)
 
+-- the feature can be closed, and stands otherwise
+abbrev pub StandsOtherwise : Version → FeatureId → Bool → Type 0
+StandsOtherwise v feature closed = Contains (closables v.features) feature × (is_closed v feature ≢ closed)
+
 -- the change would add an entry, if it didn't come late: the feature can be closed and stands otherwise, or the files make a venue
 abbrev pub IsDue : Option Shelf → Version → Change → Type 0
-IsDue shelf v (change.Closure feature closed) = Contains (closables v.features) feature × (is_closed v feature ≢ closed)
+IsDue shelf v (change.Closure feature closed) = StandsOtherwise v feature closed
 IsDue shelf v (change.Publish folder) = (venue : Venue) × Makes shelf v folder venue
 
 -- a change that is due comes late: the version is the last one, and the reply tells its number
@@ -63,8 +67,8 @@ Refuses shelf v asked r = IsDue shelf v asked × IsLate v r
 
 -- the act to which the change comes at the version
 abbrev pub IsActOf : Option Shelf → Version → Change → Act → Type 0
-IsActOf shelf v (change.Closure feature closed) (act.Closed id) = (closed ≡ true) × (id ≡ feature) × (is_closed v feature ≡ false)
-IsActOf shelf v (change.Closure feature closed) (act.Reopened id) = (closed ≡ false) × (id ≡ feature) × (is_closed v feature ≡ true)
+IsActOf shelf v (change.Closure feature closed) (act.Closed id) = (closed ≡ true) × (id ≡ feature) × StandsOtherwise v feature closed
+IsActOf shelf v (change.Closure feature closed) (act.Reopened id) = (closed ≡ false) × (id ≡ feature) × StandsOtherwise v feature closed
 IsActOf shelf v (change.Publish folder) (act.Published venue) = Makes shelf v folder (arc_value venue)
 IsActOf shelf v _ _ = ⊥
 

@@ -6,4 +6,6 @@ mod entry;
 mod laws;
 
 pub use entry::{Act, Entry};
-pub use laws::{beginning_law, entry_law, number_law};
+pub use laws::{
+    answer_law, beginning_law, change_law, entry_law, legal_law, number_law, version_law,
+};
