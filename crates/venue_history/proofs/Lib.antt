@@ -5,3 +5,4 @@ pub mod Standing
 pub mod Once
 pub mod Sorting
 pub mod Changing
+pub mod Deciding

@@ -1,6 +1,6 @@
 //! What holds of every history, of every answer and of every change.
 
-ghost use Rattle.std.specs.Prelude.{◌≡◌, ◌≢◌, ℕ, ◌+◌, List, [], ◌∷◌, ◌++◌, length, filter, All, AllPairs, Contains, Option};
+ghost use Rattle.std.specs.Prelude.{◌≡◌, ◌≢◌, ℕ, ◌+◌, List, [], ◌∷◌, ◌++◌, length, filter, All, AllPairs, Contains, Option, Some};
 ghost use mathlib.Core.List.{IsPrefix};
 ghost use Rattle.venue_types.specs.declared.query.Change.{Change as AChange};
 ghost use Rattle.venue_types.specs.declared.query.Query.{Query as AQuery};
@@ -15,10 +15,11 @@ ghost use Rattle.venue_history.specs.Closed.{Version, is_closed, closed_ids};
 ghost use Rattle.venue_history.specs.Versions.{MayFollow, after};
 ghost use Rattle.venue_history.specs.Histories.{IsPublished, IsLegal, Replays};
 ghost use Rattle.venue_history.specs.Answers.{Answers};
-ghost use Rattle.venue_history.specs.Replies.{told, kind_of};
+ghost use Rattle.venue_history.specs.Replies.{told, kind_of, IsOutsideFault};
 ghost use Rattle.venue_history.specs.Changes.{Changes};
 
 use imdf_refs::own_ids_law;
+use venue_build::one_outcome;
 
 /// The number of a version is the length of the history that leads to it.
 pub fn number_law()
@@ -65,3 +66,13 @@ pub fn change_law()
     ensures grows { (shelf : Option Shelf) (worker : ℕ) (asked : AChange) (h k : List AnEntry) (r : AReply) → Changes shelf worker asked h r k → IsPrefix h k }
     ensures legal { (shelf : Option Shelf) (worker : ℕ) (asked : AChange) (h k : List AnEntry) (r : AReply) → Changes shelf worker asked h r k → IsLegal h → IsLegal k }
 {}
+
+/// To one change at one history belongs one kind of reply where the shelf is told, but for want of memory and faults of the
+/// outside: also whether it tells an accepted change.
+pub fn refusal_law()
+    ensures { (shelf : Shelf) (worker : ℕ) (asked : AChange) (h k l : List AnEntry) (r s : AReply)
+        → r ≢ reply.OutOfMemory → s ≢ reply.OutOfMemory → ¬ IsOutsideFault r → ¬ IsOutsideFault s
+        → Changes (Some shelf) worker asked h r k → Changes (Some shelf) worker asked h s l → (kind_of r ≡ kind_of s) × (told r ≡ told s) }
+{
+    one_outcome();
+}
