@@ -105,8 +105,8 @@ publish_at shelf worker folder h k r some inside is = record { version = is.vers
 one_version : (h : List Entry) (u v : Version) → Replays h u → Replays h v → u ≡ v
 one_version h u v r s = some_eq u v (sym r.leads ∙ s.leads)
   where
-  some_eq : (u v : Version) → Some u ≡ Some v → u ≡ v
-  some_eq u v e = cc e
+    some_eq : (u v : Version) → Some u ≡ Some v → u ≡ v
+    some_eq u v e = cc e
 
 -- the same kind, and both tell an accepted change or neither does
 Same : ReplyKind → ReplyKind → ℕ → ℕ → Type 0

@@ -6,3 +6,4 @@ pub mod Once
 pub mod Sorting
 pub mod Changing
 pub mod Deciding
+pub mod Acting

@@ -1,6 +1,9 @@
 -- The settings and the rows of every version to which a history leads.
-use Rattle.std.proofs.Common.{◌≡◌, ◌∙◌, ℕ, List, [], ◌∷◌, refl, sym, ap, subst, Option, Some, None}
+use Rattle.std.proofs.Common.{◌≡◌, ◌∙◌, ℕ, List, [], ◌∷◌, refl, sym, ap, subst, arith, Option, Some, None}
 use Rattle.std.proofs.Math.Logic.{∥∥₁_map, ∥∥₁_elim}
+use Rattle.std.proofs.Props.{props}
+use Rattle.std.proofs.lemmas.List.Elements.{All-cons, All-contains}
+use Rattle.std.specs.Prelude.{All, Contains}
 use Rattle.std.specs.Arc.{arc_value}
 use Rattle.venue_build.specs.declared.venue.Venue.{Venue}
 use Rattle.venue_build.specs.Report.{AreValid}
@@ -49,3 +52,38 @@ act_valid (Reopened id) es v r l = absurd l
 pub replay_valid : (h : List Entry) (v : Version) → Replays h v → ∥ AreValid v.features v.settings ∥₁
 replay_valid [] v r = absurd (cc r.leads)
 replay_valid (e ∷ es) v r = ∥∥₁_map r.legal (λ (k : KeepsTheRules (e ∷ es)). act_valid e.act es v r.leads k.1)
+
+-- the act is a publication under these settings
+IsUnder : Settings → Entry → Type 0
+IsUnder settings e = (venue : Venue) → IsPublished venue e.act → venue.settings ≡ settings
+
+fit_settings : (v : Version) (a : Act) (venue : Venue) → Fits v a → IsPublished venue a → venue.settings ≡ v.settings
+fit_settings v (Published it) venue fits is = ap (λ (w : Venue). w.settings) (sym is) ∙ fits.0
+fit_settings v (Closed id) venue fits is = absurd is
+fit_settings v (Reopened id) venue fits is = absurd is
+
+all_under : (v : Version) (es : List Entry) → MayAllFollow v es → All (IsUnder v.settings) es
+unfolding IsUnder
+all_under v [] l = λ k d below. absurd (omega arith)
+all_under v (e ∷ es) l =
+    All-cons (IsUnder v.settings) e es (λ venue is. fit_settings v e.act venue l.0.fits is)
+    (subst (λ (s : Settings). All (IsUnder s) es) (after_settings v e.act) (all_under (after v e.act) es l.1))
+
+act_under : (a : Act) (e : Entry) (es : List Entry) (v : Version) → e.act ≡ a → replay_from a es ≡ Some v → IsLegalFrom a es → All (IsUnder v.settings) (e ∷ es)
+unfolding IsUnder
+act_under (Published first) e es v same r l =
+    let end = ap (λ (w : Version). w.settings) (some_eq (after_all (opening_of (arc_value first)) es) v r) in
+    let settings : (arc_value first).settings ≡ v.settings = sym (all_settings (opening_of (arc_value first)) es) ∙ end in
+    All-cons (IsUnder v.settings) e es
+    (λ venue is. ap (λ (w : Venue). w.settings) (sym (subst (IsPublished venue) same is)) ∙ settings)
+    (subst (λ (s : Settings). All (IsUnder s) es) settings (all_under (opening_of (arc_value first)) es l.1))
+act_under (Closed id) e es v same r l = absurd l
+act_under (Reopened id) e es v same r l = absurd l
+
+-- every venue that the history publishes has the settings
+pub replay_under : (h : List Entry) (v : Version) (e : Entry) (venue : Venue) → Replays h v → Contains h e → IsPublished venue e.act → venue.settings ≡ v.settings
+unfolding IsUnder
+replay_under [] v e venue r has is = absurd (cc r.leads)
+replay_under (d ∷ es) v e venue r has is =
+    ∥∥₁_elim r.legal (hlevel props)
+    (λ (k : KeepsTheRules (d ∷ es)). All-contains (IsUnder v.settings) (d ∷ es) e (act_under d.act d es v refl r.leads k.1) has venue is)

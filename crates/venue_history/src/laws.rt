@@ -1,7 +1,11 @@
 //! What holds of every history, of every answer and of every change.
 
-ghost use Rattle.std.specs.Prelude.{◌≡◌, ◌≢◌, ℕ, ◌+◌, List, [], ◌∷◌, ◌++◌, length, filter, All, AllPairs, Contains, Option, Some};
+ghost use Rattle.std.specs.Prelude.{◌≡◌, ◌≢◌, ℕ, ◌+◌, List, [], ◌∷◌, ◌++◌, length, filter, All, AllPairs, Contains, Option, Some, IsTrue, ◌↔◌, ◌⊎◌};
 ghost use mathlib.Core.List.{IsPrefix};
+ghost use Rattle.std.specs.Arc.{arc_value};
+ghost use Rattle.std.specs.declared.sync.Arc.{Arc};
+ghost use Rattle.std.specs.declared.alloc.Global.{Global};
+ghost use Rattle.venue_types.specs.declared.feature_id.FeatureId.{FeatureId};
 ghost use Rattle.venue_types.specs.declared.query.Change.{Change as AChange};
 ghost use Rattle.venue_types.specs.declared.query.Query.{Query as AQuery};
 ghost use Rattle.venue_types.specs.declared.reply.Reply.{Reply as AReply};
@@ -11,8 +15,9 @@ ghost use Rattle.venue_build.specs.declared.venue.Venue.{Venue as AVenue};
 ghost use Rattle.venue_build.specs.Report.{AreValid};
 ghost use Rattle.venue_folder.specs.Shelves.{Shelf};
 ghost use Rattle.venue_history.specs.declared.entry.Entry.{Entry as AnEntry};
+ghost use Rattle.venue_history.specs.declared.entry.Act.TheVariants.{Published, Closed, Reopened};
 ghost use Rattle.venue_history.specs.Closed.{Version, is_closed, closed_ids};
-ghost use Rattle.venue_history.specs.Versions.{MayFollow, after};
+ghost use Rattle.venue_history.specs.Versions.{Fits, MayFollow, after};
 ghost use Rattle.venue_history.specs.Histories.{IsPublished, IsLegal, Replays};
 ghost use Rattle.venue_history.specs.Answers.{Answers};
 ghost use Rattle.venue_history.specs.Replies.{told, kind_of, IsOutsideFault};
@@ -46,6 +51,7 @@ pub fn entry_law()
 /// can be closed.
 pub fn version_law()
     ensures settings { (e : AnEntry) (es : List AnEntry) (venue : AVenue) (v : Version) → Replays (e ∷ es) v → IsPublished venue e.act → v.settings ≡ venue.settings }
+    ensures all_settings { (h : List AnEntry) (v : Version) (e : AnEntry) (venue : AVenue) → Replays h v → Contains h e → IsPublished venue e.act → venue.settings ≡ v.settings }
     ensures valid { (h : List AnEntry) (v : Version) → Replays h v → ∥ AreValid v.features v.settings ∥₁ }
     ensures closable { (h : List AnEntry) (v : Version) → Replays h v → All (Contains (closables v.features)) (closed_ids v) }
     ensures once { (h : List AnEntry) (v : Version) → Replays h v → AllPairs (λ a b. a ≢ b) (closed_ids v) }
@@ -53,6 +59,16 @@ pub fn version_law()
 {
     own_ids_law();
 }
+
+/// What each act does to what is closed: a publication keeps of it what can be closed still, a closure adds one feature, and a
+/// reopening takes one away.
+pub fn act_law()
+    ensures published { (v : Version) (venue : Arc AVenue Global) (id : FeatureId)
+        → IsTrue (is_closed (after v (Published venue)) id) ↔ (IsTrue (is_closed v id) × Contains (closables (arc_value venue).features) id) }
+    ensures closed { (h : List AnEntry) (v : Version) (id other : FeatureId) → Replays h v → Fits v (Closed id)
+        → IsTrue (is_closed (after v (Closed id)) other) ↔ (IsTrue (is_closed v other) ⊎ (other ≡ id)) }
+    ensures reopened { (v : Version) (id other : FeatureId) → IsTrue (is_closed (after v (Reopened id)) other) ↔ (IsTrue (is_closed v other) × (other ≢ id)) }
+{}
 
 /// To one question at one version belongs one kind of reply, but for want of memory.
 pub fn answer_law()

@@ -7,6 +7,6 @@ mod laws;
 
 pub use entry::{Act, Entry};
 pub use laws::{
-    answer_law, beginning_law, change_law, entry_law, legal_law, number_law, refusal_law,
+    act_law, answer_law, beginning_law, change_law, entry_law, legal_law, number_law, refusal_law,
     version_law,
 };

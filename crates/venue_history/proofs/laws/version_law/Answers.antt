@@ -4,7 +4,7 @@ use Rattle.std.proofs.Math.Logic.{∥∥₁_elim}
 use Rattle.std.specs.Prelude.{AllPairs}
 use Rattle.venue_build.specs.Report.{AreValid}
 use Rattle.venue_history.proofs.Once.{closables_once}
-use Rattle.venue_history.proofs.Settled.{replay_settings, replay_valid}
+use Rattle.venue_history.proofs.Settled.{replay_settings, replay_under, replay_valid}
 use Rattle.venue_history.proofs.Standing.{closed_closable, closed_once, closed_in_order}
 use Rattle.venue_history.specs.Closed.{closed_ids}
 use Rattle.venue_history.proofs.laws.version_law.Goals as goal
@@ -26,3 +26,6 @@ returns-clause-once c h v r =
 
 pub returns-clause-in_order : goal.returns-clause-in_order
 returns-clause-in_order c = closed_in_order
+
+pub returns-clause-all_settings : goal.returns-clause-all_settings
+returns-clause-all_settings c = replay_under
