@@ -22,7 +22,7 @@ abbrev pub all_files : List File
 all_files = file.Manifest ∷ feature_files
 
 -- the file of the folder at a path
-abbrev pub slot_at : List StoredFile → List ℕ → File → Slot
+unfoldable pub slot_at : List StoredFile → List ℕ → File → Slot
 slot_at stored path f = slot_of (file_at stored path (file_name f))
 
 -- the seventeen files of the folder at a path
