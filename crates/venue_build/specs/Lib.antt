@@ -1,3 +1,4 @@
 pub mod Phases
 pub mod Report
 pub mod Built
+pub mod Places

@@ -1,0 +1,87 @@
+//! The files of a folder.
+
+ghost use Rattle.std.specs.Prelude.{◌≡◌, IfOk, IfSome, map, length};
+ghost use Rattle.venue_ports.specs.Files.{HasReadCause};
+ghost use Rattle.venue_folder.specs.Shelves.{slot_at, folder_files};
+
+use imdf_schema::File;
+use std::alloc::Global;
+use venue_ports::{Folders, ReadFault};
+use venue_types::{Bytes, Files, List, Slot};
+
+const FILE_LIMIT: u64 = 33_554_432;
+
+// The files of a folder, in the order of their numbers.
+static ALL_FILES: [File; 17] = [
+    File::Manifest,
+    File::Address,
+    File::Amenity,
+    File::Anchor,
+    File::Building,
+    File::Detail,
+    File::Fixture,
+    File::Footprint,
+    File::Geofence,
+    File::Kiosk,
+    File::Level,
+    File::Occupant,
+    File::Opening,
+    File::Relationship,
+    File::Section,
+    File::Unit,
+    File::Venue,
+];
+
+// A file of a folder, cut one byte after its limit.
+fn slot_of<F: Folders>(
+    alloc: Global,
+    path: &str,
+    file: File,
+    folders: &mut F,
+) -> Result<Slot, ReadFault>
+    ensures told { IfOk result (λ slot. IfSome (F.files folders.old) (λ stored. slot ≡ slot_at stored path.now file)) }
+    ensures same { F.files folders.new ≡ F.files folders.old }
+    ensures cause { HasReadCause (F.faults folders.old) (F.faults folders.new) result }
+{
+    match folders.read(alloc, path, file.name(), FILE_LIMIT)? {
+        None => Ok(Slot::Absent),
+        Some(bytes) => Ok(Slot::Held(Bytes::from_vec(bytes))),
+    }
+}
+
+// These files of a folder.
+fn slots_of<F: Folders>(
+    alloc: Global,
+    path: &str,
+    files: &[File],
+    folders: &mut F,
+) -> Result<Vec<Slot>, ReadFault>
+    ensures told { IfOk result (λ slots. IfSome (F.files folders.old) (λ stored. slots.items ≡ map (slot_at stored path.now) files.now)) }
+    ensures count { IfOk result (λ slots. length slots.items ≡ length files.now) }
+    ensures same { F.files folders.new ≡ F.files folders.old }
+    ensures cause { HasReadCause (F.faults folders.old) (F.faults folders.new) result }
+{
+    let mut slots = Vec::new(alloc);
+    for file in files {
+        let slot = slot_of(alloc, path, *file, folders)?;
+        slots.push(slot)?;
+    }
+    Ok(slots)
+}
+
+/// The seventeen files of the folder at a path, as many bytes of each as show whether it is over its limit.
+pub fn files_of<F: Folders>(
+    alloc: Global,
+    path: &str,
+    folders: &mut F,
+) -> Result<Files, ReadFault>
+    ensures told { IfOk result (λ held. IfSome (F.files folders.old) (λ files. held ≡ folder_files files path.now)) }
+    ensures seventeen { IfOk result (λ held. length held.slots ≡ 17) }
+    ensures same { F.files folders.new ≡ F.files folders.old }
+    ensures cause { HasReadCause (F.faults folders.old) (F.faults folders.new) result }
+{
+    let slots = slots_of(alloc, path, &ALL_FILES, folders)?;
+    Ok(Files {
+        slots: List::from_vec(slots),
+    })
+}

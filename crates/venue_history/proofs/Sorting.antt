@@ -1,0 +1,142 @@
+-- To one question at one version belongs one kind of reply.
+use Rattle.std.proofs.Common.{◌≡◌, ◌≢◌, ◌∙◌, ℕ, ◌<◌, List, refl, sym, ap, subst, arith, ◌⊎◌, inl, inr, Option, Some, None, Bool, true, false}
+use Rattle.venue_types.specs.declared.feature_id.FeatureId.{FeatureId}
+use Rattle.venue_types.specs.declared.link.Link.{Link}
+use Rattle.venue_types.specs.declared.query.Ask.{Ask}
+use Rattle.venue_types.specs.declared.query.Ask.TheVariants as ask
+use Rattle.venue_types.specs.declared.query.Query.{Query}
+use Rattle.venue_types.specs.declared.reply.Reply.{Reply}
+use Rattle.venue_types.specs.declared.reply.Reply.TheVariants as reply
+use Rattle.venue_types.specs.declared.reply.Which.{Which}
+use Rattle.venue_types.specs.declared.reply.Which.TheVariants as which
+use Rattle.venue_types.specs.declared.settings.Profile.{Profile}
+use Rattle.walk_laws.specs.Walks.{IsWalk, HasNoWalk, IsLeast}
+use Rattle.venue_nodes.specs.Nodes.{place_of}
+use Rattle.link_graph.specs.Views.{link_view}
+use Rattle.venue_history.specs.Closed.{Version}
+use Rattle.venue_history.specs.Ways.{Usable, profile_of}
+use Rattle.venue_history.specs.Answers.{IsTooEarly, IsTrip, IsRoute, IsNoRoute, LacksProfile, HasProfile, IsNoPlace, IsPlace, AnswersAsk, Answers}
+use Rattle.venue_history.specs.Replies.{ReplyKind, kind_of}
+use Rattle.venue_history.specs.Replies as kind
+
+some_profile : (p q : Profile) → Some p ≡ Some q → p ≡ q
+some_profile p q e = cc e
+
+some_node : (m n : ℕ) → Some m ≡ Some n → m ≡ n
+some_node m n e = cc e
+
+-- where there is a walk of what may be used there isn't none
+not_both : (v : Version) (from to : FeatureId) (name : List ℕ) (p q : Profile) (a b a' b' cost : ℕ) (walk : List Link) → IsTrip v from to name p a b → IsTrip v from to name q a' b'
+    → IsLeast link_view (Usable v p) a b walk cost → HasNoWalk link_view (Usable v q) a' b' → ⊥
+not_both v from to name p q a b a' b' cost walk one other least none =
+    let profiles = some_profile q p (sym other.has_profile ∙ one.has_profile) in
+    let starts = some_node a' a (sym other.has_from ∙ one.has_from) in
+    let ends = some_node b' b (sym other.has_to ∙ one.has_to) in
+    let here = subst (λ (r : Profile). HasNoWalk link_view (Usable v r) a' b') profiles none in
+    let from_a = subst (λ (n : ℕ). HasNoWalk link_view (Usable v p) n b') starts here in
+    let to_b = subst (λ (n : ℕ). HasNoWalk link_view (Usable v p) a n) ends from_a in
+    to_b walk least.leads
+
+-- what the kind of a reply on a place says
+data PlaceCause (v : Version) (id : FeatureId) : ReplyKind → Type 0 where
+  nowhere : IsNoPlace v id → PlaceCause v id (kind.no_place which.Id)
+  somewhere : IsPlace v id → PlaceCause v id kind.place
+
+-- what the kind of a reply on a route says
+data RouteCause (v : Version) (from to : FeatureId) (name : List ℕ) : ReplyKind → Type 0 where
+  no_profile : LacksProfile v name → RouteCause v from to name kind.no_profile
+  no_start : HasProfile v name → IsNoPlace v from → RouteCause v from to name (kind.no_place which.From)
+  no_end : HasProfile v name → IsPlace v from → IsNoPlace v to → RouteCause v from to name (kind.no_place which.To)
+  walk : (p : Profile) (a b cost : ℕ) (w : List Link) → IsTrip v from to name p a b → IsLeast link_view (Usable v p) a b w cost → RouteCause v from to name kind.route
+  no_walk : (p : Profile) (a b : ℕ) → IsTrip v from to name p a b → HasNoWalk link_view (Usable v p) a b → RouteCause v from to name kind.no_route
+
+version_kind : (v : Version) (r : Reply) → AnswersAsk v ask.Version r → kind_of r ≡ kind.version
+version_kind v (reply.Version number closed count) is = refl
+version_kind v _ is = absurd is
+
+places_kind : (v : Version) (r : Reply) → AnswersAsk v ask.Places r → kind_of r ≡ kind.places
+places_kind v (reply.Places number rows) is = refl
+places_kind v _ is = absurd is
+
+closures_kind : (v : Version) (r : Reply) → AnswersAsk v ask.Closures r → kind_of r ≡ kind.closures
+closures_kind v (reply.Closures number closed) is = refl
+closures_kind v _ is = absurd is
+
+place_cause : (v : Version) (id : FeatureId) (r : Reply) → AnswersAsk v (ask.Place id) r → PlaceCause v id (kind_of r)
+place_cause v id (reply.NoPlace which.Id) is = nowhere is
+place_cause v id (reply.Place number row closed) is = somewhere is.0
+place_cause v id _ is = absurd is
+
+route_cause : (v : Version) (from to : FeatureId) (name : List ℕ) (certificate : Bool) (r : Reply) → AnswersAsk v (ask.Route from to name certificate) r
+    → RouteCause v from to name (kind_of r)
+route_cause v from to name certificate reply.NoProfile is = no_profile is
+route_cause v from to name certificate (reply.NoPlace which.From) is = no_start is.0 is.1
+route_cause v from to name certificate (reply.NoPlace which.To) is = no_end is.0 is.1 is.2
+route_cause v from to name certificate (reply.Route number from' to' name' start cost steps potentials) is =
+    walk is.2.profile is.2.a is.2.b cost is.2.walk is.2.trip is.2.least
+route_cause v from to name certificate (reply.NoRoute number from' to' name' reached) is = no_walk is.2.profile is.2.a is.2.b is.2.trip is.2.none
+route_cause v from to name certificate _ is = absurd is
+
+one_place : (v : Version) (id : FeatureId) (k l : ReplyKind) → PlaceCause v id k → PlaceCause v id l → k ≡ l
+one_place v id _ _ (nowhere e) (nowhere f) = refl
+one_place v id _ _ (somewhere e) (somewhere f) = refl
+one_place v id _ _ (nowhere e) (somewhere f) = absurd (cc (e, f.1))
+one_place v id _ _ (somewhere e) (nowhere f) = absurd (cc (e.1, f))
+
+one_route : (v : Version) (from to : FeatureId) (name : List ℕ) (k l : ReplyKind) → RouteCause v from to name k → RouteCause v from to name l → k ≡ l
+one_route v from to name _ _ (no_profile e) (no_profile f) = refl
+one_route v from to name _ _ (no_profile e) (no_start f g) = absurd (cc (e, f.1))
+one_route v from to name _ _ (no_profile e) (no_end f g h) = absurd (cc (e, f.1))
+one_route v from to name _ _ (no_profile e) (walk p a b cost w t l) = absurd (cc (e, t.has_profile))
+one_route v from to name _ _ (no_profile e) (no_walk p a b t n) = absurd (cc (e, t.has_profile))
+one_route v from to name _ _ (no_start f g) (no_profile e) = absurd (cc (e, f.1))
+one_route v from to name _ _ (no_start f g) (no_start d e) = refl
+one_route v from to name _ _ (no_start f g) (no_end d e h) = absurd (cc (g, e.1))
+one_route v from to name _ _ (no_start f g) (walk p a b cost w t l) = absurd (cc (g, t.has_from))
+one_route v from to name _ _ (no_start f g) (no_walk p a b t n) = absurd (cc (g, t.has_from))
+one_route v from to name _ _ (no_end d e h) (no_profile f) = absurd (cc (f, d.1))
+one_route v from to name _ _ (no_end d e h) (no_start f g) = absurd (cc (g, e.1))
+one_route v from to name _ _ (no_end d e h) (no_end d' e' h') = refl
+one_route v from to name _ _ (no_end d e h) (walk p a b cost w t l) = absurd (cc (h, t.has_to))
+one_route v from to name _ _ (no_end d e h) (no_walk p a b t n) = absurd (cc (h, t.has_to))
+one_route v from to name _ _ (walk p a b cost w t l) (no_profile e) = absurd (cc (e, t.has_profile))
+one_route v from to name _ _ (walk p a b cost w t l) (no_start f g) = absurd (cc (g, t.has_from))
+one_route v from to name _ _ (walk p a b cost w t l) (no_end d e h) = absurd (cc (h, t.has_to))
+one_route v from to name _ _ (walk p a b cost w t l) (walk p' a' b' cost' w' t' l') = refl
+one_route v from to name _ _ (walk p a b cost w t l) (no_walk q a' b' t' n) = absurd (not_both v from to name p q a b a' b' cost w t t' l n)
+one_route v from to name _ _ (no_walk p a b t n) (no_profile e) = absurd (cc (e, t.has_profile))
+one_route v from to name _ _ (no_walk p a b t n) (no_start f g) = absurd (cc (g, t.has_from))
+one_route v from to name _ _ (no_walk p a b t n) (no_end d e h) = absurd (cc (h, t.has_to))
+one_route v from to name _ _ (no_walk p a b t n) (walk q a' b' cost w t' l) = absurd (not_both v from to name q p a' b' a b cost w t' t l n)
+one_route v from to name _ _ (no_walk p a b t n) (no_walk p' a' b' t' n') = refl
+
+one_answer : (v : Version) (asked : Ask) (r s : Reply) → AnswersAsk v asked r → AnswersAsk v asked s → kind_of r ≡ kind_of s
+one_answer v ask.Version r s is also = version_kind v r is ∙ sym (version_kind v s also)
+one_answer v ask.Places r s is also = places_kind v r is ∙ sym (places_kind v s also)
+one_answer v ask.Closures r s is also = closures_kind v r is ∙ sym (closures_kind v s also)
+one_answer v (ask.Place id) r s is also = one_place v id (kind_of r) (kind_of s) (place_cause v id r is) (place_cause v id s also)
+one_answer v (ask.Route from to name certificate) r s is also =
+    one_route v from to name (kind_of r) (kind_of s) (route_cause v from to name certificate r is) (route_cause v from to name certificate s also)
+
+-- how a reply that isn't want of memory answers: the version is too early, or what is asked is answered
+data Cause (v : Version) (query : Query) (r : Reply) : Type 0 where
+  early : (since : ℕ) → query.since ≡ Some since → v.number < since → kind_of r ≡ kind.ahead → Cause v query r
+  answer : ¬ IsTooEarly v query.since → AnswersAsk v query.what r → Cause v query r
+
+cause : (v : Version) (query : Query) (r : Reply) → r ≢ reply.OutOfMemory → Answers v query r → Cause v query r
+cause v query reply.OutOfMemory some is = absurd (some refl)
+cause v query (reply.Ahead since number) some is = early since is.0 is.1 refl
+cause v query _ some is = answer is.0 is.1
+
+too_early : (v : Version) (since : Option ℕ) (n : ℕ) → since ≡ Some n → v.number < n → IsTooEarly v since
+too_early v since n e less = subst (IsTooEarly v) (sym e) less
+
+one_cause : (v : Version) (query : Query) (r s : Reply) → Cause v query r → Cause v query s → kind_of r ≡ kind_of s
+one_cause v query r s (early since e less k) (early since' e' less' k') = k ∙ sym k'
+one_cause v query r s (early since e less k) (answer new is) = absurd (new (too_early v query.since since e less))
+one_cause v query r s (answer new is) (early since e less k) = absurd (new (too_early v query.since since e less))
+one_cause v query r s (answer new is) (answer new' is') = one_answer v query.what r s is is'
+
+-- one kind, but for want of memory
+pub one_kind : (v : Version) (query : Query) (r s : Reply) → r ≢ reply.OutOfMemory → s ≢ reply.OutOfMemory → Answers v query r → Answers v query s → kind_of r ≡ kind_of s
+one_kind v query r s some some' is also = one_cause v query r s (cause v query r some is) (cause v query s some' also)

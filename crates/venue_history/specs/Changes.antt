@@ -1,0 +1,110 @@
+-- Which reply answers which change, and what becomes of the history.
+use Rattle.std.specs.Prelude.{◌≡◌, ◌≢◌, ℕ, ◌+◌, List, [], ◌∷◌, ◌++◌, length, filter, Contains, Option, IfSome, Bool, true, false, not}
+use Rattle.std.specs.Arc.{arc_value}
+use Rattle.venue_types.specs.declared.feature_id.FeatureId.{FeatureId}
+use Rattle.venue_types.specs.declared.features.Features.{Features}
+use Rattle.venue_types.specs.declared.files.Files.{Files}
+use Rattle.venue_types.specs.declared.finding.Report.{Report}
+use Rattle.venue_types.specs.declared.query.Change.{Change}
+use Rattle.venue_types.specs.declared.query.Change.TheVariants as change
+use Rattle.venue_types.specs.declared.reply.Reply.{Reply}
+use Rattle.venue_types.specs.declared.reply.Reply.TheVariants as reply
+use Rattle.venue_ports.specs.Causes.{Rose}
+use Rattle.venue_nodes.specs.Nodes.{closables}
+use Rattle.venue_build.specs.declared.venue.Venue.{Venue}
+use Rattle.venue_build.specs.Built.{IsRejected, IsVenueOf}
+use Rattle.venue_folder.specs.Shelves.{Shelf, shelf_files}
+use Rattle.venue_history.specs.declared.entry.Act.{Act}
+use Rattle.venue_history.specs.declared.entry.Act.TheVariants as act
+use Rattle.venue_history.specs.declared.entry.Entry.{Entry}
+use Rattle.venue_history.specs.Closed.{Version, is_one_of, is_closed, closed_ids}
+use Rattle.venue_history.specs.Versions.{MayFollow}
+use Rattle.venue_history.specs.Histories.{Replays}
+
+-- the seventeen files that are read of a folder: where the shelf is told, those that it has under this name
+pub record AreRead (shelf : Option Shelf) (folder : List ℕ) (files : Files) : Type 0 where
+  pub seventeen : length files.slots ≡ 17
+  pub told : IfSome shelf (λ s. files ≡ shelf_files s folder)
+
+-- the files that are read make this venue under the version's settings
+pub record Makes (shelf : Option Shelf) (v : Version) (folder : List ℕ) (venue : Venue) : Type 0 where
+  pub files : Files
+  pub read : AreRead shelf folder files
+  pub makes : IsVenueOf files v.settings venue
+
+-- the files that are read are rejected with this report
+pub record Breaks (shelf : Option Shelf) (v : Version) (folder : List ℕ) (report : Report) : Type 0 where
+  pub files : Files
+  pub read : AreRead shelf folder files
+  pub breaks : IsRejected files v.settings report
+
+-- the feature can be closed, and stands so already
+abbrev pub StandsSo : Version → FeatureId → Bool → Type 0
+StandsSo v feature closed = Contains (closables v.features) feature × (is_closed v feature ≡ closed)
+
+-- the feature can be closed, and stands otherwise
+abbrev pub StandsOtherwise : Version → FeatureId → Bool → Type 0
+StandsOtherwise v feature closed = Contains (closables v.features) feature × (is_closed v feature ≢ closed)
+
+-- the change would add an entry, if it didn't come late: the feature can be closed and stands otherwise, or the files make a venue
+abbrev pub IsDue : Option Shelf → Version → Change → Type 0
+IsDue shelf v (change.Closure feature closed) = StandsOtherwise v feature closed
+IsDue shelf v (change.Publish folder) = (venue : Venue) × Makes shelf v folder venue
+
+-- a change that is due comes late: the version is the last one, and the reply tells its number
+abbrev pub IsLate : Version → Reply → Type 0
+IsLate v (reply.HistoryFull number) = (number ≡ v.number) × (v.number ≡ v.settings.last_version)
+IsLate v _ = ⊥
+
+-- the reply is right where the change leaves the history as it is
+abbrev pub Refuses : Option Shelf → Version → Change → Reply → Type 0
+Refuses shelf v (change.Closure feature closed) reply.NoFeature = ¬ Contains (closables v.features) feature
+Refuses shelf v (change.Closure feature closed) (reply.ClosureDone number feature' closed' false) =
+    StandsSo v feature closed × (number ≡ v.number) × (feature' ≡ feature) × (closed' ≡ closed)
+Refuses shelf v (change.Publish folder) (reply.FolderFault before after) = Rose before after
+Refuses shelf v (change.Publish folder) (reply.Rejected report) = Breaks shelf v folder report
+Refuses shelf v asked r = IsDue shelf v asked × IsLate v r
+
+-- the act to which the change comes at the version
+abbrev pub IsActOf : Option Shelf → Version → Change → Act → Type 0
+IsActOf shelf v (change.Closure feature closed) (act.Closed id) = (closed ≡ true) × (id ≡ feature) × StandsOtherwise v feature closed
+IsActOf shelf v (change.Closure feature closed) (act.Reopened id) = (closed ≡ false) × (id ≡ feature) × StandsOtherwise v feature closed
+IsActOf shelf v (change.Publish folder) (act.Published venue) = Makes shelf v folder (arc_value venue)
+IsActOf shelf v _ _ = ⊥
+
+-- the closed identifiers that these rows can't close any more, in their order
+abbrev pub dropped_ids : Version → Features → List FeatureId
+dropped_ids v features = filter (λ id. not (is_one_of (closables features) id)) (closed_ids v)
+
+-- the reply tells that the act was done at the version
+abbrev pub TellsOf : Version → Act → Reply → Type 0
+TellsOf v (act.Closed id) (reply.ClosureDone number feature closed changed) = (number ≡ v.number + 1) × (feature ≡ id) × (closed ≡ true) × (changed ≡ true)
+TellsOf v (act.Reopened id) (reply.ClosureDone number feature closed changed) = (number ≡ v.number + 1) × (feature ≡ id) × (closed ≡ false) × (changed ≡ true)
+TellsOf v (act.Published venue) (reply.Published number dropped) = (number ≡ v.number + 1) × (dropped ≡ dropped_ids v (arc_value venue).features)
+TellsOf v _ _ = ⊥
+
+-- the change is refused or needless: the history stays
+pub record IsRefused (shelf : Option Shelf) (asked : Change) (h : List Entry) (r : Reply) (k : List Entry) : Type 0 where
+  pub kept : k ≡ h
+  pub version : Version
+  pub stands : Replays h version
+  pub cause : Refuses shelf version asked r
+
+-- the change is accepted: one entry more, by the worker, which may be made at the version and comes of the change
+pub record IsAccepted (shelf : Option Shelf) (worker : ℕ) (asked : Change) (h : List Entry) (r : Reply) (k : List Entry) : Type 0 where
+  pub version : Version
+  pub stands : Replays h version
+  pub entry : Entry
+  pub may : MayFollow version entry
+  pub by_worker : entry.worker ≡ worker
+  pub of_change : IsActOf shelf version asked entry.act
+  pub tells : TellsOf version entry.act r
+  pub grown : k ≡ h ++ entry ∷ []
+
+-- the worker asks for the change at the history h, the reply is r, and the history is k then; want of memory may stand for
+-- every other answer, and changes nothing
+abbrev pub Changes : Option Shelf → ℕ → Change → List Entry → Reply → List Entry → Type 0
+Changes shelf worker asked h (reply.ClosureDone number feature closed true) k = IsAccepted shelf worker asked h (reply.ClosureDone number feature closed true) k
+Changes shelf worker asked h (reply.Published number dropped) k = IsAccepted shelf worker asked h (reply.Published number dropped) k
+Changes shelf worker asked h reply.OutOfMemory k = k ≡ h
+Changes shelf worker asked h r k = IsRefused shelf asked h r k

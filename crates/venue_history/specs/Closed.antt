@@ -1,0 +1,35 @@
+-- A version of a venue, and what is closed in it. The layers above ask what is closed by these words alone.
+use Rattle.std.specs.Prelude.{ℕ, List, length, Bool}
+use Rattle.std.specs.List.{list_any}
+use Rattle.venue_types.specs.declared.feature_id.FeatureId.{FeatureId}
+use Rattle.venue_types.specs.declared.features.Features.{Features}
+use Rattle.venue_types.specs.declared.settings.Profile.{Profile}
+use Rattle.venue_types.specs.declared.settings.Settings.{Settings}
+use Rattle.venue_nodes.specs.Identity.{is_same}
+
+-- its number, its rows, the settings that decide answers, and the identifiers that are closed, in the order of those that can be
+pub record Version : Type 0 where
+  pub number : ℕ
+  pub features : Features
+  pub settings : Settings
+  pub closed : List FeatureId
+
+-- whether the identifier is one of these
+unfoldable pub is_one_of : List FeatureId → FeatureId → Bool
+is_one_of ids id = list_any (λ other. is_same other id) ids
+
+-- whether the feature of this identifier is closed
+abbrev pub is_closed : Version → FeatureId → Bool
+is_closed v id = is_one_of v.closed id
+
+-- what is closed for somebody of the profile: today all that is closed
+abbrev pub closed_for : Version → Profile → List FeatureId
+closed_for v profile = v.closed
+
+-- all that is closed, in order
+abbrev pub closed_ids : Version → List FeatureId
+closed_ids v = v.closed
+
+-- how many features are closed
+abbrev pub closed_count : Version → ℕ
+closed_count v = length v.closed

@@ -1,0 +1,46 @@
+-- The links that somebody may use at a version, and how a reply names nodes and ways.
+use Rattle.std.specs.Prelude.{◌≡◌, ℕ, List, Option, Some, None, Contains, slice_get}
+use Rattle.std.specs.List.{find}
+use Rattle.std.specs.Str.{bytes_eq}
+use Rattle.venue_types.specs.declared.feature_id.FeatureId.{FeatureId}
+use Rattle.venue_types.specs.declared.link.Link.{Link}
+use Rattle.venue_types.specs.declared.link.Potential.{Potential}
+use Rattle.venue_types.specs.declared.reply.Mark.{Mark}
+use Rattle.venue_types.specs.declared.reply.StepRow.{StepRow}
+use Rattle.venue_types.specs.declared.settings.Profile.{Profile}
+use Rattle.venue_types.specs.declared.settings.Settings.{Settings}
+use Rattle.imdf_access.specs.Access.{IsAllowed}
+use Rattle.venue_nodes.specs.Nodes.{nodes, closables}
+use Rattle.link_graph.specs.Links.{links}
+use Rattle.link_graph.specs.Facts.{facts_at, IsOpen}
+use Rattle.venue_history.specs.Closed.{Version, closed_for}
+
+-- the profile of this name, the first if there are several
+unfoldable pub profile_of : Settings → List ℕ → Option Profile
+profile_of settings name = find (λ (p : Profile). bytes_eq p.name name) settings.profiles
+
+-- the link is there, the profile allows it, and nothing at it is closed for the profile
+pub record Usable (v : Version) (profile : Profile) (link : Link) : Type 0 where
+  pub there : Contains (links v.features v.settings) link
+  pub allowed : IsAllowed profile (facts_at v.features link)
+  pub free : IsOpen v.features (closed_for v profile) link
+
+-- the identifier that stands for no feature
+abbrev pub no_name : FeatureId
+no_name = record { 0 = 0 }
+
+-- how a reply names a node: by its identifier
+unfoldable pub name_of : Version → ℕ → FeatureId
+name_of v n = elim (slice_get (nodes v.features) n) [ None ↦ no_name | Some node ↦ node.id ]
+
+-- how a reply names what a link goes by: by its identifier
+unfoldable pub way_name : Version → ℕ → FeatureId
+way_name v k = elim (slice_get (closables v.features) k) [ None ↦ no_name | Some id ↦ id ]
+
+-- a link as the step of a reply
+abbrev pub step_of : Version → Link → StepRow
+step_of v link = record { to = name_of v link.to; via = way_name v link.via; cost = link.cost; kind = link.kind }
+
+-- a potential as a reply tells it
+abbrev pub mark_of : Version → Potential → Mark
+mark_of v p = record { node = name_of v p.node; value = p.value }

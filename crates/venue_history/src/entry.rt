@@ -1,0 +1,24 @@
+//! The entries of a history.
+
+use std::sync::Arc;
+use venue_build::Venue;
+use venue_types::FeatureId;
+
+/// What was done.
+#[derive(Drop)]
+pub enum Act {
+    /// This venue stands from here on.
+    Published(Arc<Venue>),
+    /// The feature is closed.
+    Closed(FeatureId),
+    /// The feature is open again.
+    Reopened(FeatureId),
+}
+
+/// A change that was accepted.
+#[derive(Drop)]
+pub struct Entry {
+    /// Who made it: 0 for the first entry, then 1 to 16.
+    pub worker: u8,
+    pub act: Act,
+}

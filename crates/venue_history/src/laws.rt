@@ -1,0 +1,94 @@
+//! What holds of every history, of every answer and of every change.
+
+ghost use Rattle.std.specs.Prelude.{◌≡◌, ◌≢◌, ℕ, ◌+◌, List, [], ◌∷◌, ◌++◌, length, filter, All, AllPairs, Contains, Option, Some, IsTrue, ◌↔◌, ◌⊎◌};
+ghost use mathlib.Core.List.{IsPrefix};
+ghost use Rattle.std.specs.Arc.{arc_value};
+ghost use Rattle.std.specs.declared.sync.Arc.{Arc};
+ghost use Rattle.std.specs.declared.alloc.Global.{Global};
+ghost use Rattle.venue_types.specs.declared.feature_id.FeatureId.{FeatureId};
+ghost use Rattle.venue_types.specs.declared.query.Change.{Change as AChange};
+ghost use Rattle.venue_types.specs.declared.query.Query.{Query as AQuery};
+ghost use Rattle.venue_types.specs.declared.reply.Reply.{Reply as AReply};
+ghost use Rattle.venue_types.specs.declared.reply.Reply.TheVariants as reply;
+ghost use Rattle.venue_nodes.specs.Nodes.{closables};
+ghost use Rattle.venue_build.specs.declared.venue.Venue.{Venue as AVenue};
+ghost use Rattle.venue_build.specs.Report.{AreValid};
+ghost use Rattle.venue_folder.specs.Shelves.{Shelf};
+ghost use Rattle.venue_history.specs.declared.entry.Entry.{Entry as AnEntry};
+ghost use Rattle.venue_history.specs.declared.entry.Act.TheVariants.{Published, Closed, Reopened};
+ghost use Rattle.venue_history.specs.Closed.{Version, is_closed, closed_ids};
+ghost use Rattle.venue_history.specs.Versions.{Fits, MayFollow, after};
+ghost use Rattle.venue_history.specs.Histories.{IsPublished, IsLegal, Replays};
+ghost use Rattle.venue_history.specs.Answers.{Answers};
+ghost use Rattle.venue_history.specs.Replies.{told, kind_of, IsOutsideFault};
+ghost use Rattle.venue_history.specs.Changes.{Changes};
+
+use imdf_refs::own_ids_law;
+use venue_build::one_outcome;
+
+/// The number of a version is the length of the history that leads to it.
+pub fn number_law()
+    ensures { (h : List AnEntry) (v : Version) → Replays h v → v.number ≡ length h }
+{}
+
+/// A legal history leads to a version.
+pub fn legal_law()
+    ensures { (h : List AnEntry) → IsLegal h → (v : Version) × Replays h v }
+{}
+
+/// A beginning of a legal history is one, unless it is empty.
+pub fn beginning_law()
+    ensures { (begin whole : List AnEntry) → IsPrefix begin whole → begin ≢ [] → IsLegal whole → IsLegal begin }
+{}
+
+/// An entry that may be made at the version to which a history leads makes a longer history, which leads to the version after it.
+pub fn entry_law()
+    ensures { (h : List AnEntry) (v : Version) (e : AnEntry) → Replays h v → MayFollow v e → Replays (h ++ e ∷ []) (after v e.act) }
+{}
+
+/// At every version to which a history leads the settings are those of each venue that the history publishes, the first among
+/// them; every phase of rules accepts the rows; and what is closed can be closed, stands there once, and in the order of what
+/// can be closed.
+pub fn version_law()
+    ensures settings { (e : AnEntry) (es : List AnEntry) (venue : AVenue) (v : Version) → Replays (e ∷ es) v → IsPublished venue e.act → v.settings ≡ venue.settings }
+    ensures all_settings { (h : List AnEntry) (v : Version) (e : AnEntry) (venue : AVenue) → Replays h v → Contains h e → IsPublished venue e.act → venue.settings ≡ v.settings }
+    ensures valid { (h : List AnEntry) (v : Version) → Replays h v → ∥ AreValid v.features v.settings ∥₁ }
+    ensures closable { (h : List AnEntry) (v : Version) → Replays h v → All (Contains (closables v.features)) (closed_ids v) }
+    ensures once { (h : List AnEntry) (v : Version) → Replays h v → AllPairs (λ a b. a ≢ b) (closed_ids v) }
+    ensures in_order { (h : List AnEntry) (v : Version) → Replays h v → closed_ids v ≡ filter (is_closed v) (closables v.features) }
+{
+    own_ids_law();
+}
+
+/// What each act does to what is closed: a publication keeps of it what can be closed still, a closure adds one feature, and a
+/// reopening takes one away.
+pub fn act_law()
+    ensures published { (v : Version) (venue : Arc AVenue Global) (id : FeatureId)
+        → IsTrue (is_closed (after v (Published venue)) id) ↔ (IsTrue (is_closed v id) × Contains (closables (arc_value venue).features) id) }
+    ensures closed { (h : List AnEntry) (v : Version) (id other : FeatureId) → Replays h v → Fits v (Closed id)
+        → IsTrue (is_closed (after v (Closed id)) other) ↔ (IsTrue (is_closed v other) ⊎ (other ≡ id)) }
+    ensures reopened { (v : Version) (id other : FeatureId) → IsTrue (is_closed (after v (Reopened id)) other) ↔ (IsTrue (is_closed v other) × (other ≢ id)) }
+{}
+
+/// To one question at one version belongs one kind of reply, but for want of memory.
+pub fn answer_law()
+    ensures { (v : Version) (query : AQuery) (r s : AReply) → r ≢ reply.OutOfMemory → s ≢ reply.OutOfMemory → Answers v query r → Answers v query s → kind_of r ≡ kind_of s }
+{}
+
+/// A change adds an entry to the history exactly where the reply tells that it was accepted, and a legal history stays legal.
+pub fn change_law()
+    ensures length { (shelf : Option Shelf) (worker : ℕ) (asked : AChange) (h k : List AnEntry) (r : AReply) → Changes shelf worker asked h r k → length k ≡ length h + told r }
+    ensures kept { (shelf : Option Shelf) (worker : ℕ) (asked : AChange) (h k : List AnEntry) (r : AReply) → Changes shelf worker asked h r k → told r ≡ 0 → k ≡ h }
+    ensures grows { (shelf : Option Shelf) (worker : ℕ) (asked : AChange) (h k : List AnEntry) (r : AReply) → Changes shelf worker asked h r k → IsPrefix h k }
+    ensures legal { (shelf : Option Shelf) (worker : ℕ) (asked : AChange) (h k : List AnEntry) (r : AReply) → Changes shelf worker asked h r k → IsLegal h → IsLegal k }
+{}
+
+/// To one change at one history belongs one kind of reply where the shelf is told, but for want of memory and faults of the
+/// outside: also whether it tells an accepted change.
+pub fn refusal_law()
+    ensures { (shelf : Shelf) (worker : ℕ) (asked : AChange) (h k l : List AnEntry) (r s : AReply)
+        → r ≢ reply.OutOfMemory → s ≢ reply.OutOfMemory → ¬ IsOutsideFault r → ¬ IsOutsideFault s
+        → Changes (Some shelf) worker asked h r k → Changes (Some shelf) worker asked h s l → (kind_of r ≡ kind_of s) × (told r ≡ told s) }
+{
+    one_outcome();
+}

@@ -1,0 +1,6 @@
+//! One history, served: what a session may ask of a hall, whether one thread has it or workers share it.
+#![tactic(auto)]
+
+mod hall;
+
+pub use hall::{Asks, Hall};
