@@ -5,3 +5,5 @@ pub mod Members
 pub mod Limits
 pub mod Unplaced
 pub mod Bounds
+pub mod Numbering
+pub mod Views

@@ -2,11 +2,16 @@
 //! is worth a note where a door or a passage leads nowhere.
 #![tactic(auto)]
 
+mod ids;
+mod making;
+mod nodes;
 mod notes;
+mod numbers;
 mod rules;
 mod spots;
 mod touching;
 
+pub use nodes::Nodes;
 pub use notes::PlaceNote;
 pub use rules::LimitRule;
 pub use touching::touch_law;
