@@ -3,7 +3,6 @@ use Rattle.std.specs.Prelude.{◌≡◌, ℕ, List, Option, None, Some, slice_ge
 use Rattle.venue_types.specs.declared.feature_id.FeatureId.{FeatureId}
 use Rattle.venue_types.specs.declared.features.Features.{Features}
 use Rattle.venue_types.specs.declared.link.Node.{Node}
-use Rattle.feature_rows.specs.declared.index.Index.{Index}
 use Rattle.feature_rows.specs.Indexes.{place_of as place_in}
 use Rattle.venue_nodes.specs.declared.numbers.Numbers.{Numbers}
 use Rattle.venue_nodes.specs.declared.nodes.Nodes.{Nodes}

@@ -10,9 +10,7 @@ ghost use Rattle.venue_nodes.specs.Bounds.{IsPlaced};
 use crate::spots::{line_middle, middle, unit_spot};
 use imdf_access::walkable;
 use std::alloc::Global;
-use venue_types::{
-    AmenityRow, AnchorRow, Class, Features, Node, OpeningRow, OutOfMemory, UnitRow,
-};
+use venue_types::{AmenityRow, AnchorRow, Class, Features, Node, OpeningRow, OutOfMemory, UnitRow};
 
 /// A row of a feature for which a node can stand.
 pub(crate) trait HasNode {
