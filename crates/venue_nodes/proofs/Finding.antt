@@ -1,5 +1,5 @@
 -- The place that an index has for an identifier is the first at which it stands.
-use Rattle.std.proofs.Common.{◌≡◌, ℕ, zero, suc, ◌+◌, ◌≤◌, Bool, true, false, cond, List, [], ◌∷◌, map, length, Option, Some, None, refl, sym, ap, ◌∙◌, ◌⊎◌, inl, inr, arith}
+use Rattle.std.proofs.Common.{◌≡◌, ℕ, zero, suc, ◌+◌, ◌≤◌, Bool, true, false, cond, List, [], ◌∷◌, map, length, Option, Some, None, refl, sym, ap, ◌∙◌, ◌⊎◌, inl, inr, arith, subst, ◌<◌}
 use Rattle.std.specs.Prelude.{slice_get, IsSome}
 use Rattle.std.specs.List.{position_from, find}
 use Rattle.std.proofs.lemmas.Option.{slice_get_within}
@@ -131,3 +131,40 @@ anchor_same f g (Some anchor) same = same anchor
 pub number_same : (f g : FeatureId → Option ℕ) (a b : Option ℕ) (anchors : List FeatureId) (o : Option ℕ) → ((id : FeatureId) → f id ≡ g id) → a ≡ b → by_number f a anchors o ≡ by_number g b anchors o
 number_same f g a b anchors None same own = own
 number_same f g a b anchors (Some k) same own = anchor_same f g (slice_get anchors k) same
+
+-- ---- what a place says
+
+-- at a place that is found stands what passes
+at_position : {X : Type 0} (test : X → Bool) (n k : ℕ) (xs : List X) → position_from test n xs ≡ Some k → (i : ℕ) × (x : X) × (k ≡ n + i) × (slice_get xs i ≡ Some x) × (test x ≡ true)
+at_position test n k [] e = cc
+at_position test n k (x ∷ xs) e = elim (tested (test x)) [
+  | inl passes ↦
+      let here : Some n ≡ Some k = sym (first_here passes) ∙ e in
+      let none : n ≡ n + 0 = omega arith in
+      (0, x, sym (same_Some n k here) ∙ none, refl, passes)
+  | inr fails ↦
+      let rest = at_position test (n + 1) k xs (sym (later fails) ∙ e) in
+      (suc rest.0, rest.1, (let moved : n + 1 + rest.0 ≡ n + suc rest.0 = omega arith in rest.2 ∙ moved), rest.3, rest.4)
+] where
+  first_here : test x ≡ true → position_from test n (x ∷ xs) ≡ Some n
+  first_here h = rw h refl
+
+  later : test x ≡ false → position_from test n (x ∷ xs) ≡ position_from test (n + 1) xs
+  later h = rw h refl
+
+from_zero : (k i : ℕ) → k ≡ 0 + i → k ≡ i
+from_zero k i e = omega (arith, e)
+
+pub stands_there : (ids : List FeatureId) (id : FeatureId) (k : ℕ) → number_among ids id ≡ Some k → slice_get ids k ≡ Some id
+unfolding number_among
+stands_there ids id k e =
+    let at = at_position (λ other. is_same other id) 0 k ids e in
+    let same : k ≡ at.0 = from_zero k at.0 at.2 in
+    subst (λ (i : ℕ). slice_get ids i ≡ Some id) (sym same) (at.3 ∙ ap (λ y. Some y) (same_id at.1 id at.4))
+
+pub position_within : {X : Type 0} (test : X → Bool) (xs : List X) (k : ℕ) → position_from test 0 xs ≡ Some k → k < length xs
+position_within test xs k e =
+    let at = at_position test 0 k xs e in
+    let same : k ≡ at.0 = from_zero k at.0 at.2 in
+    let within = slice_get_within xs at.0 at.1 at.3 in
+    omega arith

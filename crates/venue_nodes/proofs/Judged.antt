@@ -19,7 +19,7 @@ use Rattle.report_laws.proofs.Passes.{Contains-flat_map}
 use Rattle.venue_nodes.specs.Bounds.{IsPlaced}
 use Rattle.venue_nodes.specs.Nodes.{amenity, anchor, opening, unit}
 
-Contains-map : {X Y : Type 0} (f : X → Y) (xs : List X) (x : X) → Contains xs x → Contains (map f xs) (f x)
+pub Contains-map : {X Y : Type 0} (f : X → Y) (xs : List X) (x : X) → Contains xs x → Contains (map f xs) (f x)
 Contains-map f xs x h = let at = at_member xs x h in member_at (map f xs) at.0 (f x) (at_map f xs at.0 x at.1)
 
 -- each position of a file is judged

@@ -6,3 +6,6 @@ pub mod Counts
 pub mod Finding
 pub mod Joining
 pub mod Assembling
+pub mod Spread
+pub mod Placed
+pub mod Remarks

@@ -7,3 +7,4 @@ pub mod Unplaced
 pub mod Bounds
 pub mod Numbering
 pub mod Views
+pub mod Noting

@@ -4,14 +4,18 @@
 
 mod ids;
 mod making;
+mod node_laws;
 mod nodes;
 mod notes;
 mod numbers;
+mod placing;
 mod rules;
 mod spots;
 mod touching;
 
+pub use node_laws::{few_law, number_law, spot_law};
 pub use nodes::Nodes;
 pub use notes::PlaceNote;
+pub use placing::place_notes;
 pub use rules::LimitRule;
 pub use touching::touch_law;
