@@ -7,3 +7,11 @@ pub mod Items
 pub mod Named
 pub mod Limiting
 pub mod Seating
+pub mod Judged
+pub mod Counts
+pub mod Finding
+pub mod Joining
+pub mod Assembling
+pub mod Spread
+pub mod Placed
+pub mod Remarks

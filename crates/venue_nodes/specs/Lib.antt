@@ -11,3 +11,6 @@ pub mod Filling
 pub mod Rows
 pub mod Crowds
 pub mod Bounds
+pub mod Numbering
+pub mod Views
+pub mod Noting

@@ -3,11 +3,17 @@
 #![tactic(auto)]
 
 mod filling;
+mod ids;
 mod limits;
 mod lists;
+mod making;
 mod members;
 mod naming;
+mod node_laws;
+mod nodes;
 mod notes;
+mod numbers;
+mod placing;
 mod rules;
 mod spots;
 mod touching;
@@ -15,6 +21,9 @@ mod walkables;
 
 pub use limits::{Crowding, first_crowding, limit_findings};
 pub use members::{Membership, Rows};
+pub use node_laws::{few_law, number_law, spot_law};
+pub use nodes::Nodes;
 pub use notes::PlaceNote;
+pub use placing::place_notes;
 pub use rules::LimitRule;
 pub use touching::touch_law;

@@ -1,0 +1,10 @@
+use Rattle.venue_nodes.specs.Nodes.{closables}
+use Rattle.venue_nodes.proofs.Finding.{stands_there}
+use Rattle.venue_nodes.proofs.Placed.{place_within}
+use Rattle.venue_nodes.proofs.node_laws.number_law.Goals as goal
+
+pub returns-clause-place : goal.returns-clause-place
+returns-clause-place c = place_within
+
+pub returns-clause-closable : goal.returns-clause-closable
+returns-clause-closable c = λ features id k e. stands_there (closables features) id k e

@@ -1,0 +1,8 @@
+use Rattle.report_laws.specs.Passes.{Adds}
+use Rattle.report_laws.proofs.Adding.{Below}
+use Rattle.venue_nodes.specs.Noting.{IsEmptyRow}
+use Rattle.venue_nodes.proofs.placing.note_openings.Given as goal
+
+-- what the rows before add
+abbrev pub invariant-loop-k : goal.invariant-loop-k
+invariant-loop-k l = Adds (Below IsEmptyRow l.rows l.k) l.initial.notes.items l.notes.items

@@ -1,0 +1,9 @@
+use Rattle.report_laws.specs.Passes.{Adds}
+use Rattle.report_laws.proofs.Adding.{Below}
+use Rattle.venue_nodes.specs.Noting.{LacksNode}
+use Rattle.venue_nodes.specs.Views.{find_place}
+use Rattle.venue_nodes.proofs.placing.note_references.Given as goal
+
+-- what the references before add
+abbrev pub invariant-loop-place : goal.invariant-loop-place
+invariant-loop-place l = Adds (Below (LacksNode (find_place l.nodes) l.index l.property) l.references l.place) l.initial.notes.items l.notes.items

@@ -1,0 +1,9 @@
+use Rattle.report_laws.specs.Passes.{Adds}
+use Rattle.report_laws.proofs.Adding.{Below}
+use Rattle.venue_nodes.specs.Noting.{LeavesElement}
+use Rattle.venue_nodes.specs.Views.{find_place}
+use Rattle.venue_nodes.proofs.placing.note_relationships.Given as goal
+
+-- what the relationships before add
+abbrev pub invariant-loop-k : goal.invariant-loop-k
+invariant-loop-k l = Adds (Below (LeavesElement (find_place l.nodes)) l.rows l.k) l.initial.notes.items l.notes.items

@@ -1,0 +1,40 @@
+-- What a value of `Nodes` is seen as: its nodes and what can be closed, by number and by identifier.
+use Rattle.std.specs.Prelude.{◌≡◌, ℕ, List, Option, None, Some, slice_get}
+use Rattle.venue_types.specs.declared.feature_id.FeatureId.{FeatureId}
+use Rattle.venue_types.specs.declared.features.Features.{Features}
+use Rattle.venue_types.specs.declared.link.Node.{Node}
+use Rattle.feature_rows.specs.Indexes.{place_of as place_in}
+use Rattle.venue_nodes.specs.declared.numbers.Numbers.{Numbers}
+use Rattle.venue_nodes.specs.declared.nodes.Nodes.{Nodes}
+use Rattle.venue_nodes.specs.Nodes.{nodes, place_of, closables}
+use Rattle.venue_nodes.specs.Numbering.{number_among}
+
+-- the number that an identifier has, if it has one
+unfoldable pub number_of : Numbers → FeatureId → Option ℕ
+number_of numbers id = place_in numbers.index id
+
+-- the nodes, by their numbers
+unfoldable pub node_list : Nodes → List Node
+node_list made = made.list.items
+
+-- the number of the node at which a feature is, if it is a place
+unfoldable pub find_place : Nodes → FeatureId → Option ℕ
+find_place made id = elim (number_of made.occupants id) [
+  | None ↦ number_of made.numbers id
+  | Some k ↦ elim (slice_get made.anchors.items k) [ None ↦ None | Some anchor ↦ number_of made.numbers anchor ]
+]
+
+-- the features that can be closed, by their numbers
+unfoldable pub closable_list : Nodes → List FeatureId
+closable_list made = made.closable_ids.items
+
+-- the number of a feature that can be closed
+unfoldable pub find_closable : Nodes → FeatureId → Option ℕ
+find_closable made id = number_of made.closable_numbers id
+
+-- these are the nodes of the features, their places, and what can be closed among them
+pub record AreNodes (features : Features) (made : Nodes) : Type 0 where
+  pub list : node_list made ≡ nodes features
+  pub place : (id : FeatureId) → find_place made id ≡ place_of features id
+  pub closable_ids : closable_list made ≡ closables features
+  pub closable : (id : FeatureId) → find_closable made id ≡ number_among (closables features) id
