@@ -13,11 +13,12 @@ use Rattle.venue_build.specs.Built.{IsRejected, IsVenueOf}
 use Rattle.check_text.specs.Text.{rejected_text, accepted_text}
 use Rattle.venue_ports.specs.Files.{StoredFile, file_at}
 use Rattle.venue_ports.specs.declared.folders.ReadFault.{ReadFault}
+use Rattle.venue_folder.specs.Shelves.{folder_path, folder_files}
 use Rattle.venue_cli.specs.declared.answer.Answer.{Answer}
 use Rattle.venue_cli.specs.declared.status.Status.{Status}
 use Rattle.venue_cli.specs.declared.status.Status.TheVariants.{Done, Negative, Wrong}
 use Rattle.venue_cli.specs.Steps.{IsSettled}
-use Rattle.venue_cli.specs.Checked.{settings_name, folder_path, folder_files, FolderOutput, rejected, accepted, CheckOutput, no_settings, checked}
+use Rattle.venue_cli.specs.Checked.{settings_name, FolderOutput, rejected, accepted, CheckOutput, no_settings, checked}
 use Rattle.venue_cli.proofs.VerifyJudging.{told_before}
 
 pub stops_at_settings : (files : Option (List StoredFile)) (base folder : List ℕ) (settled : Result Settings (String Global)) (text : String Global)

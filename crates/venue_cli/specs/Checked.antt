@@ -1,8 +1,6 @@
 -- What `check BASE FOLDER` prints.
-use Rattle.std.specs.Prelude.{◌≡◌, ℕ, ◌+◌, ◌<◌, ◌≤◌, List, ◌++◌, length, map, take, Option, Some, None, Ok, Err, codes}
+use Rattle.std.specs.Prelude.{◌≡◌, ℕ, ◌<◌, ◌≤◌, List, ◌++◌, length, Option, Some, None, Ok, Err, codes}
 use Rattle.venue_types.specs.declared.files.Files.{Files}
-use Rattle.venue_types.specs.declared.files.Slot.{Slot}
-use Rattle.venue_types.specs.declared.files.Slot.TheVariants as slot
 use Rattle.venue_types.specs.declared.finding.Report.{Report}
 use Rattle.venue_types.specs.declared.settings.Settings.{Settings}
 use Rattle.venue_ports.specs.Files.{StoredFile, file_at}
@@ -13,7 +11,7 @@ use Rattle.venue_settings.specs.Settings.{IsSettingsOf}
 use Rattle.feature_rows.specs.Rows.{feature_count}
 use Rattle.venue_build.specs.declared.venue.Venue.{Venue}
 use Rattle.venue_build.specs.Built.{IsRejected, IsVenueOf}
-use Rattle.check_text.specs.Names.{file_names}
+use Rattle.venue_folder.specs.Shelves.{folder_path, folder_files}
 use Rattle.check_text.specs.Text.{rejected_text, accepted_text}
 use Rattle.venue_cli.specs.declared.status.Status.{Status}
 use Rattle.venue_cli.specs.declared.status.Status.TheVariants.{Done, Negative, Wrong}
@@ -45,23 +43,6 @@ pub data NoSettings (found : Option (List ℕ)) : List ℕ → Type 0 where
   large : (bytes : List ℕ) → found ≡ Some bytes → settings_limit < length bytes → NoSettings found (line (codes "large " ++ settings_name))
   unfit : {text : List ℕ} (bytes : List ℕ) (why : SettingsFault) → found ≡ Some bytes → length bytes ≤ settings_limit → IsSettingsOf bytes (Err why) → IsFaultText why text
       → NoSettings found text
-
--- how many bytes a folder's file has at most
-abbrev pub file_limit : ℕ
-file_limit = 33554432
-
--- the path of a folder of the base
-abbrev pub folder_path : List ℕ → List ℕ → List ℕ
-folder_path base folder = base ++ (codes "/" ++ folder)
-
--- a folder's file, cut one byte after its limit, which shows that it is larger
-abbrev pub slot_of : Option (List ℕ) → Slot
-slot_of None = slot.Absent
-slot_of (Some bytes) = slot.Held (take (file_limit + 1) bytes)
-
--- the seventeen files of a folder, in the order of their numbers
-abbrev pub folder_files : List StoredFile → List ℕ → Files
-folder_files files path = record { slots = map (λ name. slot_of (file_at files path name)) file_names }
 
 -- what is printed of a folder under settings: its report, or the number of its features and what is worth a note
 pub data FolderOutput (files : Files) (settings : Settings) : List ℕ → Status → Type 0 where

@@ -7,13 +7,13 @@ ghost use Rattle.venue_cli.specs.Checked.{FolderOutput, CheckOutput};
 ghost use Rattle.venue_cli.specs.Steps.{IsPrinted};
 
 use crate::answer::Answer;
-use crate::folder::files_of;
 use crate::settings::settings_of;
 use crate::status::Status;
 use check_text::{accepted_text, rejected_text};
 use feature_rows::feature_count;
 use std::alloc::Global;
 use venue_build::{Built, build};
+use venue_folder::files_of;
 use venue_ports::{Folders, ReadFault};
 use venue_types::{Files, OutOfMemory, Settings};
 

@@ -5,7 +5,6 @@ mod answer;
 mod base;
 mod checking;
 mod exit;
-mod folder;
 mod load;
 mod printing;
 mod running;

@@ -2,5 +2,7 @@
 #![tactic(auto)]
 
 mod reading;
+#[cfg(test)]
+mod tests;
 
 pub use reading::files_of;

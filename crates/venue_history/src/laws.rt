@@ -10,13 +10,14 @@ ghost use Rattle.venue_types.specs.declared.query.Change.{Change as AChange};
 ghost use Rattle.venue_types.specs.declared.query.Query.{Query as AQuery};
 ghost use Rattle.venue_types.specs.declared.reply.Reply.{Reply as AReply};
 ghost use Rattle.venue_types.specs.declared.reply.Reply.TheVariants as reply;
+ghost use Rattle.venue_types.specs.declared.settings.Profile.{Profile as AProfile};
 ghost use Rattle.venue_nodes.specs.Nodes.{closables};
 ghost use Rattle.venue_build.specs.declared.venue.Venue.{Venue as AVenue};
 ghost use Rattle.venue_build.specs.Report.{AreValid};
 ghost use Rattle.venue_folder.specs.Shelves.{Shelf};
 ghost use Rattle.venue_history.specs.declared.entry.Entry.{Entry as AnEntry};
 ghost use Rattle.venue_history.specs.declared.entry.Act.TheVariants.{Published, Closed, Reopened};
-ghost use Rattle.venue_history.specs.Closed.{Version, is_closed, closed_ids};
+ghost use Rattle.venue_history.specs.Closed.{Version, is_closed, closed_for, closed_ids, closed_count};
 ghost use Rattle.venue_history.specs.Versions.{Fits, MayFollow, after};
 ghost use Rattle.venue_history.specs.Histories.{IsPublished, IsLegal, Replays};
 ghost use Rattle.venue_history.specs.Answers.{Answers};
@@ -59,6 +60,14 @@ pub fn version_law()
 {
     own_ids_law();
 }
+
+/// The words on what is closed belong together: a feature is closed exactly where its identifier is listed, the list is as long as
+/// is counted, and today a feature is closed for everybody.
+pub fn closed_law()
+    ensures ids { (v : Version) (id : FeatureId) → IsTrue (is_closed v id) ↔ Contains (closed_ids v) id }
+    ensures count { (v : Version) → closed_count v ≡ length (closed_ids v) }
+    ensures for_profile { (v : Version) (profile : AProfile) (id : FeatureId) → IsTrue (is_closed v id) ↔ Contains (closed_for v profile) id }
+{}
 
 /// What each act does to what is closed: a publication keeps of it what can be closed still, a closure adds one feature, and a
 /// reopening takes one away.

@@ -1,0 +1,27 @@
+//! Each law once.
+
+use crate::{
+    act_law, answer_law, beginning_law, change_law, closed_law, entry_law, legal_law, number_law, refusal_law,
+    version_law,
+};
+use crate::{Act, Entry};
+use venue_types::FeatureId;
+
+#[test]
+fn the_laws_are_called(rt: HostRuntime) {
+    number_law();
+    legal_law();
+    beginning_law();
+    entry_law();
+    version_law();
+    act_law();
+    closed_law();
+    answer_law();
+    change_law();
+    refusal_law();
+    let entry = Entry {
+        worker: 1,
+        act: Act::Closed(FeatureId(7)),
+    };
+    assert!(rt; matches!(entry.act, Act::Closed(FeatureId(7))));
+}
