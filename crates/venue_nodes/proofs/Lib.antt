@@ -7,3 +7,4 @@ pub mod Items
 pub mod Named
 pub mod Limiting
 pub mod Seating
+pub mod Folder

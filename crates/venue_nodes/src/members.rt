@@ -9,6 +9,7 @@ ghost use Rattle.venue_nodes.specs.Standing.{AreStandings};
 use crate::filling::filled;
 use crate::lists::Lists;
 use crate::naming::named;
+use crate::touching::touch_law;
 use crate::walkables::Walkables;
 use feature_rows::once_law;
 use std::alloc::Global;
@@ -51,6 +52,7 @@ impl Rows {
         ensures { IfOk result (AreRowsOf features.now settings.now.border_tol) }
     {
         once_law();
+        touch_law();
         let walkables = Walkables::of(alloc, features.units.as_slice())?;
         let named = named(alloc, features, touches, &walkables)?;
         let filling = filled(alloc, &walkables, &named)?;
