@@ -19,7 +19,7 @@ use Rattle.venue_nodes.specs.Identity.{is_same}
 use Rattle.venue_nodes.specs.Touching.{does_touch}
 use Rattle.venue_nodes.specs.Nodes.{NodeRow, amenity, anchor, opening, unit, node_rows, walkable_units}
 use Rattle.venue_nodes.specs.Members.{is_member, members, places_where}
-use Rattle.venue_nodes.specs.Naming.{names, numbers, row_in, can_walk, unit_id, ids_at, named_by}
+use Rattle.venue_nodes.specs.Naming.{names, numbers, row_in, can_walk, unit_id, ids_at, named_by, node_bound}
 use Rattle.venue_nodes.proofs.Items.{at_member, member_at, at_map, given_from, given_to, map_twice}
 use Rattle.venue_nodes.proofs.Named.{names_one, one_names}
 use Rattle.venue_nodes.proofs.Places.{places-zip, places_count, places_few, kept_at}
@@ -116,26 +116,24 @@ map_same_in : {A B : Type 0} (f g : A → B) (xs : List A) → ((w : ℕ) (x : A
 map_same_in f g [] e = refl
 map_same_in {A} {B} f g (x ∷ xs) e = ap (λ (y : B). y ∷ map f xs) (e 0 x refl) ∙ ap (λ (ys : List B). g x ∷ ys) (map_same_in f g xs (λ w y at. e (suc w) y at))
 
-pub rows_are : (features : Features) (border_tol : ℕ) (touches : touching.Touches) (owns : List FeatureId) → IsTouched features border_tol touches → owns ≡ map unit_id (filter can_walk features.units)
-    → map (row_in (named_by features touches.rows owns)) owns ≡ map (members features border_tol) (walkable_units features)
-rows_are features border_tol touches owns known are =
+pub rows_are : (features : Features) (border_tol : ℕ) (touches : touching.Touches) → IsTouched features border_tol touches
+    → map (row_in (named_by features touches.rows (map unit_id (filter can_walk features.units)))) (map unit_id (filter can_walk features.units)) ≡ map (members features border_tol) (walkable_units features)
+rows_are features border_tol touches known =
     let ways = filter can_walk features.units in
     let ids = map unit_id ways in
-    ap (λ (xs : List FeatureId). map (row_in (named_by features touches.rows xs)) xs) are
-    ∙ map_twice (row_in (named_by features touches.rows ids)) unit_id ways
+    map_twice (row_in (named_by features touches.rows ids)) unit_id ways
     ∙ map_same_in (λ (u : UnitRow). row_in (named_by features touches.rows ids) u.id) (members features border_tol) ways
-    (λ w u at. let kept = kept_at can_walk 0 features.units w u at in row_is features border_tol touches known kept.k u kept.there)
+      (λ w u at. let kept = kept_at can_walk 0 features.units w u at in row_is features border_tol touches known kept.k u kept.there)
 
 -- ---- how many nodes
 
-few_rows : (features : Features) → feature_count features ≤ 100000 → length features.amenities + length features.anchors + length features.openings + length features.units ≤ 100000
-few_rows features few =
-    omega (arith, few, length-map features.amenities (λ (row : AmenityRow). row.id), length-map features.anchors (λ (row : AnchorRow). row.id), length-map features.openings (λ (row : OpeningRow). row.id), length-map features.units (λ (row : UnitRow). row.id))
+pub few_rows : (features : Features) (touched : List (List ℕ)) → feature_count features ≤ 100000 → length touched ≡ length features.openings → node_bound features touched ≤ 100000
+few_rows features touched few paired =
+    omega (arith, few, paired, length-map features.amenities (λ (row : AmenityRow). row.id), length-map features.anchors (λ (row : AnchorRow). row.id), length-map features.openings (λ (row : OpeningRow). row.id), length-map features.units (λ (row : UnitRow). row.id))
 
-pub few_lists : (features : Features) (touched : List (List ℕ)) (owns : List FeatureId) (lists : List (List ℕ)) → feature_count features ≤ 100000 → length touched ≡ length features.openings
+pub few_lists : (features : Features) (touched : List (List ℕ)) (owns : List FeatureId) (lists : List (List ℕ)) → node_bound features touched ≤ 100000
     → owns ≡ map unit_id (filter can_walk features.units) → lists ≡ map (numbers owns) (named_by features touched owns) → length lists ≤ 100000
-few_lists features touched owns lists few paired are is =
-    let rows = few_rows features few in
+few_lists features touched owns lists few are is =
     let a = map (λ (row : AmenityRow). row.units) features.amenities in
     let b = map (λ (row : AnchorRow). row.unit ∷ []) features.anchors in
     let c = map (ids_at features.units) touched in
