@@ -123,7 +123,7 @@ rows_are features border_tol touches known =
     let ids = map unit_id ways in
     map_twice (row_in (named_by features touches.rows ids)) unit_id ways
     ∙ map_same_in (λ (u : UnitRow). row_in (named_by features touches.rows ids) u.id) (members features border_tol) ways
-      (λ w u at. let kept = kept_at can_walk 0 features.units w u at in row_is features border_tol touches known kept.k u kept.there)
+    (λ w u at. let kept = kept_at can_walk 0 features.units w u at in row_is features border_tol touches known kept.k u kept.there)
 
 -- ---- how many nodes
 

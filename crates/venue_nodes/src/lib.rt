@@ -5,6 +5,8 @@
 mod filling;
 mod limits;
 mod lists;
+#[cfg(test)]
+mod member_tests;
 mod members;
 mod naming;
 mod notes;
