@@ -15,3 +15,4 @@ pub mod Assembling
 pub mod Spread
 pub mod Placed
 pub mod Remarks
+pub mod Folder

@@ -71,9 +71,13 @@ crowded_row features border_tol rows k are crowd =
     let number = number_of walks 0 features.units k crowd.unit crowd.there crowd.walkable in
     let is : 0 + k ≡ k = omega arith in
     let row = members features border_tol crowd.unit in
-    let at : slice_get (map (members features border_tol) (walkable_units features)) number.w ≡ Some row = at_map (members features border_tol) (walkable_units features) number.w crowd.unit number.is_kept in
-    (number.w, row, subst (λ (rs : List (List ℕ)). slice_get rs number.w ≡ Some row) (sym are.members_are) at, crowd.many,
-     subst (λ (ps : List ℕ). slice_get ps number.w ≡ Some k) (sym are.units_are) (number.placed ∙ ap (λ (m : ℕ). Some m) is))
+    let at : slice_get (map (members features border_tol) (walkable_units features)) number.w ≡ Some row = at_map (members features border_tol) (walkable_units features) number.w crowd.unit number.is_kept in (
+      number.w,
+      row,
+      subst (λ (rs : List (List ℕ)). slice_get rs number.w ≡ Some row) (sym are.members_are) at,
+      crowd.many,
+      subst (λ (ps : List ℕ). slice_get ps number.w ≡ Some k) (sym are.units_are) (number.placed ∙ ap (λ (m : ℕ). Some m) is),
+    )
 
 pub none_crowded : (features : Features) (border_tol : ℕ) (rows : Rows) → AreRowsOf features border_tol rows → All IsRoomy (row_list rows) → NoneCrowded features border_tol
 none_crowded features border_tol rows are all k crowd =
@@ -90,20 +94,21 @@ first_crowded features border_tol rows w k are first at =
     let place : slice_get (places_where walks 0 features.units) w ≡ Some k = subst (λ (ps : List ℕ). slice_get ps w ≡ Some k) are.units_are at in
     let same : 0 + kept.k ≡ k = same_Some (0 + kept.k) k (sym kept.placed ∙ place) in
     let is : kept.k ≡ k = omega arith in
-    let full : 4096 < length first.row = first.full in
-    (record {
-       unit = from.0;
-       there = subst (λ (m : ℕ). slice_get features.units m ≡ Some from.0) is kept.there;
-       walkable = kept.passes;
-       many = subst (λ (row : List ℕ). 4096 < length row) (sym from.2) full;
-     },
-     λ j under crowd.
-         let r = crowded_row features border_tol rows j are crowd in
-         let there : slice_get (places_where walks 0 features.units) r.0 ≡ Some j = subst (λ (ps : List ℕ). slice_get ps r.0 ≡ Some j) are.units_are r.4 in
-         let before : r.0 < w = lesser_number (places_where walks 0 features.units) r.0 w j k (places_rise walks 0 features.units) there place under in
-         let few : length r.1 ≤ 4096 = first.before r.0 r.1 before r.2 in
-         let many : 4096 < length r.1 = r.3 in
-         omega arith)
+    let full : 4096 < length first.row = first.full in (
+      record {
+        unit = from.0;
+        there = subst (λ (m : ℕ). slice_get features.units m ≡ Some from.0) is kept.there;
+        walkable = kept.passes;
+        many = subst (λ (row : List ℕ). 4096 < length row) (sym from.2) full;
+      },
+      λ j under crowd.
+          let r = crowded_row features border_tol rows j are crowd in
+          let there : slice_get (places_where walks 0 features.units) r.0 ≡ Some j = subst (λ (ps : List ℕ). slice_get ps r.0 ≡ Some j) are.units_are r.4 in
+          let before : r.0 < w = lesser_number (places_where walks 0 features.units) r.0 w j k (places_rise walks 0 features.units) there place under in
+          let few : length r.1 ≤ 4096 = first.before r.0 r.1 before r.2 in
+          let many : 4096 < length r.1 = r.3 in
+          omega arith,
+    )
 
 -- ---- the report
 
@@ -129,19 +134,31 @@ only_one x y h = let at = at_member (x ∷ []) y h in one_at x y at.0 at.1
 
 breaks_members : (features : Features) (border_tol k : ℕ) → LimitBreaks S5 features border_tol k → BreaksLimit features border_tol (limit_finding (Members k))
 breaks_members features border_tol k crowd = record {
-  rule = S5; number = refl; breaks = crowd; first = λ before j under. absurd (no_rule_before_S5 before under); in_file = refl; at_member = refl }
+  rule = S5;
+  number = refl;
+  breaks = crowd;
+  first = λ before j under. absurd (no_rule_before_S5 before under);
+  in_file = refl;
+  at_member = refl;
+}
 
 breaks_squares : (features : Features) (border_tol : ℕ) → NoneCrowded features border_tol → 20000000 < square_sum features border_tol → BreaksLimit features border_tol (limit_finding Squares)
 breaks_squares features border_tol none many = record {
-  rule = S6; number = refl; breaks = (many, refl); first = only_S5_before_S6 features border_tol none; in_file = refl; at_member = refl }
+  rule = S6;
+  number = refl;
+  breaks = (many, refl);
+  first = only_S5_before_S6 features border_tol none;
+  in_file = refl;
+  at_member = refl;
+}
 
 one_first : (features : Features) (border_tol k j : ℕ) → LimitBreaks S5 features border_tol k → LimitBreaks S5 features border_tol j → j ≡ k
 one_first features border_tol k j here there = elim (cases_lt k j) [
   | inl before ↦ absurd (there.1 k before here.0)
   | inr behind ↦ elim (cases_lt j k) [
-      | inl under ↦ absurd (here.1 j under there.0)
-      | inr over ↦ omega arith
-    ]
+    | inl under ↦ absurd (here.1 j under there.0)
+    | inr over ↦ omega arith
+  ]
 ]
 
 told_members : (features : Features) (border_tol k : ℕ) (x : Finding) → LimitBreaks S5 features border_tol k → (rule : LimitRule) → x.rule ≡ limit_rule_number rule → LimitBreaks rule features border_tol x.index

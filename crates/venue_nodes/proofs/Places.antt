@@ -106,7 +106,7 @@ one_on n k = let e : n + 1 + k ≡ n + suc k = omega arith in ap (λ (m : ℕ). 
 kept_step : {A : Type 0} (t : A → Bool) (n : ℕ) (y : A) (ys kept : List A) (places : List ℕ)
     → ((w : ℕ) (x : A) → slice_get kept w ≡ Some x → IsKept t (n + 1) ys kept places w x)
     → (b : Bool) → t y ≡ b → (w : ℕ) (x : A) → slice_get (cond b (y ∷ kept) kept) w ≡ Some x → IsKept t n (y ∷ ys) (cond b (y ∷ kept) kept) (cond b (n ∷ places) places) w x
-kept_step t n y ys kept places later true e zero x h = 
+kept_step t n y ys kept places later true e zero x h =
     let same : y ≡ x = same_Some y x h in
     let start : n ≡ n + 0 = omega arith in
     record { k = 0; there = h; passes = ap t (sym same) ∙ e; placed = ap (λ (m : ℕ). Some m) start; is_kept = h }
@@ -190,9 +190,9 @@ pub one_number : (ps : List ℕ) (k j p : ℕ) → IsStrictlySortedBy nat_cmp ps
 one_number ps k j p up here there = elim (cases_lt k j) [
   | inl before ↦ absurd (no_later ps k j p up here there before)
   | inr behind ↦ elim (cases_lt j k) [
-      | inl under ↦ absurd (no_later ps j k p up there here under)
-      | inr over ↦ omega arith
-    ]
+    | inl under ↦ absurd (no_later ps j k p up there here under)
+    | inr over ↦ omega arith
+  ]
 ]
 
 -- a lesser place has a lesser number
@@ -200,14 +200,14 @@ pub lesser_number : (ps : List ℕ) (k j p q : ℕ) → IsStrictlySortedBy nat_c
 lesser_number ps k j p q up here there under = elim (cases_lt k j) [
   | inl before ↦ before
   | inr behind ↦ elim (cases_lt j k) [
-      | inl after ↦
-          let a : get_or ps k 0 ≡ p = get_or_from_slice_get ps k p 0 here in
-          let b : get_or ps j 0 ≡ q = get_or_from_slice_get ps j q 0 there in
-          let over : get_or ps j 0 < get_or ps k 0 = below_from_sorted ps j k 0 up after (slice_get_within ps k p here) in
-          absurd (omega arith)
-      | inr over ↦
-          let same : j ≡ k = omega arith in
-          let c : p ≡ q = same_Some p q (sym here ∙ subst (λ (i : ℕ). slice_get ps i ≡ Some q) same there) in
-          absurd (omega arith)
-    ]
+    | inl after ↦
+        let a : get_or ps k 0 ≡ p = get_or_from_slice_get ps k p 0 here in
+        let b : get_or ps j 0 ≡ q = get_or_from_slice_get ps j q 0 there in
+        let over : get_or ps j 0 < get_or ps k 0 = below_from_sorted ps j k 0 up after (slice_get_within ps k p here) in
+        absurd (omega arith)
+    | inr over ↦
+        let same : j ≡ k = omega arith in
+        let c : p ≡ q = same_Some p q (sym here ∙ subst (λ (i : ℕ). slice_get ps i ≡ Some q) same there) in
+        absurd (omega arith)
+  ]
 ]

@@ -123,8 +123,10 @@ none_seated owns count rows seats empty many none =
     record {
       rows_are = are;
       count = ap length none;
-      standing = record { each = λ node.
-          ap (λ (ss : List (List Membership)). get_or ss node []) none ∙ sym (lacks_all [] node 0 owns (omega arith)) ∙ ap (standings node 0) (sym are) };
+      standing = record {
+        each = λ node.
+            ap (λ (ss : List (List Membership)). get_or ss node []) none ∙ sym (lacks_all [] node 0 owns (omega arith)) ∙ ap (standings node 0) (sym are);
+      };
     }
 
 -- ---- one node more
@@ -153,17 +155,17 @@ seat_on owns nodes ids node rows seats at filled n =
       | inl under ↦
           get_or_append_left seats (new ∷ []) [] n (omega arith) ∙ before ∙ sym (others_stand (names ids) (row_in nodes) n node 0 owns (λ same. omega arith))
       | inr over ↦ elim (cases_lt node n) [
-          | inl past ↦
-              let long : length (seats ++ new ∷ []) ≡ length seats + 1 = length_push seats new in
-              get_or_past (seats ++ new ∷ []) n [] (omega arith) ∙ sym (get_or_past seats n [] (omega arith)) ∙ before
-              ∙ sym (others_stand (names ids) (row_in nodes) n node 0 owns (λ same. omega arith))
-          | inr within ↦
-              let same : n ≡ node = omega arith in
-              get_or_push seats new [] n (omega arith)
-              ∙ ap (λ (rs : List (List ℕ)). map (seat rs) (numbers owns ids)) filled.rows_are
-              ∙ sym (node_stands (names ids) (row_in nodes) node 0 [] owns refl (λ own. lacks_next nodes node own (omega arith)))
-              ∙ ap (λ (m : ℕ). standings m 0 later) (sym same)
-        ]
+        | inl past ↦
+            let long : length (seats ++ new ∷ []) ≡ length seats + 1 = length_push seats new in
+            get_or_past (seats ++ new ∷ []) n [] (omega arith) ∙ sym (get_or_past seats n [] (omega arith)) ∙ before
+            ∙ sym (others_stand (names ids) (row_in nodes) n node 0 owns (λ same. omega arith))
+        | inr within ↦
+            let same : n ≡ node = omega arith in
+            get_or_push seats new [] n (omega arith)
+            ∙ ap (λ (rs : List (List ℕ)). map (seat rs) (numbers owns ids)) filled.rows_are
+            ∙ sym (node_stands (names ids) (row_in nodes) node 0 [] owns refl (λ own. lacks_next nodes node own (omega arith)))
+            ∙ ap (λ (m : ℕ). standings m 0 later) (sym same)
+      ]
     ]
 
 pub seated : (owns : List FeatureId) (nodes : List (List FeatureId)) (ids : List FeatureId) (node : ℕ) (rows rows' : List (List ℕ)) (seats seats' : List (List Membership)) → node ≡ length nodes → AreFilled owns nodes rows seats
@@ -218,7 +220,7 @@ step owns nodes lists node list rows rows' seats seats' are at filled joins adds
     let more : take node nodes ++ r.0 ∷ [] ≡ take (node + 1) nodes = ap (λ (ids : List FeatureId). take node nodes ++ ids ∷ []) (sym here) ∙ sym (take_more nodes node r.0 within) in
     subst (λ (ns : List (List FeatureId)). AreFilled owns ns rows' seats') more
     (seated owns (take node nodes) r.0 node rows rows' seats seats' (sym size) filled
-     (joins ∙ ap (λ (ws : List ℕ). joined node ws rows) (sym r.2)) (adds ∙ ap (λ (ws : List ℕ). seats ++ map (seat rows) ws ∷ []) (sym r.2)))
+    (joins ∙ ap (λ (ws : List ℕ). joined node ws rows) (sym r.2)) (adds ∙ ap (λ (ws : List ℕ). seats ++ map (seat rows) ws ∷ []) (sym r.2)))
 
 pub all_seated : (owns : List FeatureId) (nodes : List (List FeatureId)) (lists : List (List ℕ)) (node : ℕ) (rows : List (List ℕ)) (seats : List (List Membership)) → AreNumbers owns nodes lists → length lists ≤ node
     → AreFilled owns (take node nodes) rows seats → AreFilled owns nodes rows seats

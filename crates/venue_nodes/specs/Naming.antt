@@ -1,5 +1,5 @@
 -- Which units a node names, by their identifiers: the code's own machinery, which no public contract cites.
-use Rattle.std.specs.Prelude.{◌≡◌, ℕ, ◌≤◌, List, [], ◌∷◌, ◌++◌, Bool, map, filter, length, slice_get}
+use Rattle.std.specs.Prelude.{◌≡◌, ℕ, ◌+◌, ◌≤◌, List, [], ◌∷◌, ◌++◌, Bool, map, filter, length, slice_get}
 use Rattle.std.specs.List.{list_any, filter_map}
 use Rattle.std.specs.Option.{option_map}
 use Rattle.venue_types.specs.declared.feature_id.FeatureId.{FeatureId}
@@ -55,3 +55,7 @@ named_by features touched owns =
     ++ map (λ (row : AnchorRow). row.unit ∷ []) features.anchors
     ++ map (ids_at features.units) touched
     ++ map (λ (id : FeatureId). id ∷ []) owns
+
+-- as many nodes at most: amenities, anchors, openings, units
+abbrev pub node_bound : Features → List (List ℕ) → ℕ
+node_bound features touched = length features.amenities + length features.anchors + length touched + length features.units

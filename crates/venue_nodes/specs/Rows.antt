@@ -1,11 +1,12 @@
 -- The rows of members of a folder's walkable units.
-use Rattle.std.specs.Prelude.{◌≡◌, ℕ, List, map}
+use Rattle.std.specs.Prelude.{◌≡◌, ℕ, List, map, filter}
 use Rattle.venue_types.specs.declared.features.Features.{Features}
 use Rattle.venue_types.specs.declared.features.UnitRow.{UnitRow}
 use Rattle.imdf_access.specs.Categories.{is_walkable}
 use Rattle.venue_nodes.specs.declared.members.Rows.{Rows}
 use Rattle.venue_nodes.specs.Nodes.{walkable_units}
 use Rattle.venue_nodes.specs.Members.{members, places_where}
+use Rattle.venue_nodes.specs.Naming.{named_by, row_in, can_walk, unit_id}
 
 -- the rows, each a list of numbers of nodes
 unfoldable pub row_list : Rows → List (List ℕ)
@@ -19,3 +20,8 @@ unit_indexes rows = rows.units.items
 pub record AreRowsOf (features : Features) (border_tol : ℕ) (rows : Rows) : Type 0 where
   pub members_are : row_list rows ≡ map (members features border_tol) (walkable_units features)
   pub units_are : unit_indexes rows ≡ places_where (λ (row : UnitRow). is_walkable row.category) 0 features.units
+
+-- the same by what each node names, of openings that touch units of these indexes: what the code goes through
+pub record AreNamedRows (features : Features) (touched : List (List ℕ)) (rows : Rows) : Type 0 where
+  pub named_are : row_list rows ≡ map (row_in (named_by features touched (map unit_id (filter can_walk features.units)))) (map unit_id (filter can_walk features.units))
+  pub indexes_are : unit_indexes rows ≡ places_where can_walk 0 features.units

@@ -18,7 +18,11 @@ pub(crate) struct Filling {
 }
 
 /// The rows of the walkable units, from the numbers of the units that each node names, in time that grows with their sum.
-pub(crate) fn filled(alloc: Global, walkables: &Walkables, named: &Lists<u32>) -> Result<Filling, OutOfMemory>
+pub(crate) fn filled(
+    alloc: Global,
+    walkables: &Walkables,
+    named: &Lists<u32>,
+) -> Result<Filling, OutOfMemory>
     requires few { length named.now ≤ 100000 }
     requires named { (nodes : List (List FeatureId)) × AreNumbers walkables.now.ids.items nodes named.now }
     ensures { IfOk result (λ filling. (nodes : List (List FeatureId)) → AreNumbers walkables.now.ids.items nodes named.now → AreFilled walkables.now.ids.items nodes filling.rows.items filling.seats) }
@@ -57,7 +61,11 @@ fn fill(alloc: Global, filling: &mut Filling, numbers: &[u32], node: u32) -> Res
 }
 
 // The next places in the rows of these numbers.
-fn seats_in(alloc: Global, rows: &[List<u32>], numbers: &[u32]) -> Result<Vec<Membership>, OutOfMemory>
+fn seats_in(
+    alloc: Global,
+    rows: &[List<u32>],
+    numbers: &[u32],
+) -> Result<Vec<Membership>, OutOfMemory>
     requires within { All (λ w. w < length rows.now) numbers.now }
     requires few { All (λ row. length row ≤ 100000) rows.now }
     ensures { IfOk result (λ seats. seats.items ≡ map (seat rows.now) numbers.now) }

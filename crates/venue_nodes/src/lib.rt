@@ -7,6 +7,8 @@ mod ids;
 mod limits;
 mod lists;
 mod making;
+#[cfg(test)]
+mod member_tests;
 mod members;
 mod naming;
 mod node_laws;

@@ -15,6 +15,7 @@ use std::alloc::Global;
 use venue_types::{Finding, List, OutOfMemory};
 
 const MOST_MEMBERS: usize = 4_096;
+
 const MOST_SQUARES: u64 = 20_000_000;
 
 /// A limit on members that is passed.

@@ -9,6 +9,7 @@ ghost use Rattle.venue_nodes.specs.Standing.{AreStandings};
 use crate::filling::filled;
 use crate::lists::Lists;
 use crate::naming::named;
+use crate::touching::touch_law;
 use crate::walkables::Walkables;
 use feature_rows::once_law;
 use std::alloc::Global;
@@ -35,7 +36,10 @@ pub struct Rows {
 }
 
 impl Rows {
-    ghost use Rattle.venue_nodes.specs.Rows.{AreRowsOf, row_list, unit_indexes};
+    ghost use Rattle.std.specs.Prelude.{map};
+    ghost use Rattle.feature_rows.specs.Indexes.{AreOnce};
+    ghost use Rattle.venue_nodes.specs.Naming.{node_bound, unit_id};
+    ghost use Rattle.venue_nodes.specs.Rows.{AreNamedRows, AreRowsOf, row_list, unit_indexes};
     ghost use Rattle.venue_nodes.specs.Standing.{standings};
 
     /// The rows of a folder in which the phases before find nothing, of openings that touch these units.
@@ -51,6 +55,21 @@ impl Rows {
         ensures { IfOk result (AreRowsOf features.now settings.now.border_tol) }
     {
         once_law();
+        touch_law();
+        let rows = Rows::of_named(alloc, features, touches)?;
+        Ok(rows)
+    }
+
+    // The rows by what each node names, of units each with an identifier of its own.
+    pub(crate) fn of_named(
+        alloc: Global,
+        features: &Features,
+        touches: &Touches,
+    ) -> Result<Rows, OutOfMemory>
+        requires once { AreOnce (map unit_id features.now.units) }
+        requires few { node_bound features.now touches.now.rows ≤ 100000 }
+        ensures { IfOk result (AreNamedRows features.now touches.now.rows) }
+    {
         let walkables = Walkables::of(alloc, features.units.as_slice())?;
         let named = named(alloc, features, touches, &walkables)?;
         let filling = filled(alloc, &walkables, &named)?;

@@ -10,7 +10,9 @@ ghost use Rattle.venue_nodes.specs.Naming.{AreKnown, ids_at, named_by, numbers, 
 use crate::lists::Lists;
 use crate::walkables::Walkables;
 use std::alloc::Global;
-use venue_types::{AmenityRow, AnchorRow, FeatureId, Features, List, OutOfMemory, Touches, UnitRow};
+use venue_types::{
+    AmenityRow, AnchorRow, FeatureId, Features, List, OutOfMemory, Touches, UnitRow,
+};
 
 /// For each node the numbers of the walkable units that it names: amenities, anchors, openings, units, in file order.
 pub(crate) fn named(
@@ -25,7 +27,13 @@ pub(crate) fn named(
     let mut lists = Lists::new(alloc);
     add_amenities(alloc, &mut lists, walkables, features.amenities.as_slice())?;
     add_anchors(alloc, &mut lists, walkables, features.anchors.as_slice())?;
-    add_openings(alloc, &mut lists, walkables, &features.units, touches.rows.as_slice())?;
+    add_openings(
+        alloc,
+        &mut lists,
+        walkables,
+        &features.units,
+        touches.rows.as_slice(),
+    )?;
     add_units(alloc, &mut lists, walkables)?;
     Ok(lists)
 }
@@ -106,7 +114,11 @@ fn add_units(
 }
 
 // The identifiers of the units of these indexes.
-fn ids_at(alloc: Global, units: &List<UnitRow>, indexes: &[u32]) -> Result<Vec<FeatureId>, OutOfMemory>
+fn ids_at(
+    alloc: Global,
+    units: &List<UnitRow>,
+    indexes: &[u32],
+) -> Result<Vec<FeatureId>, OutOfMemory>
     ensures { IfOk result (λ ids. ids.items ≡ ids_at units.now indexes.now) }
 {
     let mut ids = Vec::new(alloc);

@@ -1,0 +1,21 @@
+use Rattle.std.proofs.Common.{◌∙◌}
+use Rattle.imdf_schema.specs.declared.files.File.TheVariants as file
+use Rattle.venue_nodes.proofs.Folder.{IsTouched, rows_are, few_rows}
+use Rattle.venue_nodes.proofs.members.Rows.of.Goals as goal
+
+pub of_named-requires-clause-once : goal.of_named-requires-clause-once
+of_named-requires-clause-once c = c.once_law.ensures c.args.features.now file.Unit c.requires.own_ids
+
+pub of_named-requires-clause-few : goal.of_named-requires-clause-few
+of_named-requires-clause-few c = few_rows c.args.features.now c.args.touches.now.rows c.requires.sound.few_features c.requires.touches.rows
+
+pub returns : goal.returns
+returns c =
+    let features = c.args.features.now in
+    let border_tol = c.args.settings.now.border_tol in
+    let touches = c.args.touches.now in
+    let known : IsTouched features border_tol touches = record { law = c.touch_law.ensures border_tol; once = c.once_law.ensures features file.Unit c.requires.own_ids; are = c.requires.touches } in
+    record {
+      members_are = c.in_ok-rows.ensures.named_are ∙ rows_are features border_tol touches known;
+      units_are = c.in_ok-rows.ensures.indexes_are;
+    }
