@@ -168,12 +168,12 @@ pub folder_rows : (t : ℕ) (features : Features) (openings : List OpeningRow) (
     → AreRowsBelow t openings units (length units) rows → AreTouches t features touches
 folder_rows t features openings units rows touches same file is below = whole t features touches (subst (λ (list : List (List ℕ)). AreRowsBelow t features.openings features.units (length features.units) list) (sym is)
     (subst (λ (us : List UnitRow). AreRowsBelow t features.openings us (length us) rows) file (subst (λ (os : List OpeningRow). AreRowsBelow t os units (length units) rows) same below))) where
-  whole : (t : ℕ) (features : Features) (touches : touching.Touches) → AreRowsBelow t features.openings features.units (length features.units) touches.rows → AreTouches t features touches
-  whole t features touches below = record {
-    rows = below.all;
-    rise = below.rise;
-    exact = λ o u row there. (
-      (λ h. let m = ((below.exact o u row there).0 h).1 in record { opening = m.touch.opening; unit = m.unit; has_opening = m.touch.there; has_unit = m.there; touch = m.touch.touch }),
-      (λ have. (below.exact o u row there).1 (slice_get_within features.units u have.unit have.has_unit, record { unit = have.unit; there = have.has_unit; touch = record { opening = have.opening; there = have.has_opening; touch = have.touch } })),
-    );
-  }
+      whole : (t : ℕ) (features : Features) (touches : touching.Touches) → AreRowsBelow t features.openings features.units (length features.units) touches.rows → AreTouches t features touches
+      whole t features touches below = record {
+        rows = below.all;
+        rise = below.rise;
+        exact = λ o u row there. (
+          (λ h. let m = ((below.exact o u row there).0 h).1 in record { opening = m.touch.opening; unit = m.unit; has_opening = m.touch.there; has_unit = m.there; touch = m.touch.touch }),
+          (λ have. (below.exact o u row there).1 (slice_get_within features.units u have.unit have.has_unit, record { unit = have.unit; there = have.has_unit; touch = record { opening = have.opening; there = have.has_opening; touch = have.touch } })),
+        );
+      }

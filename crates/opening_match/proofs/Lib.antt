@@ -5,3 +5,4 @@ mod Ordering
 mod Stretching
 mod Touching
 mod Gaining
+mod Boxes

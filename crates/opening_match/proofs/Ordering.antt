@@ -116,16 +116,16 @@ apart_sorted es sorted moved apart = pairs_from (λ (e : Entry). e.place) sorted
     (AllPairs-from_IsDistinct Decides-eqb (map (λ (e : Entry). e.place) sorted)
     (IsDistinct-IsPermutation eqb flips (map (λ (e : Entry). e.place) es) (map (λ (e : Entry). e.place) sorted) (IsPermutation-map (λ (e : Entry). e.place) es sorted moved)
     (IsDistinct-from_AllPairs Decides-eqb (map (λ (e : Entry). e.place) es) (pairs_to (λ (e : Entry). e.place) es apart)))) where
-  pairs_to : (f : Entry → ℕ) (es : List Entry) → AllPairs (λ (a b : Entry). f a ≢ f b) es → AllPairs (λ (m n : ℕ). m ≢ n) (map f es)
-  pairs_to f [] pairs i j d under within same = absurd (omega (arith, within))
-  pairs_to f (e ∷ es) pairs i j d under within same =
-      let far : j < length (e ∷ es) = omega (arith, within, length-map (e ∷ es) f) in
-      pairs i j e under far (sym (get_or-map_at f (e ∷ es) i d e (omega arith)) ∙ same ∙ get_or-map_at f (e ∷ es) j d e far)
+      pairs_to : (f : Entry → ℕ) (es : List Entry) → AllPairs (λ (a b : Entry). f a ≢ f b) es → AllPairs (λ (m n : ℕ). m ≢ n) (map f es)
+      pairs_to f [] pairs i j d under within same = absurd (omega (arith, within))
+      pairs_to f (e ∷ es) pairs i j d under within same =
+          let far : j < length (e ∷ es) = omega (arith, within, length-map (e ∷ es) f) in
+          pairs i j e under far (sym (get_or-map_at f (e ∷ es) i d e (omega arith)) ∙ same ∙ get_or-map_at f (e ∷ es) j d e far)
 
-  pairs_from : (f : Entry → ℕ) (es : List Entry) → AllPairs (λ (m n : ℕ). m ≢ n) (map f es) → AllPairs (λ (a b : Entry). f a ≢ f b) es
-  pairs_from f es pairs i j d under within same =
-      let far : j < length (map f es) = omega (arith, within, length-map es f) in
-      pairs i j (f d) under far (get_or-map_at f es i (f d) d (omega arith) ∙ same ∙ sym (get_or-map_at f es j (f d) d within))
+      pairs_from : (f : Entry → ℕ) (es : List Entry) → AllPairs (λ (m n : ℕ). m ≢ n) (map f es) → AllPairs (λ (a b : Entry). f a ≢ f b) es
+      pairs_from f es pairs i j d under within same =
+          let far : j < length (map f es) = omega (arith, within, length-map es f) in
+          pairs i j (f d) under far (get_or-map_at f es i (f d) d (omega arith) ∙ same ∙ sym (get_or-map_at f es j (f d) d within))
 
 pub entries_sorted : (openings : List OpeningRow) (es sorted : List Entry) → AreFirst openings (length openings) es → IsPermutation es sorted → IsSorted entry_cmp sorted → AreEntries openings sorted
 entries_sorted openings es sorted first moved up = record {

@@ -4,3 +4,4 @@ pub mod Stretches
 pub mod Places
 pub mod Matches
 pub mod Rows
+pub mod Testing

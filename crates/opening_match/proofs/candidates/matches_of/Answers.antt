@@ -27,6 +27,5 @@ pub returns : goal.returns
 returns c =
     let of = candidates c.near_line_law.ensures.least c.near_line_law.ensures.greatest c.args.tolerance c.args.openings.now c.args.unit.now c.args.entries.now c.stretch_of-stretch.result.now c.frame_of-frame.result c.in_ok-places.places.items
     c.requires.entries c.frame_of-frame.ensures c.stretch_of-stretch.ensures c.in_ok-places.ensures in
-    
     IfOk-weaker c.places_along.result (λ (found : Vec ℕ Global). ArePlaces (λ (o : ℕ). o) (RunsAlong c.args.tolerance c.args.openings.now c.in_ok-bands.bands) c.deref.result.now found.items) (λ (found : Vec ℕ Global). AreMatches c.args.tolerance c.args.openings.now c.args.unit.now found.items)
     (λ found h. matches c.args.tolerance c.args.openings.now c.args.unit.now c.in_ok-bands.bands c.deref.result.now c.in_ok-places.places.items found.items c.in_ok-bands.ensures c.deref.ensures.value of h) c.places_along.ensures
