@@ -190,30 +190,28 @@ fn desk(alloc: Global) -> Result<List<Text>, AllocError> {
     Ok(List::from_vec(keys))
 }
 
-#[test]
-fn requests(rt: HostRuntime) -> Result<(), Fail> {
-    let alloc = rt.alloc();
-    let keys = desk(alloc)?;
-    let front = Front::new(alloc, &keys).expect(&rt, "memory");
-    let deep = nested(alloc, 126)?;
-    let deeper = nested(alloc, 127)?;
-    let long = repeated(alloc, b"{\"folder\":\"", b"a", 64, b"\"}")?;
-    let longer = repeated(alloc, b"{\"folder\":\"", b"a", 65, b"\"}")?;
-    let letters = repeated(alloc, b"", b"a", 64, b"")?;
-    let Ok(folder) = std::str::from_utf8(&letters) else {
-        assert!(&rt; false);
-        return Ok(());
-    };
-    let table: &[(&str, &str, &[u8], Outcome<'_>)] = &[
+type Row<'t> = (&'t str, &'t str, &'t [u8], Outcome<'t>);
+
+/// Each request of the table comes to what stands beside it.
+fn check_all(
+    rt: &impl Abort,
+    alloc: Global,
+    front: &Front,
+    table: &[Row<'_>],
+) -> Result<(), AllocError> {
+    for (row, (line, fields, body, want)) in table.iter().enumerate() {
+        let bytes = request(alloc, line, fields, body)?;
+        check(rt, alloc, front, &bytes, *want, row)?;
+    }
+    Ok(())
+}
+
+/// Paths and methods.
+fn check_paths(rt: &impl Abort, alloc: Global, front: &Front) -> Result<(), AllocError> {
+    let table: &[Row<'_>] = &[
         ("GET /v1/version", "", b"", VERSION),
         ("GET /v1/version?", "", b"", VERSION),
         ("GET /v1/places", "", b"", Outcome::Ask(None, What::Places)),
-        (
-            "GET /v1/closures?since=7",
-            "",
-            b"",
-            Outcome::Ask(Some(7), What::Closures),
-        ),
         ("GET /v1/version/", "", b"", NO_PATH),
         ("GET /V1/version", "", b"", NO_PATH),
         ("GET /v2", "", b"", NO_PATH),
@@ -250,6 +248,19 @@ fn requests(rt: HostRuntime) -> Result<(), Fail> {
             b"",
             BAD_QUERY,
         ),
+    ];
+    check_all(rt, alloc, front, table)
+}
+
+/// The version that is asked for at least, and what other paths' keys do.
+fn check_queries(rt: &impl Abort, alloc: Global, front: &Front) -> Result<(), AllocError> {
+    let table: &[Row<'_>] = &[
+        (
+            "GET /v1/closures?since=7",
+            "",
+            b"",
+            Outcome::Ask(Some(7), What::Closures),
+        ),
         ("GET /v1/version?since=0", "", b"", since(0)),
         ("GET /v1/version?since=%31", "", b"", since(1)),
         (
@@ -267,6 +278,13 @@ fn requests(rt: HostRuntime) -> Result<(), Fail> {
         ("GET /v1/version?sinc%65=1&since=1", "", b"", BAD_QUERY),
         ("GET /v1/version?x=1&x=2", "", b"", VERSION),
         ("GET /v1/version?from=1&from=2", "", b"", VERSION),
+    ];
+    check_all(rt, alloc, front, table)
+}
+
+/// Routes.
+fn check_routes(rt: &impl Abort, alloc: Global, front: &Front) -> Result<(), AllocError> {
+    let table: &[Row<'_>] = &[
         (
             "GET /v1/route?from=00000000-0000-4000-8000-000000000051",
             "",
@@ -315,6 +333,13 @@ fn requests(rt: HostRuntime) -> Result<(), Fail> {
             b"",
             route("w", false),
         ),
+    ];
+    check_all(rt, alloc, front, table)
+}
+
+/// Staff keys.
+fn check_staff(rt: &impl Abort, alloc: Global, front: &Front) -> Result<(), AllocError> {
+    let table: &[Row<'_>] = &[
         ("POST /v1/closures", KEY, CLOSING, CLOSED),
         (
             "POST /v1/closures",
@@ -355,6 +380,13 @@ fn requests(rt: HostRuntime) -> Result<(), Fail> {
         ),
         ("POST /v1/closures", "", b"[]", NOT_STAFF),
         ("POST /v1/closures?since=x", KEY, CLOSING, CLOSED),
+    ];
+    check_all(rt, alloc, front, table)
+}
+
+/// Bodies.
+fn check_bodies(rt: &impl Abort, alloc: Global, front: &Front) -> Result<(), AllocError> {
+    let table: &[Row<'_>] = &[
         (
             "POST /v1/closures",
             KEY,
@@ -388,8 +420,6 @@ fn requests(rt: HostRuntime) -> Result<(), Fail> {
             b"{\"feature\":301,\"closed\":true}",
             BAD_BODY,
         ),
-        ("POST /v1/closures", KEY, &deep, CLOSED),
-        ("POST /v1/closures", KEY, &deeper, BAD_BODY),
         (
             "POST /v1/closures",
             KEY,
@@ -408,6 +438,20 @@ fn requests(rt: HostRuntime) -> Result<(), Fail> {
             b"{\"closed\":1,\"feature\":\"x\",\"feature\":\"00000000-0000-4000-8000-000000000301\",\"closed\":false}",
             Outcome::Closure(I_0301, false),
         ),
+    ];
+    check_all(rt, alloc, front, table)
+}
+
+/// Bodies at the limits of depth and of a folder's name.
+fn check_limits(rt: &impl Abort, alloc: Global, front: &Front) -> Result<(), AllocError> {
+    let deep = nested(alloc, 126)?;
+    let deeper = nested(alloc, 127)?;
+    let long = repeated(alloc, b"{\"folder\":\"", b"a", 64, b"\"}")?;
+    let longer = repeated(alloc, b"{\"folder\":\"", b"a", 65, b"\"}")?;
+    let folder = "aaaaaaaaaaaaaaaaaaaaaaaaaaaaaaaaaaaaaaaaaaaaaaaaaaaaaaaaaaaaaaaa";
+    let table: &[Row<'_>] = &[
+        ("POST /v1/closures", KEY, &deep, CLOSED),
+        ("POST /v1/closures", KEY, &deeper, BAD_BODY),
         (
             "POST /v1/publish",
             KEY,
@@ -425,10 +469,20 @@ fn requests(rt: HostRuntime) -> Result<(), Fail> {
         ("POST /v1/publish", KEY, b"{\"folder\":\"Tall\"}", BAD_BODY),
         ("POST /v1/publish", KEY, b"{\"folder\":\"\"}", BAD_BODY),
     ];
-    for (row, (line, fields, body, want)) in table.iter().enumerate() {
-        let bytes = request(alloc, line, fields, body)?;
-        check(&rt, alloc, &front, &bytes, *want, row)?;
-    }
+    check_all(rt, alloc, front, table)
+}
+
+#[test]
+fn requests(rt: HostRuntime) -> Result<(), Fail> {
+    let alloc = rt.alloc();
+    let keys = desk(alloc)?;
+    let front = Front::new(alloc, &keys).expect(&rt, "memory");
+    check_paths(&rt, alloc, &front)?;
+    check_queries(&rt, alloc, &front)?;
+    check_routes(&rt, alloc, &front)?;
+    check_staff(&rt, alloc, &front)?;
+    check_bodies(&rt, alloc, &front)?;
+    check_limits(&rt, alloc, &front)?;
     let refused = take(alloc, &front, b"GET /v1/version\r\n\r\n");
     assert_eq!(&rt; come_of(&refused), Outcome::Fault(Refusal::BadHead));
     one_message_law();
