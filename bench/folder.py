@@ -1,6 +1,7 @@
 """Writes a venue near the limits that breaks no rule: 100,000 features with 1,000,000 judged positions.
 
-usage: folder.py BASE [BUILDINGS]   (BASE gets venue.toml and the folder `sound`; each building has a tenth of all)
+usage: folder.py BASE [BUILDINGS [CORNERS]]   (BASE gets venue.toml and the folder `sound`; each building has a tenth of all, and each
+level's outline so many corners, 100 where nothing is said)
 Every run writes the same bytes. A building has ten levels, a level two corridors with rooms along both sides.
 """
 import json
@@ -26,8 +27,9 @@ TYPES = (
 class Folder:
     """The features of each type as text, and how many features and judged positions there are."""
 
-    def __init__(self):
+    def __init__(self, corners=100):
         self.chance = random.Random(1)
+        self.corners = corners  # of a level's outline
         self.texts = {name: [] for name in TYPES}
         self.features = self.positions = 0
 
@@ -75,7 +77,7 @@ class Level:
     def __init__(self, building, ordinal):
         self.building, self.folder, self.ordinal = building, building.folder, ordinal
         self.south = building.south
-        ring = outline(self.folder.chance, -HALL, self.south, EAST, self.south + NORTH)
+        ring = outline(self.folder.chance, -HALL, self.south, EAST, self.south + NORTH, self.folder.corners)
         properties = {"category": "unspecified", "outdoor": False, "ordinal": ordinal, "name": named("Level", ordinal)}
         properties |= {"address_id": building.address, "building_ids": [building.id]}
         self.id = self.folder.add("level", self.folder.judged("Polygon", ring), properties)
@@ -111,7 +113,8 @@ class Level:
         west, count = place * ROOM, len(self.rooms) + self.building.number * 7 + self.ordinal * 3
         category = PASSAGES[place] if place < len(PASSAGES) else ["room", "room", "restroom", "nonpublic", "lobby"][count % 5]
         inside = (west + ROOM // 2, door + up * DEPTH // 4)
-        unit = self.unit(category, room_ring(self.folder.chance, 5 + count * 17 % 46, west, door, up), inside)
+        corners = 5 + count * 17 % (46 - (self.folder.corners - 100) // 130)
+        unit = self.unit(category, room_ring(self.folder.chance, corners, west, door, up), inside)
         opening = self.opening([(west + 300, door), (west + 420, door)])
         self.rooms.append((unit, opening, corridor, inside))
         if place < len(PASSAGES):
@@ -147,9 +150,9 @@ def room_ring(chance, corners, west, door, up):
     return ring if up > 0 else ring[::-1]
 
 
-def outline(chance, west, south, east, north):
-    """A wall round the box with a hundred corners, which goes outward between the box's corners."""
-    xs, ys = range(west, east, (east - west) // 40), range(south, north, (north - south) // 10)
+def outline(chance, west, south, east, north, corners):
+    """A wall round the box with so many corners, a multiple of ten, which goes outward between the box's corners."""
+    xs, ys = range(west, east, (east - west) * 5 // (2 * corners)), range(south, north, (north - south) * 10 // corners)
 
     def out():
         return chance.randint(20, 400)
@@ -246,8 +249,9 @@ def write(path, text):
 
 
 def main():
-    base, buildings = sys.argv[1], int((sys.argv[2:] or ["10"])[0])
-    folder = Folder()
+    base, *sizes = sys.argv[1:]
+    buildings, corners = (int(word) for word in sizes + ["10", "100"][len(sizes) :])
+    folder = Folder(corners)
     levels = [Level(building, n) for building in [Building(folder, n) for n in range(buildings)] for n in range(LEVELS)]
     add_venue(folder, buildings)
     add_relationships(folder, levels)
@@ -260,4 +264,5 @@ def main():
     write(os.path.join(base, "venue.toml"), "kx = 7155000\nky = 11126000\n")
 
 
-main()
+if __name__ == "__main__":
+    main()

@@ -1,4 +1,3 @@
-use Rattle.std.proofs.Common.{All}
 use Rattle.std.proofs.lemmas.List.Elements.{All-same, All-push}
 use Rattle.venue_types.specs.declared.features.LevelRow.{LevelRow}
 use Rattle.plane_exact.specs.Figure.{rings}
