@@ -70,11 +70,7 @@ fn slots_of<F: Folders>(
 }
 
 /// The seventeen files of the folder at a path, as many bytes of each as show whether it is over its limit.
-pub fn files_of<F: Folders>(
-    alloc: Global,
-    path: &str,
-    folders: &mut F,
-) -> Result<Files, ReadFault>
+pub fn files_of<F: Folders>(alloc: Global, path: &str, folders: &mut F) -> Result<Files, ReadFault>
     ensures told { IfOk result (λ held. IfSome (F.files folders.old) (λ files. held ≡ folder_files files path.now)) }
     ensures seventeen { IfOk result (λ held. length held.slots ≡ 17) }
     ensures same { F.files folders.new ≡ F.files folders.old }

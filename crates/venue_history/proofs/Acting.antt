@@ -1,7 +1,6 @@
 -- What each act does to what is closed.
-use Rattle.std.proofs.Common.{◌≡◌, ◌≢◌, ◌∙◌, List, refl, sym, ap, subst, Bool, true, false, ◌⊎◌, inl, inr, ◌↔◌}
-use Rattle.std.specs.Prelude.{◌||◌, not, All, IsTrue}
-use Rattle.std.specs.Arc.{arc_value}
+use Rattle.std.proofs.Common.{◌≡◌, ◌≢◌, List, refl, sym, subst, Bool, true, false, ◌⊎◌, inl, inr, ◌↔◌}
+use Rattle.std.specs.Prelude.{◌||◌, not, IsTrue}
 use Rattle.std.specs.List.{filter, Contains}
 use Rattle.std.proofs.lemmas.List.Elements.{filter_passes, All-contains, All-filter, All-contains_itself}
 use Rattle.venue_types.specs.declared.feature_id.FeatureId.{FeatureId}
@@ -9,8 +8,8 @@ use Rattle.venue_types.specs.declared.features.Features.{Features}
 use Rattle.venue_nodes.specs.Identity.{is_same}
 use Rattle.venue_nodes.specs.Nodes.{closables}
 use Rattle.venue_history.specs.declared.entry.Entry.{Entry}
-use Rattle.venue_history.specs.declared.entry.Act.TheVariants.{Published, Closed, Reopened}
-use Rattle.venue_history.specs.Closed.{Version, is_one_of, is_closed, closed_ids}
+use Rattle.venue_history.specs.declared.entry.Act.TheVariants.{Closed}
+use Rattle.venue_history.specs.Closed.{Version, is_one_of, is_closed}
 use Rattle.venue_history.specs.Versions.{Fits, still_closed, with_closed, without_closed}
 use Rattle.venue_history.specs.Histories.{Replays}
 use Rattle.venue_history.proofs.Identities.{same_eq, same_self, one_of_there, there_one_of, filter_has}

@@ -1,5 +1,5 @@
 -- Histories that are cut and lengthened.
-use Rattle.std.proofs.Common.{◌≡◌, ◌≢◌, ◌∙◌, ℕ, ◌+◌, List, [], ◌∷◌, ◌++◌, length, refl, sym, ap, arith, subst, Option, Some, None}
+use Rattle.std.proofs.Common.{◌≡◌, ◌≢◌, ◌∙◌, ◌+◌, List, [], ◌∷◌, ◌++◌, length, refl, sym, ap, arith, subst, Option, Some, None}
 use Rattle.std.proofs.Math.Logic.{∥∥₁_map, ∥∥₁_elim}
 use mathlib.Core.HLevel.{⊥_prop}
 use mathlib.Core.List.{IsPrefix}
@@ -8,7 +8,7 @@ use Rattle.venue_history.specs.declared.entry.Act.{Act}
 use Rattle.venue_history.specs.declared.entry.Act.TheVariants.{Published, Closed, Reopened}
 use Rattle.venue_history.specs.Closed.{Version}
 use Rattle.venue_history.specs.Versions.{MayFollow, after}
-use Rattle.venue_history.specs.Histories.{after_all, MayAllFollow, opening_of, replay_from, replay, IsLegalFrom, KeepsTheRules, IsLegal, Replays}
+use Rattle.venue_history.specs.Histories.{after_all, MayAllFollow, replay_from, replay, IsLegalFrom, KeepsTheRules, IsLegal, Replays}
 
 some_eq : (u v : Version) → Some u ≡ Some v → u ≡ v
 some_eq u v e = cc e

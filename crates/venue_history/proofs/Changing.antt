@@ -1,5 +1,5 @@
 -- What a change does to the history.
-use Rattle.std.proofs.Common.{◌≡◌, ◌∙◌, ℕ, ◌+◌, List, [], ◌∷◌, ◌++◌, length, refl, sym, ap, subst, arith, Option, Bool, true, false, length-append}
+use Rattle.std.proofs.Common.{◌≡◌, ℕ, ◌+◌, List, [], ◌∷◌, ◌++◌, length, refl, sym, ap, subst, arith, Option, true, length-append}
 use mathlib.Core.List.{IsPrefix}
 use Rattle.venue_types.specs.declared.query.Change.{Change}
 use Rattle.venue_types.specs.declared.reply.Reply.{Reply}
@@ -8,7 +8,7 @@ use Rattle.venue_folder.specs.Shelves.{Shelf}
 use Rattle.venue_history.specs.declared.entry.Entry.{Entry}
 use Rattle.venue_history.specs.Histories.{IsLegal}
 use Rattle.venue_history.specs.Replies.{told}
-use Rattle.venue_history.specs.Changes.{IsAccepted, IsRefused, Changes}
+use Rattle.venue_history.specs.Changes.{IsAccepted, Changes}
 use Rattle.venue_history.proofs.Beginnings.{replay_push}
 
 -- the history stays, or is one entry longer and legal

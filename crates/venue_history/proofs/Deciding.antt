@@ -13,7 +13,7 @@ use Rattle.venue_types.specs.declared.settings.Settings.{Settings}
 use Rattle.venue_nodes.specs.Nodes.{closables}
 use Rattle.venue_build.specs.declared.venue.Venue.{Venue}
 use Rattle.venue_build.specs.Built.{IsRejected, IsVenueOf}
-use Rattle.venue_folder.specs.Shelves.{Shelf, shelf_files}
+use Rattle.venue_folder.specs.Shelves.{Shelf}
 use Rattle.venue_history.specs.declared.entry.Act.{Act}
 use Rattle.venue_history.specs.declared.entry.Act.TheVariants as act
 use Rattle.venue_history.specs.declared.entry.Entry.{Entry}
@@ -21,7 +21,7 @@ use Rattle.venue_history.specs.Closed.{Version}
 use Rattle.venue_history.specs.Histories.{Replays}
 use Rattle.venue_history.specs.Replies.{ReplyKind, kind_of, told, IsOutsideFault}
 use Rattle.venue_history.specs.Replies as kind
-use Rattle.venue_history.specs.Changes.{Makes, Breaks, StandsSo, StandsOtherwise, IsActOf, TellsOf, Refuses, IsAccepted, Changes}
+use Rattle.venue_history.specs.Changes.{Makes, Breaks, StandsSo, StandsOtherwise, IsActOf, TellsOf, Refuses, Changes}
 
 -- what the kind of a reply to a closure says, and whether it tells an accepted change
 data ClosureCause (v : Version) (feature : FeatureId) (closed : Bool) : ReplyKind → ℕ → Type 0 where

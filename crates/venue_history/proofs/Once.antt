@@ -1,5 +1,5 @@
 -- In valid rows each identifier that can be closed stands once among those.
-use Rattle.std.proofs.Common.{◌≡◌, ◌≢◌, ◌∙◌, ℕ, zero, suc, ◌+◌, ◌<◌, ◌≤◌, List, [], ◌∷◌, ◌++◌, length, refl, sym, ap, arith, ◌⊎◌, inl, inr, Some, length-append}
+use Rattle.std.proofs.Common.{◌≡◌, ◌≢◌, ◌∙◌, ℕ, zero, suc, ◌+◌, List, [], ◌∷◌, ◌++◌, length, sym, ap, arith, ◌⊎◌, inl, inr, Some, length-append}
 use Rattle.std.specs.Prelude.{AllPairs, slice_get, slice_index_or}
 use Rattle.std.proofs.lemmas.Option.{slice_get-get_or}
 use Rattle.venue_types.specs.declared.feature_id.FeatureId.{FeatureId}

@@ -1,5 +1,5 @@
 -- The settings and the rows of every version to which a history leads.
-use Rattle.std.proofs.Common.{◌≡◌, ◌∙◌, ℕ, List, [], ◌∷◌, refl, sym, ap, subst, arith, Option, Some, None}
+use Rattle.std.proofs.Common.{◌≡◌, ◌∙◌, List, [], ◌∷◌, refl, sym, ap, subst, arith, Some}
 use Rattle.std.proofs.Math.Logic.{∥∥₁_map, ∥∥₁_elim}
 use Rattle.std.proofs.Props.{props}
 use Rattle.std.proofs.lemmas.List.Elements.{All-cons, All-contains}
@@ -7,14 +7,13 @@ use Rattle.std.specs.Prelude.{All, Contains}
 use Rattle.std.specs.Arc.{arc_value}
 use Rattle.venue_build.specs.declared.venue.Venue.{Venue}
 use Rattle.venue_build.specs.Report.{AreValid}
-use Rattle.venue_types.specs.declared.features.Features.{Features}
 use Rattle.venue_types.specs.declared.settings.Settings.{Settings}
 use Rattle.venue_history.specs.declared.entry.Entry.{Entry}
 use Rattle.venue_history.specs.declared.entry.Act.{Act}
 use Rattle.venue_history.specs.declared.entry.Act.TheVariants.{Published, Closed, Reopened}
 use Rattle.venue_history.specs.Closed.{Version}
-use Rattle.venue_history.specs.Versions.{Fits, MayFollow, after}
-use Rattle.venue_history.specs.Histories.{after_all, MayAllFollow, opening_of, replay_from, replay, IsLegalFrom, KeepsTheRules, IsPublished, IsLegal, Replays}
+use Rattle.venue_history.specs.Versions.{Fits, after}
+use Rattle.venue_history.specs.Histories.{after_all, MayAllFollow, opening_of, replay_from, IsLegalFrom, KeepsTheRules, IsPublished, Replays}
 
 some_eq : (u v : Version) → Some u ≡ Some v → u ≡ v
 some_eq u v e = cc e

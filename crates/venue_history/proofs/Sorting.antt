@@ -1,5 +1,5 @@
 -- To one question at one version belongs one kind of reply.
-use Rattle.std.proofs.Common.{◌≡◌, ◌≢◌, ◌∙◌, ℕ, ◌<◌, List, refl, sym, ap, subst, arith, ◌⊎◌, inl, inr, Option, Some, None, Bool, true, false}
+use Rattle.std.proofs.Common.{◌≡◌, ◌≢◌, ◌∙◌, ℕ, ◌<◌, List, refl, sym, subst, Option, Some, Bool}
 use Rattle.venue_types.specs.declared.feature_id.FeatureId.{FeatureId}
 use Rattle.venue_types.specs.declared.link.Link.{Link}
 use Rattle.venue_types.specs.declared.query.Ask.{Ask}
@@ -7,15 +7,13 @@ use Rattle.venue_types.specs.declared.query.Ask.TheVariants as ask
 use Rattle.venue_types.specs.declared.query.Query.{Query}
 use Rattle.venue_types.specs.declared.reply.Reply.{Reply}
 use Rattle.venue_types.specs.declared.reply.Reply.TheVariants as reply
-use Rattle.venue_types.specs.declared.reply.Which.{Which}
 use Rattle.venue_types.specs.declared.reply.Which.TheVariants as which
 use Rattle.venue_types.specs.declared.settings.Profile.{Profile}
-use Rattle.walk_laws.specs.Walks.{IsWalk, HasNoWalk, IsLeast}
-use Rattle.venue_nodes.specs.Nodes.{place_of}
+use Rattle.walk_laws.specs.Walks.{HasNoWalk, IsLeast}
 use Rattle.link_graph.specs.Views.{link_view}
 use Rattle.venue_history.specs.Closed.{Version}
-use Rattle.venue_history.specs.Ways.{Usable, profile_of}
-use Rattle.venue_history.specs.Answers.{IsTooEarly, IsTrip, IsRoute, IsNoRoute, LacksProfile, HasProfile, IsNoPlace, IsPlace, AnswersAsk, Answers}
+use Rattle.venue_history.specs.Ways.{Usable}
+use Rattle.venue_history.specs.Answers.{IsTooEarly, IsTrip, LacksProfile, HasProfile, IsNoPlace, IsPlace, AnswersAsk, Answers}
 use Rattle.venue_history.specs.Replies.{ReplyKind, kind_of}
 use Rattle.venue_history.specs.Replies as kind
 

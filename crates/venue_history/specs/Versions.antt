@@ -1,5 +1,5 @@
 -- Which acts may be done at a version, and the version after each.
-use Rattle.std.specs.Prelude.{◌≡◌, ℕ, ◌+◌, ◌<◌, ◌≤◌, List, [], filter, not, ◌||◌, Contains, IsTrue}
+use Rattle.std.specs.Prelude.{◌≡◌, ◌+◌, ◌<◌, ◌≤◌, List, [], filter, not, ◌||◌, Contains, IsTrue}
 use Rattle.std.specs.Arc.{arc_value}
 use Rattle.venue_types.specs.declared.feature_id.FeatureId.{FeatureId}
 use Rattle.venue_types.specs.declared.features.Features.{Features}

@@ -1,5 +1,5 @@
 -- The links that somebody may use at a version, and how a reply names nodes and ways.
-use Rattle.std.specs.Prelude.{◌≡◌, ℕ, List, Option, Some, None, Contains, slice_get}
+use Rattle.std.specs.Prelude.{ℕ, List, Option, Some, None, Contains, slice_get}
 use Rattle.std.specs.List.{find}
 use Rattle.std.specs.Str.{bytes_eq}
 use Rattle.venue_types.specs.declared.feature_id.FeatureId.{FeatureId}

@@ -9,6 +9,6 @@ mod tests;
 
 pub use entry::{Act, Entry};
 pub use laws::{
-    act_law, answer_law, beginning_law, change_law, closed_law, entry_law, legal_law, number_law, refusal_law,
-    version_law,
+    act_law, answer_law, beginning_law, change_law, closed_law, entry_law, legal_law, number_law,
+    refusal_law, version_law,
 };

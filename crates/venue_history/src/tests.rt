@@ -1,10 +1,9 @@
 //! Each law once.
 
 use crate::{
-    act_law, answer_law, beginning_law, change_law, closed_law, entry_law, legal_law, number_law, refusal_law,
-    version_law,
+    Act, Entry, act_law, answer_law, beginning_law, change_law, closed_law, entry_law, legal_law,
+    number_law, refusal_law, version_law,
 };
-use crate::{Act, Entry};
 use venue_types::FeatureId;
 
 #[test]

@@ -1,12 +1,10 @@
-use Rattle.std.proofs.Common.{◌≢◌, inl}
+use Rattle.std.proofs.Common.{inl}
 use Rattle.std.proofs.Props.{props}
 use Rattle.std.proofs.Math.Logic.{∥∥₁_elim}
-use Rattle.std.specs.Prelude.{AllPairs}
 use Rattle.venue_build.specs.Report.{AreValid}
 use Rattle.venue_history.proofs.Once.{closables_once}
 use Rattle.venue_history.proofs.Settled.{replay_settings, replay_under, replay_valid}
 use Rattle.venue_history.proofs.Standing.{closed_closable, closed_once, closed_in_order}
-use Rattle.venue_history.specs.Closed.{closed_ids}
 use Rattle.venue_history.proofs.laws.version_law.Goals as goal
 
 pub returns-clause-settings : goal.returns-clause-settings
