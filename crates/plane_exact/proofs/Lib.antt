@@ -8,4 +8,5 @@ pub mod RayLemmas
 pub mod ParityLemmas
 pub mod PolynomialLemmas
 pub mod NearLaw
+pub mod DetourLaw
 pub mod BoxLemmas

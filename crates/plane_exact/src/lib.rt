@@ -9,8 +9,8 @@ mod rays;
 mod segments;
 
 pub use borders::{near, near_chain, near_ring};
-pub use laws::{length_law, near_edge_law};
-pub use lengths::length_cm;
+pub use laws::{detour_law, length_law, near_edge_law, turn_law};
+pub use lengths::{length_cm, spans};
 pub use rays::{inside, inside_ring, is_odd_at_chain};
 pub use segments::{crosses, near_edge, side};
 

@@ -4,8 +4,9 @@ ghost use Rattle.std.specs.Prelude.{◌≡◌, All, IfOk};
 ghost use Rattle.plane_exact.specs.Testing.{IsInBox, IsInDoubledBox};
 ghost use Rattle.plane_exact.specs.Figure.{vertices};
 
-use crate::{crosses, inside, length_cm, near, near_edge, side};
+use crate::{crosses, inside, length_cm, near, near_edge, side, spans};
 use std::alloc::{AllocError, Global};
+use std::process::Abort;
 use std::test::Fail;
 use venue_types::{List, Part, Point, Ring, Shape, Spot};
 
@@ -48,6 +49,16 @@ fn length_at(a: (i64, i64), b: (i64, i64), kx: u32, ky: u32) -> u32 {
         spot_at(b),
         u32::min(kx, 20_000_000),
         u32::min(ky, 20_000_000),
+    )
+}
+
+fn spans_at(a: (i64, i64), b: (i64, i64), kx: u32, ky: u32, c: u32) -> bool {
+    spans(
+        spot_at(a),
+        spot_at(b),
+        u32::min(kx, 20_000_000),
+        u32::min(ky, 20_000_000),
+        c,
     )
 }
 
@@ -166,6 +177,9 @@ fn lengths(rt: HostRuntime) {
         ((0, 0), (600_001, 800_000), 10_000_000, 10_000_000, 5_001),
         ((0, 0), (0, 200), 1, 10_000_000, 1),
         ((0, 0), (0, 201), 1, 10_000_000, 2),
+        ((0, 0), (200, 0), 10_000_000, 10_000_000, 1),
+        ((0, 0), (201, 0), 10_000_000, 10_000_000, 2),
+        ((0, 0), (200, 0), 0, 10_000_000, 0),
         ((0, 0), (123_456, 654_321), 7_381_234, 11_119_999, 3_667),
         (
             (-2 * FAR, -2 * FAR),
@@ -185,6 +199,60 @@ fn lengths(rt: HostRuntime) {
     ];
     for (a, b, kx, ky, want) in table {
         assert_eq!(rt; length_at(a, b, kx, ky), want, "{a:?} {b:?}");
+        assert_shortest(&rt, a, b, kx, ky);
+    }
+}
+
+/// The product of the difference and what a unit of it counts, squared.
+fn stretched(m: i64, n: i64, k: u32) -> u128 {
+    let length = (m.abs_diff(n) as u128).wrapping_mul(k as u128);
+    length.wrapping_mul(length)
+}
+
+/// The square of so many centimetres in the units of `stretched`.
+fn square_of(c: u32) -> u128 {
+    let c = c as u128;
+    c.wrapping_mul(c).wrapping_mul(4_000_000_000_000_000_000)
+}
+
+/// The length spans the way and one less doesn't, by the definition's inequalities and by `spans`.
+fn assert_shortest(rt: &impl Abort, a: (i64, i64), b: (i64, i64), kx: u32, ky: u32) {
+    let square = stretched(a.0, b.0, kx).wrapping_add(stretched(a.1, b.1, ky));
+    let c = length_at(a, b, kx, ky);
+    let less = c.saturating_sub(1);
+    assert!(rt; square <= square_of(c), "{a:?} {b:?} {kx} {ky}");
+    assert!(rt; c == 0 || square_of(less) < square, "{a:?} {b:?} {kx} {ky}");
+    assert!(rt; spans_at(a, b, kx, ky, c), "{a:?} {b:?} {kx} {ky}");
+    assert!(rt;
+        c == 0 || !spans_at(a, b, kx, ky, less),
+        "{a:?} {b:?} {kx} {ky}"
+    );
+}
+
+/// A number up to 2^31 by arithmetic alone, which moves the state on.
+fn next(state: &mut u64) -> u64 {
+    *state = (*state)
+        .wrapping_mul(6_364_136_223_846_793_005)
+        .wrapping_add(1_442_695_040_888_963_407);
+    *state >> 33
+}
+
+/// A coordinate at most 200,000,000 from the middle, nearer by the power of two.
+fn coordinate(state: &mut u64, power: u32) -> i64 {
+    let above = (next(state) % 400_000_001) as i64;
+    above.wrapping_sub(2 * FAR).wrapping_shr(power)
+}
+
+#[test]
+fn many_lengths(rt: HostRuntime) {
+    let mut state = 20_260_101;
+    for turn in 0..100_000u32 {
+        let power = turn % 28;
+        let a = (coordinate(&mut state, power), coordinate(&mut state, power));
+        let b = (coordinate(&mut state, power), coordinate(&mut state, power));
+        let kx = (next(&mut state) % 20_000_001) as u32;
+        let ky = (next(&mut state) % 20_000_001) as u32;
+        assert_shortest(&rt, a, b, kx, ky);
     }
 }
 
