@@ -1,4 +1,5 @@
 pub mod Access
 pub mod Categories
+pub mod Parts
 pub mod Profiles
 pub mod Table

@@ -3,10 +3,12 @@
 
 mod category;
 mod meaning;
+mod parts;
 mod profile;
 #[cfg(test)]
 mod tests;
 
 pub use category::{known_unit, passage, unit_kind, walkable};
 pub use meaning::before_dot;
+pub use parts::{EndFacts, parts_law, passes_end, passes_way};
 pub use profile::{allows, built_in};

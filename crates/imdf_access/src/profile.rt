@@ -8,7 +8,7 @@ use std::alloc::Global;
 use venue_types::{Kind, LinkFacts, List, OutOfMemory, Profile, Text};
 
 // Whether the profile passes links of the kind.
-fn passes_kind(profile: &Profile, kind: Kind) -> bool
+pub fn passes_kind(profile: &Profile, kind: Kind) -> bool
     ensures { result ≡ passes profile.now kind }
 {
     match kind {
@@ -22,7 +22,7 @@ fn passes_kind(profile: &Profile, kind: Kind) -> bool
 }
 
 // Whether what is asked, if it is asked, is granted.
-fn is_granted(asked: bool, granted: bool) -> bool
+pub fn is_granted(asked: bool, granted: bool) -> bool
     ensures granted { IsTrue result ↔ (IsTrue asked → IsTrue granted) }
     ensures test { result ≡ (not asked || granted) }
 {

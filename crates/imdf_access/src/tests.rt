@@ -1,6 +1,9 @@
 //! Each word, each flag and each fact, against the tables of the profile.
 
-use crate::{allows, before_dot, built_in, known_unit, passage, unit_kind, walkable};
+use crate::{
+    EndFacts, allows, before_dot, built_in, known_unit, passage, passes_end, passes_way, unit_kind,
+    walkable,
+};
 use std::alloc::Global;
 use std::process::Abort;
 use std::test::Fail;
@@ -206,6 +209,62 @@ fn the_tables_hold(rt: HostRuntime) -> Result<(), Fail> {
         judge_facts(&rt, walk, *kind, held, allowed[0]);
         judge_facts(&rt, wheelchair, *kind, held, allowed[1]);
         judge_facts(&rt, &marked, *kind, held, allowed[2]);
+    }
+    Ok(())
+}
+
+static KINDS: [Kind; 7] = [
+    Kind::Floor,
+    Kind::Elevator,
+    Kind::Escalator,
+    Kind::Movingwalkway,
+    Kind::Ramp,
+    Kind::Stairs,
+    Kind::Traversal,
+];
+
+/// An end that asks what the number's binary digits say.
+fn end_of(digits: u32) -> EndFacts {
+    EndFacts {
+        restricted: digits & 1 != 0,
+        revolving: digits & 2 != 0,
+        turnstile: digits & 4 != 0,
+        unmarked: digits & 8 != 0,
+        out: digits & 16 != 0,
+    }
+}
+
+fn joined(kind: Kind, restricted: bool, from: &EndFacts, to: &EndFacts) -> LinkFacts {
+    LinkFacts {
+        kind,
+        restricted: restricted || from.restricted || to.restricted,
+        revolving: from.revolving || to.revolving,
+        turnstile: from.turnstile || to.turnstile,
+        unmarked: from.unmarked || to.unmarked,
+        out: from.out || to.out,
+    }
+}
+
+fn judge_parts(rt: &impl Abort, profile: &Profile, kind: Kind, restricted: bool) {
+    let way = passes_way(profile, kind, restricted);
+    for pair in 0..1024u32 {
+        let from = end_of(pair);
+        let to = end_of(pair >> 5);
+        let parts = way && passes_end(profile, &from) && passes_end(profile, &to);
+        let whole = joined(kind, restricted, &from, &to);
+        assert_eq!(rt; parts, allows(profile, &whole), "{whole:?}");
+    }
+}
+
+#[test]
+fn a_link_is_judged_by_its_parts(rt: HostRuntime) -> Result<(), Fail> {
+    let mut profiles = built_in(rt.alloc())?;
+    profiles.push(marked_walk(rt.alloc())?)?;
+    for profile in profiles.as_slice() {
+        for kind in &KINDS {
+            judge_parts(&rt, profile, *kind, false);
+            judge_parts(&rt, profile, *kind, true);
+        }
     }
     Ok(())
 }
