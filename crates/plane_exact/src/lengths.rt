@@ -1,6 +1,6 @@
 //! Lengths in whole centimetres.
 
-ghost use Rattle.std.specs.Prelude.{◌≡◌, ℕ, ◌*◌, ◌≤◌, pos, ◌-ℤ◌, ◌*ℤ◌, ◌↔◌, IsTrue};
+ghost use Rattle.std.specs.Prelude.{◌≡◌, ◌≢◌, ℕ, ◌*◌, ◌≤◌, pos, ◌-ℤ◌, ◌*ℤ◌, ◌↔◌, IsTrue};
 ghost use Rattle.plane_exact.specs.Plane.{IsWithin, IsCloseDoubled, square};
 ghost use Rattle.plane_exact.specs.Length.{IsLength, Spans, scaled_square};
 
@@ -77,6 +77,7 @@ fn guess(square: u128) -> u32
 /// The guess, or where less reaches the square, the least number that does.
 fn lower(square: u128, guess: u32) -> u32
     requires { guess ≤ 5700000 }
+    ensures reached { result ≢ guess → square ≤ 4000000000000000000 * (result * result) }
     ensures least { (m : ℕ) → square ≤ 4000000000000000000 * (m * m) → result ≤ m }
     ensures bound { result ≤ 5700000 }
 {
