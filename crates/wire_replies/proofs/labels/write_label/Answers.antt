@@ -1,4 +1,3 @@
-use Rattle.std.proofs.Common.{ap}
 use Rattle.std.proofs.lemmas.Result.{on_ok_weaker}
 use Rattle.wire_replies.proofs.Lists.{after}
 use Rattle.wire_replies.proofs.labels.write_label.Goals as goal
