@@ -1,9 +1,8 @@
 -- The tokens of lists and of members that may be absent.
-use Rattle.std.proofs.Common.{◌≡◌, ◌∙◌, ℕ, List, [], ◌∷◌, ◌++◌, Option, Some, None, map, flat_map, refl, ap, sym, append_assoc, append-nil, Result, OnOk}
-use Rattle.std.proofs.lemmas.Result.{on_ok_weaker}
+use Rattle.std.proofs.Common.{◌≡◌, ◌∙◌, ℕ, List, [], ◌∷◌, ◌++◌, Option, Some, None, map, flat_map, refl, ap, sym, append_assoc}
 use Rattle.json.specs.Token.{Token}
 use Rattle.json.specs.Print.{print}
-use Rattle.json.specs.Written.{Written, Writes}
+use Rattle.json.specs.Written.{Written}
 use Rattle.json.specs.Tree.{items_tokens, members_tokens}
 use Rattle.serde_json.specs.Data.{Data, Members}
 use Rattle.serde_json.specs.View.{items_of}
@@ -22,20 +21,12 @@ pub where_there_front : (name : List ℕ) (value : Option Data) (others : Member
 where_there_front name None others = refl
 where_there_front name (Some value) others = refl
 
--- one token more
-pub one_token : {E : Type 0} {r : Result (Unit {0}) E} {old new : Written} {t : Token} → Writes r old new t → OnOk r (Adds (t ∷ []) old new)
-one_token {r = r} w = on_ok_weaker r (λ e. record { before = w.room.0; adds = e }) w.ok
-
 -- what is written in two steps
 pub after : {a b : List Token} {old now last : Written} → Adds a old now → Adds b now last → Adds (a ++ b) old last
 after {a = a} {b = b} {old = old} first second = record {
   before = second.before ∙ first.before;
   adds = second.adds ∙ ap (λ (ts : List Token). ts ++ b) first.adds ∙ append_assoc old.tokens a b;
 }
-
--- nothing is written
-pub nothing : (w : Written) → Adds [] w w
-nothing w = record { before = refl; adds = sym (append-nil w.tokens) }
 
 -- what stands in a writer that began with nothing
 pub whole : {ts : List Token} {old now : Written} → old.tokens ≡ [] → old.before ≡ [] → Adds ts old now → now.before ++ print now.tokens ≡ print ts

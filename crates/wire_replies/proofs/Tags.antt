@@ -1,5 +1,5 @@
 -- Texts by their tags, as members.
-use Rattle.std.proofs.Common.{◌≡◌, ◌≢◌, ◌∙◌, ℕ, List, [], ◌∷◌, ◌++◌, Ordering, Less, Equal, Greater, refl, ap, sym, string_bytes, flat_map, append_assoc}
+use Rattle.std.proofs.Common.{◌≡◌, ◌∙◌, List, [], ◌∷◌, ◌++◌, Ordering, Less, Equal, Greater, refl, ap, string_bytes, flat_map}
 use Rattle.std.specs.Prelude.{String}
 use Rattle.std.specs.Global.{Global}
 use Rattle.std.specs.Ordering.{match_ordering}
@@ -7,10 +7,8 @@ use Rattle.std.specs.BTreeMap.{insert_entry}
 use Rattle.std.specs.String.{string_cmp}
 use Rattle.json.specs.Token.{Token}
 use Rattle.json.specs.Tree.{members_tokens}
-use Rattle.serde_json.specs.Data.{Data, Members, member, string, object, put}
+use Rattle.serde_json.specs.Data.{string, put}
 use Rattle.serde_json.specs.Written.{members_outline}
-use Rattle.venue_types.specs.declared.features.Label.{Label}
-use Rattle.wire_replies.specs.Bodies.{name_data, label_members}
 use Rattle.wire_replies.specs.Tokens.{text_members, text_tokens}
 
 chosen : (o : Ordering) (a b c : List (String Global × String Global)) → text_members (match_ordering o a b c) ≡ match_ordering o (text_members a) (text_members b) (text_members c)
@@ -27,8 +25,3 @@ texts_put (e ∷ es) k v = chosen (string_cmp k e.0) _ _ _ ∙ rw (texts_put es 
 pub texts_list : (es : List (String Global × String Global)) → members_tokens (members_outline (text_members es)) ≡ flat_map text_tokens es ++ Token.end_object ∷ []
 texts_list [] = refl
 texts_list (e ∷ es) = ap (λ ts. Token.key (string_bytes e.0) ∷ Token.string (string_bytes e.1) ∷ ts) (texts_list es)
-
--- a name that isn't empty is an object
-pub name_some : (labels : List Label) → labels ≢ [] → name_data labels ≡ object (label_members labels)
-name_some [] some = absurd (some refl)
-name_some (label ∷ labels) some = refl

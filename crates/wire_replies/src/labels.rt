@@ -79,15 +79,33 @@ fn write_null(out: &mut Writer) -> Result<(), AllocError>
     out.null()
 }
 
+/// Writes a name of one tag.
+fn write_label(alloc: Global, out: &mut Writer, label: &Label) -> Result<(), AllocError>
+    ensures { OnOk result (Adds (data_tokens (name_data (label.now ∷ []))) out.old out.new) }
+{
+    begin(out)?;
+    member(alloc, out, label.tag.as_str(), &label.text)?;
+    end(out)
+}
+
+/// Writes a name of several tags, which may come in any order.
+fn write_labels(alloc: Global, out: &mut Writer, labels: &[Label]) -> Result<(), AllocError>
+    ensures { OnOk result (Adds (data_tokens (object (label_members labels.now))) out.old out.new) }
+{
+    let texts = texts_by_tag(alloc, labels)?;
+    write_texts(alloc, out, texts)
+}
+
 /// Writes a name, or null where it is empty.
 fn write_name(alloc: Global, out: &mut Writer, labels: &[Label]) -> Result<(), AllocError>
     ensures { OnOk result (Adds (data_tokens (name_data labels.now)) out.old out.new) }
 {
-    if labels.is_empty() {
-        return write_null(out);
+    match labels {
+        [] => write_null(out),
+        // Most names have one text, which needs no map.
+        [label] => write_label(alloc, out, label),
+        _ => write_labels(alloc, out, labels),
     }
-    let texts = texts_by_tag(alloc, labels)?;
-    write_texts(alloc, out, texts)
 }
 
 /// The name of a place.

@@ -2,6 +2,7 @@
 
 use crate::{Answer, reply_bytes, want_of_memory};
 use std::alloc::{AllocError, Global};
+use std::process::Abort;
 use std::test::Fail;
 use venue_types::{
     Class, FeatureId, Finding, Kind, Label, List, Mark, PlaceRow, Reply, Report, StepRow, Text,
@@ -14,11 +15,11 @@ fn id(last: u16) -> FeatureId {
     FeatureId(0x4000_8000_0000_0000_0000 | u128::from(last))
 }
 
-// The text in which `#` stands for all but the last four digits of an identifier.
+// The text in which `@` stands for all but the last four digits of an identifier.
 fn whole(alloc: Global, text: &str) -> Result<String, AllocError> {
     let mut whole = String::new(alloc);
     for letter in text.chars() {
-        if letter == '#' {
+        if letter == '@' {
             whole.push_str("00000000-0000-4000-8000-00000000")?;
         } else {
             whole.push(letter)?;
@@ -64,7 +65,7 @@ fn place(last: u16, class: Class, ordinal: i16, name: Vec<Label>) -> PlaceRow {
     }
 }
 
-fn route(alloc: Global, potentials: Option<List<Mark>>) -> Result<Answer, AllocError> {
+fn route(alloc: Global, potentials: Option<List<Mark>>) -> Result<Reply, AllocError> {
     let profile = text(alloc, "wheelchair")?;
     let steps = List::from_vec(vec![in alloc;
         step(633, Kind::Floor, 0x105, 0x305),
@@ -74,7 +75,7 @@ fn route(alloc: Global, potentials: Option<List<Mark>>) -> Result<Answer, AllocE
         step(200, Kind::Elevator, 0x201, 0x401),
         step(2000, Kind::Floor, 0x42, 0x400),
     ]?);
-    Ok(Answer::Of(Reply::Route {
+    Ok(Reply::Route {
         number: 1,
         from: id(0x51),
         to: id(0x52),
@@ -83,417 +84,140 @@ fn route(alloc: Global, potentials: Option<List<Mark>>) -> Result<Answer, AllocE
         cost: 9040,
         steps,
         potentials,
-    }))
+    })
 }
 
-fn no_route(alloc: Global, reached: Option<List<FeatureId>>) -> Result<Answer, AllocError> {
+fn no_route(alloc: Global, reached: Option<List<FeatureId>>) -> Result<Reply, AllocError> {
     let profile = text(alloc, "wheelchair")?;
-    Ok(Answer::Of(Reply::NoRoute {
+    Ok(Reply::NoRoute {
         number: 3,
         from: id(0x51),
         to: id(0x52),
         profile,
         reached,
-    }))
+    })
 }
 
-// What a client is told: the status, the bytes of the body, further lines, and the body.
-struct Told<'t>(&'t str, usize, &'t str, &'t str);
+// What a client is told: the status, the bytes of the body, and further lines.
+#[derive(Clone, Copy)]
+struct Told<'t>(&'t str, usize, &'t str);
 
 fn sees(
     rt: &impl Abort,
     alloc: Global,
-    answer: Answer,
+    answer: &Answer,
     close: bool,
     told: Told<'_>,
+    body: &str,
 ) -> Result<(), AllocError> {
-    let Told(status, length, lines, body) = told;
+    let Told(status, length, lines) = told;
     let body = whole(alloc, body)?;
     let text = format!(in alloc;
         "HTTP/1.1 {status}\r\ncontent-type: application/json\r\ncontent-length: {length}\r\n{lines}\r\n{body}"
     )?;
-    let bytes = reply_bytes(alloc, &answer, close).expect(rt, "memory");
+    let bytes = reply_bytes(alloc, answer, close).expect(rt, "memory");
     assert!(rt; bytes.as_slice() == text.as_bytes(), "{text}");
     Ok(())
 }
 
-#[test]
-fn answers_have_their_bytes(rt: HostRuntime) -> Result<(), Fail> {
-    let alloc = rt.alloc();
-    let version = Answer::Of(Reply::Version {
-        number: 1,
-        closed: 0,
-        places: 33,
-    });
-    assert_eq!(rt;
-        reply_bytes(alloc, &version, false)
-            .expect(&rt, "memory")
-            .as_slice(),
-        b"HTTP/1.1 200 OK\r\ncontent-type: application/json\r\ncontent-length: 36\r\n\r\n{\"closed\":0,\"places\":33,\"version\":1}".as_slice()
-    );
-    assert_eq!(rt;
-        reply_bytes(alloc, &version, true)
-            .expect(&rt, "memory")
-            .as_slice(),
-        b"HTTP/1.1 200 OK\r\ncontent-type: application/json\r\ncontent-length: 36\r\nconnection: close\r\n\r\n{\"closed\":0,\"places\":33,\"version\":1}".as_slice()
-    );
-    assert_eq!(rt;
-        want_of_memory(true),
-        b"HTTP/1.1 503 Service Unavailable\r\ncontent-type: application/json\r\ncontent-length: 26\r\nconnection: close\r\n\r\n{\"error\":\"want_of_memory\"}".as_slice()
-    );
-    assert_eq!(rt; want_of_memory(false).len(), 114);
-    for (answer, close, told) in [
-        (
-            Answer::Of(Reply::ClosureDone {
-                number: 2,
-                feature: id(0x301),
-                closed: true,
-                changed: true,
-            }),
-            false,
-            Told(
-                "200 OK",
-                91,
-                "",
-                "{\"changed\":true,\"closed\":true,\"feature\":\"#0301\",\"version\":2}",
-            ),
-        ),
-        (
-            Answer::Of(Reply::Ahead {
-                since: 9,
-                number: 3,
-            }),
-            false,
-            Told(
-                "409 Conflict",
-                47,
-                "",
-                r#"{"error":"version_ahead","since":9,"version":3}"#,
-            ),
-        ),
-        (
-            Answer::Of(Reply::HistoryFull { number: 2 }),
-            false,
-            Told(
-                "409 Conflict",
-                36,
-                "",
-                r#"{"error":"history_full","version":2}"#,
-            ),
-        ),
-        (
-            Answer::Of(Reply::NoProfile),
-            false,
-            Told("404 Not Found", 27, "", r#"{"error":"no_such_profile"}"#),
-        ),
-        (
-            Answer::Of(Reply::NoPlace(Which::From)),
-            false,
-            Told(
-                "404 Not Found",
-                40,
-                "",
-                r#"{"error":"no_such_place","which":"from"}"#,
-            ),
-        ),
-        (
-            Answer::Of(Reply::NoPlace(Which::To)),
-            false,
-            Told(
-                "404 Not Found",
-                38,
-                "",
-                r#"{"error":"no_such_place","which":"to"}"#,
-            ),
-        ),
-        (
-            Answer::Of(Reply::NoPlace(Which::Id)),
-            false,
-            Told(
-                "404 Not Found",
-                38,
-                "",
-                r#"{"error":"no_such_place","which":"id"}"#,
-            ),
-        ),
-        (
-            Answer::Of(Reply::NoFeature),
-            false,
-            Told("404 Not Found", 27, "", r#"{"error":"no_such_feature"}"#),
-        ),
-        (
-            Answer::Of(Reply::FolderFault {
-                before: 1,
-                after: 2,
-            }),
-            false,
-            Told("502 Bad Gateway", 24, "", r#"{"error":"folder_fault"}"#),
-        ),
-        (
-            Answer::Of(Reply::OutOfMemory),
-            false,
-            Told(
-                "503 Service Unavailable",
-                26,
-                "",
-                r#"{"error":"want_of_memory"}"#,
-            ),
-        ),
-        (
-            Answer::No(Refusal::HeadTooLarge),
-            false,
-            Told(
-                "431 Request Header Fields Too Large",
-                26,
-                "connection: close\r\n",
-                r#"{"error":"head_too_large"}"#,
-            ),
-        ),
-        (
-            Answer::No(Refusal::BadHead),
-            false,
-            Told(
-                "400 Bad Request",
-                20,
-                "connection: close\r\n",
-                r#"{"error":"bad_head"}"#,
-            ),
-        ),
-        (
-            Answer::No(Refusal::TransferCoding),
-            false,
-            Told(
-                "501 Not Implemented",
-                27,
-                "connection: close\r\n",
-                r#"{"error":"transfer_coding"}"#,
-            ),
-        ),
-        (
-            Answer::No(Refusal::BodyTooLarge),
-            false,
-            Told(
-                "413 Payload Too Large",
-                26,
-                "connection: close\r\n",
-                r#"{"error":"body_too_large"}"#,
-            ),
-        ),
-        (
-            Answer::No(Refusal::NoPath),
-            false,
-            Told("404 Not Found", 24, "", r#"{"error":"no_such_path"}"#),
-        ),
-        (
-            Answer::No(Refusal::NotStaff),
-            false,
-            Told("403 Forbidden", 21, "", r#"{"error":"not_staff"}"#),
-        ),
-        (
-            Answer::No(Refusal::BadBody),
-            false,
-            Told("400 Bad Request", 20, "", r#"{"error":"bad_body"}"#),
-        ),
-        (
-            Answer::No(Refusal::BadQuery),
-            false,
-            Told("400 Bad Request", 21, "", r#"{"error":"bad_query"}"#),
-        ),
-        (
-            Answer::No(Refusal::Method(Methods::Get)),
-            false,
-            Told(
-                "405 Method Not Allowed",
-                18,
-                "allow: GET\r\n",
-                r#"{"error":"method"}"#,
-            ),
-        ),
-        (
-            Answer::No(Refusal::Method(Methods::Post)),
-            false,
-            Told(
-                "405 Method Not Allowed",
-                18,
-                "allow: POST\r\n",
-                r#"{"error":"method"}"#,
-            ),
-        ),
-        (
-            Answer::No(Refusal::Method(Methods::Both)),
-            true,
-            Told(
-                "405 Method Not Allowed",
-                18,
-                "allow: GET, POST\r\nconnection: close\r\n",
-                r#"{"error":"method"}"#,
-            ),
-        ),
-    ] {
-        sees(&rt, alloc, answer, close, told)?;
-    }
-    sees(
-        &rt,
-        alloc,
-        Answer::Of(Reply::Published {
-            number: 3,
-            dropped: List::from_vec(vec![in alloc; id(0x301)]?),
-        }),
-        false,
-        Told("200 OK", 64, "", "{\"dropped\":[\"#0301\"],\"version\":3}"),
-    )?;
-    sees(
-        &rt,
-        alloc,
-        Answer::Of(Reply::Closures {
-            number: 3,
-            closed: List::new(alloc),
-        }),
-        false,
-        Told("200 OK", 27, "", r#"{"closures":[],"version":3}"#),
-    )?;
-    sees(
-        &rt,
-        alloc,
-        Answer::Of(Reply::Closures {
-            number: 4,
-            closed: List::from_vec(vec![in alloc; id(0x24), id(0x301)]?),
-        }),
-        false,
-        Told(
-            "200 OK",
-            104,
-            "",
-            "{\"closures\":[\"#0024\",\"#0301\"],\"version\":4}",
-        ),
-    )?;
-    sees(
-        &rt,
-        alloc,
-        route(alloc, None)?,
-        false,
-        Told(
-            "200 OK",
-            926,
-            "",
-            "{\"cost\":9040,\"from\":\"#0051\",\"profile\":\"wheelchair\",\"result\":\"route\",\"start\":\"#0041\",\"steps\":[{\"cost\":633,\"kind\":\"floor\",\"to\":\"#0105\",\"via\":\"#0305\"},{\"cost\":3007,\"kind\":\"floor\",\"to\":\"#0101\",\"via\":\"#0300\"},{\"cost\":200,\"kind\":\"elevator\",\"to\":\"#0301\",\"via\":\"#0301\"},{\"cost\":3000,\"kind\":\"elevator\",\"to\":\"#0401\",\"via\":\"#0021\"},{\"cost\":200,\"kind\":\"elevator\",\"to\":\"#0201\",\"via\":\"#0401\"},{\"cost\":2000,\"kind\":\"floor\",\"to\":\"#0042\",\"via\":\"#0400\"}],\"to\":\"#0052\",\"version\":1}",
-        ),
-    )?;
+// A reply of status 200, in a session that goes on.
+fn reads(
+    rt: &impl Abort,
+    alloc: Global,
+    reply: Reply,
+    length: usize,
+    body: &str,
+) -> Result<(), AllocError> {
+    let told = Told("200 OK", length, "");
+    sees(rt, alloc, &Answer::Of(reply), false, told, body)
+}
+
+fn sees_changes(rt: &impl Abort, alloc: Global) -> Result<(), AllocError> {
+    let reply = Reply::ClosureDone {
+        number: 2,
+        feature: id(0x301),
+        closed: true,
+        changed: true,
+    };
+    let body = r#"{"changed":true,"closed":true,"feature":"@0301","version":2}"#;
+    reads(rt, alloc, reply, 91, body)?;
+    let dropped = List::from_vec(vec![in alloc; id(0x301)]?);
+    let reply = Reply::Published { number: 3, dropped };
+    let body = r#"{"dropped":["@0301"],"version":3}"#;
+    reads(rt, alloc, reply, 64, body)
+}
+
+fn sees_closures(rt: &impl Abort, alloc: Global) -> Result<(), AllocError> {
+    let closed = List::new(alloc);
+    let reply = Reply::Closures { number: 3, closed };
+    reads(rt, alloc, reply, 27, r#"{"closures":[],"version":3}"#)?;
+    let closed = List::from_vec(vec![in alloc; id(0x24), id(0x301)]?);
+    let reply = Reply::Closures { number: 4, closed };
+    let body = r#"{"closures":["@0024","@0301"],"version":4}"#;
+    reads(rt, alloc, reply, 104, body)
+}
+
+fn sees_walks(rt: &impl Abort, alloc: Global) -> Result<(), AllocError> {
+    let body =
+        r#"{"cost":9040,"from":"@0051","profile":"wheelchair","result":"route","start":"@0041","steps":[{"cost":633,"kind":"floor","to":"@0105","via":"@0305"},{"cost":3007,"kind":"floor","to":"@0101","via":"@0300"},{"cost":200,"kind":"elevator","to":"@0301","via":"@0301"},{"cost":3000,"kind":"elevator","to":"@0401","via":"@0021"},{"cost":200,"kind":"elevator","to":"@0201","via":"@0401"},{"cost":2000,"kind":"floor","to":"@0042","via":"@0400"}],"to":"@0052","version":1}"#;
+    reads(rt, alloc, route(alloc, None)?, 926, body)?;
     let marks = List::from_vec(vec![in alloc; mark(0x41, 0), mark(0x105, 633)]?);
-    sees(
-        &rt,
-        alloc,
-        route(alloc, Some(marks))?,
-        false,
-        Told(
-            "200 OK",
-            1059,
-            "",
-            "{\"cost\":9040,\"from\":\"#0051\",\"potentials\":[{\"node\":\"#0041\",\"value\":0},{\"node\":\"#0105\",\"value\":633}],\"profile\":\"wheelchair\",\"result\":\"route\",\"start\":\"#0041\",\"steps\":[{\"cost\":633,\"kind\":\"floor\",\"to\":\"#0105\",\"via\":\"#0305\"},{\"cost\":3007,\"kind\":\"floor\",\"to\":\"#0101\",\"via\":\"#0300\"},{\"cost\":200,\"kind\":\"elevator\",\"to\":\"#0301\",\"via\":\"#0301\"},{\"cost\":3000,\"kind\":\"elevator\",\"to\":\"#0401\",\"via\":\"#0021\"},{\"cost\":200,\"kind\":\"elevator\",\"to\":\"#0201\",\"via\":\"#0401\"},{\"cost\":2000,\"kind\":\"floor\",\"to\":\"#0042\",\"via\":\"#0400\"}],\"to\":\"#0052\",\"version\":1}",
-        ),
-    )?;
-    sees(
-        &rt,
-        alloc,
-        no_route(alloc, None)?,
-        false,
-        Told(
-            "200 OK",
-            142,
-            "",
-            "{\"from\":\"#0051\",\"profile\":\"wheelchair\",\"result\":\"none\",\"to\":\"#0052\",\"version\":3}",
-        ),
-    )?;
+    let body =
+        r#"{"cost":9040,"from":"@0051","potentials":[{"node":"@0041","value":0},{"node":"@0105","value":633}],"profile":"wheelchair","result":"route","start":"@0041","steps":[{"cost":633,"kind":"floor","to":"@0105","via":"@0305"},{"cost":3007,"kind":"floor","to":"@0101","via":"@0300"},{"cost":200,"kind":"elevator","to":"@0301","via":"@0301"},{"cost":3000,"kind":"elevator","to":"@0401","via":"@0021"},{"cost":200,"kind":"elevator","to":"@0201","via":"@0401"},{"cost":2000,"kind":"floor","to":"@0042","via":"@0400"}],"to":"@0052","version":1}"#;
+    reads(rt, alloc, route(alloc, Some(marks))?, 1059, body)
+}
+
+fn sees_that_none_is(rt: &impl Abort, alloc: Global) -> Result<(), AllocError> {
+    let body =
+        r#"{"from":"@0051","profile":"wheelchair","result":"none","to":"@0052","version":3}"#;
+    reads(rt, alloc, no_route(alloc, None)?, 142, body)?;
     let reached = List::from_vec(vec![in alloc; id(0x31), id(0x41)]?);
-    sees(
-        &rt,
-        alloc,
-        no_route(alloc, Some(reached))?,
-        false,
-        Told(
-            "200 OK",
-            232,
-            "",
-            "{\"from\":\"#0051\",\"profile\":\"wheelchair\",\"reached\":[\"#0031\",\"#0041\"],\"result\":\"none\",\"to\":\"#0052\",\"version\":3}",
-        ),
-    )?;
-    let row = place(
-        0x52,
-        Class::Occupant,
-        1,
-        vec![in alloc; label(alloc, "en", "Tickets")?]?,
-    );
-    sees(
-        &rt,
-        alloc,
-        Answer::Of(Reply::Place {
-            number: 1,
-            row,
-            closed: false,
-        }),
-        false,
-        Told(
-            "200 OK",
-            126,
-            "",
-            "{\"closed\":false,\"id\":\"#0052\",\"kind\":\"occupant\",\"name\":{\"en\":\"Tickets\"},\"ordinal\":1,\"version\":1}",
-        ),
-    )?;
-    let row = place(0x31, Class::Unit, -3, Vec::new(alloc));
-    sees(
-        &rt,
-        alloc,
-        Answer::Of(Reply::Place {
-            number: 7,
-            row,
-            closed: true,
-        }),
-        false,
-        Told(
-            "200 OK",
-            110,
-            "",
-            "{\"closed\":true,\"id\":\"#0031\",\"kind\":\"unit\",\"name\":null,\"ordinal\":-3,\"version\":7}",
-        ),
-    )?;
-    let names = vec![in alloc;
+    let body =
+        r#"{"from":"@0051","profile":"wheelchair","reached":["@0031","@0041"],"result":"none","to":"@0052","version":3}"#;
+    reads(rt, alloc, no_route(alloc, Some(reached))?, 232, body)
+}
+
+fn sees_a_place(rt: &impl Abort, alloc: Global) -> Result<(), AllocError> {
+    let name = vec![in alloc; label(alloc, "en", "Tickets")?]?;
+    let reply = Reply::Place {
+        number: 1,
+        row: place(0x52, Class::Occupant, 1, name),
+        closed: false,
+    };
+    let body =
+        r#"{"closed":false,"id":"@0052","kind":"occupant","name":{"en":"Tickets"},"ordinal":1,"version":1}"#;
+    reads(rt, alloc, reply, 126, body)
+}
+
+// One tag comes twice, and the texts have what is escaped.
+fn sees_names(rt: &impl Abort, alloc: Global) -> Result<(), AllocError> {
+    let name = vec![in alloc;
         label(alloc, "en", "First")?,
         label(alloc, "de", "T\"\\\n\u{e4}")?,
         label(alloc, "en", "Last")?,
     ]?;
-    let row = place(0x31, Class::Amenity, 0, names);
-    sees(
-        &rt,
-        alloc,
-        Answer::Of(Reply::Place {
-            number: 7,
-            row,
-            closed: false,
-        }),
-        false,
-        Told(
-            "200 OK",
-            139,
-            "",
-            "{\"closed\":false,\"id\":\"#0031\",\"kind\":\"amenity\",\"name\":{\"de\":\"T\\\"\\\\\\nä\",\"en\":\"Last\"},\"ordinal\":0,\"version\":7}",
-        ),
-    )?;
+    let reply = Reply::Place {
+        number: 7,
+        row: place(0x31, Class::Amenity, 0, name),
+        closed: true,
+    };
+    let body =
+        r#"{"closed":true,"id":"@0031","kind":"amenity","name":{"de":"T\"\\\nä","en":"Last"},"ordinal":0,"version":7}"#;
+    reads(rt, alloc, reply, 138, body)
+}
+
+fn sees_places(rt: &impl Abort, alloc: Global) -> Result<(), AllocError> {
     let rows = List::from_vec(vec![in alloc;
-        place(0x31, Class::Amenity, 0, Vec::new(alloc)),
+        place(0x31, Class::Anchor, -3, Vec::new(alloc)),
         place(0x404, Class::Unit, 1, Vec::new(alloc)),
     ]?);
-    sees(
-        &rt,
-        alloc,
-        Answer::Of(Reply::Places { number: 1, rows }),
-        false,
-        Told(
-            "200 OK",
-            195,
-            "",
-            "{\"places\":[{\"id\":\"#0031\",\"kind\":\"amenity\",\"name\":null,\"ordinal\":0},{\"id\":\"#0404\",\"kind\":\"unit\",\"name\":null,\"ordinal\":1}],\"version\":1}",
-        ),
-    )?;
+    let reply = Reply::Places { number: 1, rows };
+    let body =
+        r#"{"places":[{"id":"@0031","kind":"anchor","name":null,"ordinal":-3},{"id":"@0404","kind":"unit","name":null,"ordinal":1}],"version":1}"#;
+    reads(rt, alloc, reply, 195, body)
+}
+
+fn sees_findings(rt: &impl Abort, alloc: Global) -> Result<(), AllocError> {
     let found = Finding {
         rule: 30,
         file: 15,
@@ -504,17 +228,204 @@ fn answers_have_their_bytes(rt: HostRuntime) -> Result<(), Fail> {
         first: List::from_vec(vec![in alloc; found]?),
         total: 1,
     };
+    let told = Told("422 Unprocessable Entity", 100, "");
+    let body =
+        r#"{"error":"rejected","findings":[{"file":"unit.geojson","index":7,"member":0,"rule":"K1"}],"total":1}"#;
     sees(
-        &rt,
+        rt,
         alloc,
-        Answer::Of(Reply::Rejected(report)),
+        &Answer::Of(Reply::Rejected(report)),
         false,
-        Told(
-            "422 Unprocessable Entity",
-            100,
-            "",
-            r#"{"error":"rejected","findings":[{"file":"unit.geojson","index":7,"member":0,"rule":"K1"}],"total":1}"#,
+        told,
+        body,
+    )
+}
+
+#[test]
+fn answers_have_their_bytes(rt: HostRuntime) -> Result<(), Fail> {
+    let alloc = rt.alloc();
+    for (close, bytes) in [
+        (
+            false,
+            b"HTTP/1.1 200 OK\r\ncontent-type: application/json\r\ncontent-length: 36\r\n\r\n{\"closed\":0,\"places\":33,\"version\":1}".as_slice(),
         ),
-    )?;
+        (
+            true,
+            b"HTTP/1.1 200 OK\r\ncontent-type: application/json\r\ncontent-length: 36\r\nconnection: close\r\n\r\n{\"closed\":0,\"places\":33,\"version\":1}".as_slice(),
+        ),
+    ] {
+        let version = Answer::Of(Reply::Version {
+            number: 1,
+            closed: 0,
+            places: 33,
+        });
+        let written = reply_bytes(alloc, &version, close).expect(&rt, "memory");
+        assert_eq!(rt; written.as_slice(), bytes);
+    }
+    let bytes =
+        b"HTTP/1.1 503 Service Unavailable\r\ncontent-type: application/json\r\ncontent-length: 26\r\nconnection: close\r\n\r\n{\"error\":\"want_of_memory\"}";
+    assert_eq!(rt; want_of_memory(true), bytes.as_slice());
+    assert_eq!(rt; want_of_memory(false).len(), 114);
+    let table = [
+        (
+            Answer::Of(Reply::NoProfile),
+            "404 Not Found",
+            27,
+            r#"{"error":"no_such_profile"}"#,
+        ),
+        (
+            Answer::Of(Reply::NoPlace(Which::From)),
+            "404 Not Found",
+            40,
+            r#"{"error":"no_such_place","which":"from"}"#,
+        ),
+        (
+            Answer::Of(Reply::NoPlace(Which::To)),
+            "404 Not Found",
+            38,
+            r#"{"error":"no_such_place","which":"to"}"#,
+        ),
+        (
+            Answer::Of(Reply::NoPlace(Which::Id)),
+            "404 Not Found",
+            38,
+            r#"{"error":"no_such_place","which":"id"}"#,
+        ),
+        (
+            Answer::Of(Reply::NoFeature),
+            "404 Not Found",
+            27,
+            r#"{"error":"no_such_feature"}"#,
+        ),
+        (
+            Answer::Of(Reply::FolderFault {
+                before: 1,
+                after: 2,
+            }),
+            "502 Bad Gateway",
+            24,
+            r#"{"error":"folder_fault"}"#,
+        ),
+        (
+            Answer::Of(Reply::Ahead {
+                since: 9,
+                number: 3,
+            }),
+            "409 Conflict",
+            47,
+            r#"{"error":"version_ahead","since":9,"version":3}"#,
+        ),
+        (
+            Answer::Of(Reply::HistoryFull { number: 2 }),
+            "409 Conflict",
+            36,
+            r#"{"error":"history_full","version":2}"#,
+        ),
+        (
+            Answer::Of(Reply::OutOfMemory),
+            "503 Service Unavailable",
+            26,
+            r#"{"error":"want_of_memory"}"#,
+        ),
+    ];
+    for (answer, status, length, body) in &table {
+        sees(&rt, alloc, answer, false, Told(status, *length, ""), body)?;
+    }
+    for (refusal, status, length, lines, body) in [
+        (
+            Refusal::HeadTooLarge,
+            "431 Request Header Fields Too Large",
+            26,
+            "connection: close\r\n",
+            r#"{"error":"head_too_large"}"#,
+        ),
+        (
+            Refusal::BadHead,
+            "400 Bad Request",
+            20,
+            "connection: close\r\n",
+            r#"{"error":"bad_head"}"#,
+        ),
+        (
+            Refusal::TransferCoding,
+            "501 Not Implemented",
+            27,
+            "connection: close\r\n",
+            r#"{"error":"transfer_coding"}"#,
+        ),
+        (
+            Refusal::BodyTooLarge,
+            "413 Payload Too Large",
+            26,
+            "connection: close\r\n",
+            r#"{"error":"body_too_large"}"#,
+        ),
+        (
+            Refusal::NoPath,
+            "404 Not Found",
+            24,
+            "",
+            r#"{"error":"no_such_path"}"#,
+        ),
+        (
+            Refusal::Method(Methods::Get),
+            "405 Method Not Allowed",
+            18,
+            "allow: GET\r\n",
+            r#"{"error":"method"}"#,
+        ),
+        (
+            Refusal::Method(Methods::Post),
+            "405 Method Not Allowed",
+            18,
+            "allow: POST\r\n",
+            r#"{"error":"method"}"#,
+        ),
+        (
+            Refusal::Method(Methods::Both),
+            "405 Method Not Allowed",
+            18,
+            "allow: GET, POST\r\n",
+            r#"{"error":"method"}"#,
+        ),
+        (
+            Refusal::NotStaff,
+            "403 Forbidden",
+            21,
+            "",
+            r#"{"error":"not_staff"}"#,
+        ),
+        (
+            Refusal::BadBody,
+            "400 Bad Request",
+            20,
+            "",
+            r#"{"error":"bad_body"}"#,
+        ),
+        (
+            Refusal::BadQuery,
+            "400 Bad Request",
+            21,
+            "",
+            r#"{"error":"bad_query"}"#,
+        ),
+    ] {
+        sees(
+            &rt,
+            alloc,
+            &Answer::No(refusal),
+            false,
+            Told(status, length, lines),
+            body,
+        )?;
+    }
+    sees_changes(&rt, alloc)?;
+    sees_closures(&rt, alloc)?;
+    sees_walks(&rt, alloc)?;
+    sees_that_none_is(&rt, alloc)?;
+    sees_a_place(&rt, alloc)?;
+    sees_names(&rt, alloc)?;
+    sees_places(&rt, alloc)?;
+    sees_findings(&rt, alloc)?;
     Ok(())
 }

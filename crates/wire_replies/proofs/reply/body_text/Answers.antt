@@ -1,5 +1,4 @@
-use Rattle.std.proofs.Common.{◌≡◌, ◌∙◌, List, ap}
-use Rattle.json.specs.Print.{print}
+use Rattle.std.proofs.Common.{◌∙◌}
 use Rattle.serde_json.proofs.Texts.{print-outline}
 use Rattle.wire_replies.proofs.Lists.{whole}
 use Rattle.wire_replies.proofs.reply.body_text.Goals as goal

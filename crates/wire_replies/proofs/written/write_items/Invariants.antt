@@ -1,4 +1,4 @@
-use Rattle.std.proofs.Common.{◌≡◌, ◌++◌, take, flat_map}
+use Rattle.std.proofs.Common.{take, flat_map}
 use Rattle.wire_replies.specs.Tokens.{Adds, data_tokens}
 use Rattle.wire_replies.proofs.written.write_items.Given as goal
 
