@@ -10,8 +10,8 @@ use feature_rows::Index;
 use std::alloc::Global;
 use std::test::Fail;
 use venue_types::{
-    AmenityRow, AnchorRow, FeatureId, Features, Finding, List, OutOfMemory, Point, Shape, Text,
-    Touches, UnitRow,
+    AmenityRow, AnchorRow, FeatureId, Features, List, OutOfMemory, Point, Shape, Text, Touches,
+    UnitRow,
 };
 
 const MANY: usize = 20_000;
@@ -153,105 +153,130 @@ fn station_units(alloc: Global) -> Result<List<UnitRow>, OutOfMemory> {
     Ok(units)
 }
 
+/// The station's rows, where its one amenity names these units.
+fn station_rows(alloc: Global, named: &[u128]) -> Result<Option<Rows>, OutOfMemory> {
+    let amenity = amenity(alloc, ids(alloc, named)?)?;
+    let amenities = List::from_vec(vec![in alloc; amenity]?);
+    let anchors = List::from_vec(vec![in alloc; anchor(0x305), anchor(0x400)]?);
+    let units = station_units(alloc)?;
+    let touches = station_touches(alloc)?;
+    rows_of(alloc, &features(alloc, amenities, anchors, units), &touches)
+}
+
+/// The numbers of members, and the indexes of the units.
+fn counts(alloc: Global, rows: &Rows) -> Result<Vec<(usize, u32)>, OutOfMemory> {
+    let mut counts = Vec::new(alloc);
+    for w in 0..rows.len() {
+        counts.push((rows.row(w).len(), rows.unit_index(w)))?;
+    }
+    Ok(counts)
+}
+
 #[test]
 fn counts_the_station_s_members(rt: HostRuntime) -> Result<(), Fail> {
-    let alloc = rt.alloc();
-    let counts: [usize; 12] = [14, 2, 2, 2, 2, 3, 2, 6, 2, 2, 2, 2];
-    let indexes: [u32; 12] = [0, 1, 2, 3, 4, 5, 6, 8, 9, 10, 11, 12];
+    let want = [
+        (14, 0),
+        (2, 1),
+        (2, 2),
+        (2, 3),
+        (2, 4),
+        (3, 5),
+        (2, 6),
+        (6, 8),
+        (2, 9),
+        (2, 10),
+        (2, 11),
+        (2, 12),
+    ];
+    // The fifth opening, behind the amenity and the anchors: sixth member of the concourse, second of the room.
+    let fifth = [
+        Membership { unit: 0, place: 5 },
+        Membership { unit: 5, place: 1 },
+    ];
     // What the one amenity names: a unit, the same twice, and between them a column.
     let table: [&[u128]; 3] = [&[0x300], &[0x300, 0x300], &[0x300, 0x307, 0x300]];
     for named in table {
-        let mut amenities = List::new(alloc);
-        amenities.push(amenity(alloc, ids(alloc, named)?)?)?;
-        let anchors = List::from_vec(vec![in alloc; anchor(0x305), anchor(0x400)]?);
-        let folder = features(alloc, amenities, anchors, station_units(alloc)?);
-        let Some(rows) = rows_of(alloc, &folder, &station_touches(alloc)?)? else {
-            return Err(Fail::new("an identifier stands twice"));
-        };
-        assert_eq!(rt; rows.len(), 12);
-        for w in 0..rows.len() {
-            assert_eq!(rt;
-                counts.get(w as usize).copied(),
-                Some(rows.row(w).len()),
-                "{w}"
-            );
-            assert_eq!(rt;
-                indexes.get(w as usize).copied(),
-                Some(rows.unit_index(w)),
-                "{w}"
-            );
+        if let Some(rows) = station_rows(rt.alloc(), named)? {
+            let counts = counts(rt.alloc(), &rows)?;
+            assert!(rt; counts.as_slice() == want.as_slice());
+            assert!(rt; rows.memberships(7) == fifth.as_slice());
+            assert!(rt; rows.memberships(31).is_empty());
+        } else {
+            panic!(rt; "an identifier stands twice");
         }
-        // The fifth opening, behind the amenity and the anchors: fifth door of the concourse, second member of the room.
-        let fifth = rows.memberships(7);
-        assert_eq!(rt; fifth.len(), 2);
-        assert_eq!(rt;
-            fifth.get(0).copied(),
-            Some(Membership { unit: 0, place: 5 })
-        );
-        assert_eq!(rt;
-            fifth.get(1).copied(),
-            Some(Membership { unit: 5, place: 1 })
-        );
-        assert_eq!(rt; rows.memberships(31).len(), 0);
     }
     Ok(())
 }
 
-/// Units of so many members each, behind a column, one of them a moving walkway.
-fn crowd(alloc: Global, counts: &[usize]) -> Result<Features, OutOfMemory> {
+/// Units behind a column, one of them a moving walkway.
+fn crowd_units(alloc: Global, count: usize) -> Result<List<UnitRow>, OutOfMemory> {
     let mut units = List::new(alloc);
     units.push(unit(alloc, 0, "column")?)?;
-    for k in 0..counts.len() {
+    for k in 0..count {
         let category = if k == 1 { "movingwalkway" } else { "room" };
         units.push(unit(alloc, k as u128 + 1, category)?)?;
     }
+    Ok(units)
+}
+
+/// The units that are to have more members than this.
+fn named_by(
+    alloc: Global,
+    number: usize,
+    counts: &[usize],
+) -> Result<List<FeatureId>, OutOfMemory> {
+    let mut named = List::new(alloc);
+    for (k, count) in counts.iter().enumerate() {
+        if number < *count {
+            named.push(FeatureId(k as u128 + 1))?;
+        }
+    }
+    Ok(named)
+}
+
+/// The rows of units of so many members each: amenities that name them, and they themselves.
+fn crowd_rows(alloc: Global, counts: &[usize]) -> Result<Option<Rows>, OutOfMemory> {
+    let units = crowd_units(alloc, counts.len())?;
     let mut amenities = List::new(alloc);
     for number in 1..4_097 {
-        let mut named = List::new(alloc);
-        for (k, count) in counts.iter().enumerate() {
-            if number < *count {
-                named.push(FeatureId(k as u128 + 1))?;
-            }
-        }
-        amenities.push(amenity(alloc, named)?)?;
+        amenities.push(amenity(alloc, named_by(alloc, number, counts)?)?)?;
     }
-    Ok(features(alloc, amenities, List::new(alloc), units))
+    let touches = Touches {
+        rows: List::new(alloc),
+    };
+    rows_of(
+        alloc,
+        &features(alloc, amenities, List::new(alloc), units),
+        &touches,
+    )
 }
 
 #[test]
 fn tells_the_first_limit(rt: HostRuntime) -> Result<(), Fail> {
-    let alloc = rt.alloc();
-    let told = |rule: u8, index: u32| Finding {
-        rule,
-        file: 15,
-        index,
-        member: 0,
-    };
-    let table: [(&[usize], Option<Crowding>, Option<Finding>); 4] = [
+    let table: [(&[usize], Option<Crowding>, Option<(u8, u32)>); 4] = [
         (&[4_096], None, None),
         (
             &[4_096, 4_097, 4_097],
             Some(Crowding::Members(2)),
-            Some(told(34, 2)),
+            Some((34, 2)),
         ),
         (&[3_162, 3_162, 59, 5, 2, 1, 1], None, None),
         (
             &[3_162, 3_162, 59, 5, 2, 1, 1, 1],
             Some(Crowding::Squares),
-            Some(told(35, 0)),
+            Some((35, 0)),
         ),
     ];
-    for (counts, limit, finding) in table {
-        let touches = Touches {
-            rows: List::new(alloc),
-        };
-        let Some(rows) = rows_of(alloc, &crowd(alloc, counts)?, &touches)? else {
-            return Err(Fail::new("an identifier stands twice"));
-        };
-        assert_eq!(rt; first_crowding(&rows), limit, "{counts:?}");
-        let findings = limit_findings(alloc, &rows)?;
-        assert_eq!(rt; findings.get(0).copied(), finding, "{counts:?}");
-        assert_eq!(rt; findings.len(), finding.is_some() as usize, "{counts:?}");
+    for (counts, limit, told) in table {
+        if let Some(rows) = crowd_rows(rt.alloc(), counts)? {
+            assert!(rt; first_crowding(&rows) == limit);
+            let findings = limit_findings(rt.alloc(), &rows)?;
+            assert!(rt; findings.len() == told.is_some() as usize);
+            let first = findings.get(0).map(|finding| (finding.rule, finding.index));
+            assert!(rt; first == told);
+        } else {
+            panic!(rt; "an identifier stands twice");
+        }
     }
     Ok(())
 }
