@@ -8,3 +8,4 @@ pub mod Bounds
 pub mod Numbering
 pub mod Views
 pub mod Noting
+pub mod Making

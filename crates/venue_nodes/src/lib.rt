@@ -11,6 +11,8 @@ mod numbers;
 mod placing;
 mod rules;
 mod spots;
+#[cfg(test)]
+mod tests;
 mod touching;
 
 pub use node_laws::{few_law, number_law, spot_law};
