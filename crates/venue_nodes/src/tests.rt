@@ -3,13 +3,16 @@
 ghost use Rattle.std.specs.Prelude.{◌≡◌, All, IfOk, length};
 ghost use Rattle.plane_exact.specs.Figure.{vertices};
 ghost use Rattle.feature_rows.specs.Sound.{IsOnEarth};
+ghost use Rattle.venue_types.specs.declared.features.AnchorRow.{AnchorRow as AnAnchor};
 ghost use Rattle.venue_types.specs.declared.features.OpeningRow.{OpeningRow as AnOpening};
 ghost use Rattle.venue_types.specs.declared.features.UnitRow.{UnitRow as AUnit};
 ghost use Rattle.venue_nodes.specs.Bounds.{IsPlaced};
-ghost use Rattle.venue_nodes.specs.Nodes.{opening as of_opening, unit as of_unit};
+ghost use Rattle.venue_nodes.specs.Making.{CanPlace};
+ghost use Rattle.venue_nodes.specs.Nodes.{anchor as of_anchor, opening as of_opening, unit as of_unit};
 
 use crate::nodes::Nodes;
 use std::alloc::Global;
+use std::process::Abort;
 use std::test::Fail;
 use venue_types::{
     AmenityRow, AnchorRow, FeatureId, Features, Line, List, OccupantRow, OpeningRow, OutOfMemory,
@@ -54,6 +57,38 @@ fn square(alloc: Global, low: (i32, i32), high: (i32, i32)) -> Result<Shape, Out
     })
 }
 
+/// Anchors of these numbers.
+fn anchors(alloc: Global, table: &[(u128, (i32, i32))]) -> Result<List<AnchorRow>, OutOfMemory>
+    ensures number { IfOk result (λ rows. length rows ≡ length table.now) }
+    ensures placed { IfOk result (All (λ (row : AnAnchor). IsPlaced (of_anchor row))) }
+{
+    let mut rows = Vec::new(alloc);
+    for row in table {
+        rows.push(AnchorRow {
+            id: FeatureId(row.0),
+            address: None,
+            unit: FeatureId(0x300),
+            point: at(row.1),
+        })?;
+    }
+    Ok(List::from_vec(rows))
+}
+
+fn opening(id: u128, points: List<Point>) -> OpeningRow
+    requires { All IsOnEarth points }
+    ensures { IsPlaced (of_opening result) }
+{
+    OpeningRow {
+        id: FeatureId(id),
+        level: FeatureId(0x10),
+        line: Line { points },
+        revolving: false,
+        turnstile: false,
+        marked: false,
+        out: false,
+    }
+}
+
 /// Openings of these numbers, each from a place to a place.
 fn openings(
     alloc: Global,
@@ -63,20 +98,26 @@ fn openings(
     ensures placed { IfOk result (All (λ (row : AnOpening). IsPlaced (of_opening row))) }
 {
     let mut rows = Vec::new(alloc);
-    for (id, from, to) in table {
-        rows.push(OpeningRow {
-            id: FeatureId(*id),
-            level: FeatureId(0x10),
-            line: Line {
-                points: points(alloc, &[*from, *to])?,
-            },
-            revolving: false,
-            turnstile: false,
-            marked: false,
-            out: false,
-        })?;
+    for row in table {
+        let line = points(alloc, &[row.1, row.2])?;
+        rows.push(opening(row.0, line))?;
     }
     Ok(List::from_vec(rows))
+}
+
+fn unit(alloc: Global, id: u128, category: Text, shape: Shape) -> UnitRow
+    requires { All IsOnEarth (vertices shape) }
+    ensures { IsPlaced (of_unit result) }
+{
+    UnitRow {
+        id: FeatureId(id),
+        level: FeatureId(0x10),
+        shape,
+        display: None,
+        category,
+        restricted: false,
+        name: List::new(alloc),
+    }
 }
 
 /// Units of these numbers and categories, each a box.
@@ -88,17 +129,10 @@ fn units(
     ensures placed { IfOk result (All (λ (row : AUnit). IsPlaced (of_unit row))) }
 {
     let mut rows = Vec::new(alloc);
-    for (id, category, low, high) in table {
-        let category = String::from_str(alloc, category)?;
-        rows.push(UnitRow {
-            id: FeatureId(*id),
-            level: FeatureId(0x10),
-            shape: square(alloc, *low, *high)?,
-            display: None,
-            category: Text::from_string(category),
-            restricted: false,
-            name: List::new(alloc),
-        })?;
+    for row in table {
+        let category = Text::from_string(String::from_str(alloc, row.1)?);
+        let shape = square(alloc, row.2, row.3)?;
+        rows.push(unit(alloc, row.0, category, shape))?;
     }
     Ok(List::from_vec(rows))
 }
@@ -124,14 +158,27 @@ fn occupants(alloc: Global, table: &[(u128, u128)]) -> Result<List<OccupantRow>,
     ensures { IfOk result (λ rows. length rows ≡ length table.now) }
 {
     let mut rows = Vec::new(alloc);
-    for (id, anchor) in table {
+    for row in table {
         rows.push(OccupantRow {
-            id: FeatureId(*id),
-            anchor: FeatureId(*anchor),
+            id: FeatureId(row.0),
+            anchor: FeatureId(row.1),
             name: List::new(alloc),
         })?;
     }
     Ok(List::from_vec(rows))
+}
+
+fn amenity(alloc: Global, id: u128, place: (i32, i32)) -> Result<AmenityRow, OutOfMemory>
+    ensures { IfOk result (λ row. IsOnEarth row.point) }
+{
+    Ok(AmenityRow {
+        id: FeatureId(id),
+        address: None,
+        units: List::new(alloc),
+        point: at(place),
+        category: Text::from_string(String::from_str(alloc, "restroom")?),
+        name: List::new(alloc),
+    })
 }
 
 static OPENINGS: [(u128, (i32, i32), (i32, i32)); 16] = [
@@ -169,33 +216,14 @@ static UNITS: [(u128, &str, (i32, i32), (i32, i32)); 13] = [
     (0x404, "ramp", (70, 40), (74, 55)),
 ];
 
-#[test]
-fn a_station_has_its_nodes(rt: HostRuntime) -> Result<(), Fail> {
-    let alloc = rt.alloc();
-    let amenity = AmenityRow {
-        id: FeatureId(0x31),
-        address: None,
-        units: List::new(alloc),
-        point: at((30, 25)),
-        category: Text::from_string(String::from_str(alloc, "restroom")?),
-        name: List::new(alloc),
-    };
-    let first = AnchorRow {
-        id: FeatureId(0x41),
-        address: None,
-        unit: FeatureId(0x305),
-        point: at((22, 4)),
-    };
-    let second = AnchorRow {
-        id: FeatureId(0x42),
-        address: None,
-        unit: FeatureId(0x400),
-        point: at((22, 20)),
-    };
-    let features = Features {
+fn station(alloc: Global) -> Result<Features, OutOfMemory>
+    ensures { IfOk result CanPlace }
+{
+    let restroom = amenity(alloc, 0x31, (30, 25))?;
+    Ok(Features {
         addresses: List::new(alloc),
-        amenities: List::from_vec(vec![in alloc; amenity]?),
-        anchors: List::from_vec(vec![in alloc; first, second]?),
+        amenities: List::from_vec(vec![in alloc; restroom]?),
+        anchors: anchors(alloc, &[(0x41, (22, 4)), (0x42, (22, 20))])?,
         buildings: List::new(alloc),
         details: List::new(alloc),
         fixtures: List::new(alloc),
@@ -209,35 +237,43 @@ fn a_station_has_its_nodes(rt: HostRuntime) -> Result<(), Fail> {
         sections: List::new(alloc),
         units: units(alloc, &UNITS)?,
         venues: List::new(alloc),
-    };
-    let nodes = Nodes::placed(alloc, &features)?;
+    })
+}
+
+/// A feature, its node, and its number among what can be closed.
+static WANTED: [(u128, Option<u32>, Option<u32>); 10] = [
+    (0x31, Some(0), None),
+    (0x51, Some(1), None),
+    (0x42, Some(2), None),
+    (0x52, Some(2), None),
+    (0x101, Some(3), Some(0)),
+    (0x300, Some(19), Some(20)),
+    (0x404, Some(30), Some(32)),
+    (0x307, None, Some(27)),
+    (0x21, None, Some(16)),
+    (0x10, None, None),
+];
+
+fn judge(rt: &impl Abort, nodes: &Nodes) {
+    for (id, node, closable) in &WANTED {
+        assert_eq!(rt; nodes.node_of(FeatureId(*id)), *node, "{id}");
+        assert_eq!(rt; nodes.closable(FeatureId(*id)), *closable, "{id}");
+    }
     assert_eq!(rt; nodes.len(), 31);
     assert_eq!(rt; nodes.closables(), 33);
-    // A feature, its node, its number among what can be closed.
-    let table: [(u128, Option<u32>, Option<u32>); 10] = [
-        (0x31, Some(0), None),
-        (0x51, Some(1), None),
-        (0x42, Some(2), None),
-        (0x52, Some(2), None),
-        (0x101, Some(3), Some(0)),
-        (0x300, Some(19), Some(20)),
-        (0x404, Some(30), Some(32)),
-        (0x307, None, Some(27)),
-        (0x21, None, Some(16)),
-        (0x10, None, None),
-    ];
-    for (id, node, closable) in table {
-        assert_eq!(rt; nodes.node_of(FeatureId(id)), node, "{id}");
-        assert_eq!(rt; nodes.closable(FeatureId(id)), closable, "{id}");
-    }
-    if nodes.len() > 19 && nodes.closables() > 16 {
-        let hall = nodes.node(19);
-        assert_eq!(rt; hall.id, FeatureId(0x300));
-        assert_eq!(rt;
-            (hall.spot.x, hall.spot.y),
-            (20_001_000_000, 100_000_500_000)
-        );
-        assert_eq!(rt; nodes.closable_id(16), FeatureId(0x21));
-    }
+    let hall = nodes.node(19);
+    assert_eq!(rt; hall.id, FeatureId(0x300));
+    assert_eq!(rt;
+        (hall.spot.x, hall.spot.y),
+        (20_001_000_000, 100_000_500_000)
+    );
+    assert_eq!(rt; nodes.closable_id(16), FeatureId(0x21));
+}
+
+#[test]
+fn a_station_has_its_nodes(rt: HostRuntime) -> Result<(), Fail> {
+    let features = station(rt.alloc())?;
+    let nodes = Nodes::placed(rt.alloc(), &features)?;
+    judge(&rt, &nodes);
     Ok(())
 }
