@@ -9,3 +9,4 @@ pub mod Assembling
 pub mod Spread
 pub mod Placed
 pub mod Remarks
+pub mod Once
