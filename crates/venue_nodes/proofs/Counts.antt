@@ -10,6 +10,7 @@ use Rattle.venue_types.specs.declared.features.RelationshipRow.{RelationshipRow}
 use Rattle.venue_types.specs.declared.features.UnitRow.{UnitRow}
 use Rattle.imdf_access.specs.Categories.{is_walkable}
 use Rattle.feature_rows.specs.Sound.{AreSound}
+use Rattle.venue_nodes.specs.Making.{AreFew}
 use Rattle.venue_nodes.specs.Nodes.{amenity, anchor, opening, unit, node_of_row, node_rows, nodes, closables, walkable_units}
 
 kept_one : {X : Type 0} (b : Bool) (x : X) (ys xs : List X) → length ys ≤ length xs → length (cond b (x ∷ ys) ys) ≤ length (x ∷ xs)
@@ -25,12 +26,8 @@ kept_few test (x ∷ xs) = kept_one (test x) x (filter test xs) xs (kept_few tes
 joined : {X : Type 0} (a b c d : List X) (m : ℕ) → length a + length b + length c + length d ≤ m → length (a ++ b ++ c ++ d) ≤ m
 joined a b c d m h = omega (arith, length-append (a ++ b ++ c) d, length-append (a ++ b) c, length-append a b)
 
--- features of the files that have nodes or can be closed
-pub record AreFew (features : Features) : Type 0 where
-  pub some : length features.amenities + length features.anchors + length features.occupants + length features.openings + length features.relationships + length features.units ≤ 100000
-
-pub few : (features : Features) → AreSound features → AreFew features
-few features sound =
+pub are_few : (features : Features) → AreSound features → AreFew features
+are_few features sound =
     let a = length-map features.amenities (λ (row : AmenityRow). row.id) in
     let b = length-map features.anchors (λ (row : AnchorRow). row.id) in
     let c = length-map features.occupants (λ (row : OccupantRow). row.id) in
@@ -40,10 +37,10 @@ few features sound =
     let g = sound.few_features in
     record { some = omega arith }
 
-pub few_nodes : (features : Features) → AreSound features → length (nodes features) ≤ 100000
+pub few_nodes : (features : Features) → AreFew features → length (nodes features) ≤ 100000
 unfolding nodes node_rows
-few_nodes features sound =
-    let h = (few features sound).some in
+few_nodes features few =
+    let h = few.some in
     let a = length-map features.amenities amenity in
     let b = length-map features.anchors anchor in
     let c = length-map features.openings opening in
@@ -53,14 +50,14 @@ few_nodes features sound =
     let f = length-map (node_rows features) node_of_row in
     omega arith
 
-pub few_closables : (features : Features) → AreSound features → length (closables features) ≤ 100000
+pub few_closables : (features : Features) → AreFew features → length (closables features) ≤ 100000
 unfolding closables
-few_closables features sound =
-    let h = (few features sound).some in
+few_closables features few =
+    let h = few.some in
     let a = length-map features.openings (λ (row : OpeningRow). row.id) in
     let b = length-map features.relationships (λ (row : RelationshipRow). row.id) in
     let c = length-map features.units (λ (row : UnitRow). row.id) in
     omega (arith, length-append (map (λ (row : OpeningRow). row.id) features.openings ++ map (λ (row : RelationshipRow). row.id) features.relationships) (map (λ (row : UnitRow). row.id) features.units), length-append (map (λ (row : OpeningRow). row.id) features.openings) (map (λ (row : RelationshipRow). row.id) features.relationships))
 
-pub few_occupants : (features : Features) → AreSound features → length features.occupants ≤ 100000
-few_occupants features sound = let h = (few features sound).some in omega arith
+pub few_occupants : (features : Features) → AreFew features → length features.occupants ≤ 100000
+few_occupants features few = let h = few.some in omega arith

@@ -20,7 +20,7 @@ tested : (b : Bool) → (b ≡ true) ⊎ (b ≡ false)
 tested true = inl refl
 tested false = inr refl
 
-found_at : (ids : List FeatureId) (id : FeatureId) (n k : ℕ) → slice_get ids k ≡ Some id → ((j : ℕ) → slice_get ids j ≡ Some id → k ≤ j) → position_from (λ other. is_same other id) n ids ≡ Some (n + k)
+pub found_at : (ids : List FeatureId) (id : FeatureId) (n k : ℕ) → slice_get ids k ≡ Some id → ((j : ℕ) → slice_get ids j ≡ Some id → k ≤ j) → position_from (λ other. is_same other id) n ids ≡ Some (n + k)
 found_at [] id n k at first = cc
 found_at (x ∷ xs) id n zero at first =
     let here : is_same x id ≡ true = id_same x id (same_Some x id at) in

@@ -17,6 +17,8 @@ use Rattle.feature_rows.specs.Sound.{AreSound, IsOnEarth}
 use Rattle.report_laws.proofs.Adding.{at_member, at_map, member_at}
 use Rattle.report_laws.proofs.Passes.{Contains-flat_map}
 use Rattle.venue_nodes.specs.Bounds.{IsPlaced}
+use Rattle.venue_nodes.specs.Making.{CanPlace}
+use Rattle.venue_nodes.proofs.Counts.{are_few}
 use Rattle.venue_nodes.specs.Nodes.{amenity, anchor, opening, unit}
 
 pub Contains-map : {X Y : Type 0} (f : X → Y) (xs : List X) (x : X) → Contains xs x → Contains (map f xs) (f x)
@@ -50,18 +52,27 @@ all_of P xs h = λ k d within. h (get_or xs k d) (Contains-get_or xs k d within)
 on_earth : (features : Features) → AreSound features → (p : Point) → Contains (judged_positions features) p → IsOnEarth p
 on_earth features sound p h = All-contains IsOnEarth (judged_positions features) p sound.on_earth h
 
-pub amenities_placed : (features : Features) → AreSound features → All (λ (row : AmenityRow). IsPlaced (amenity row)) features.amenities
+amenities_placed : (features : Features) → AreSound features → All (λ (row : AmenityRow). IsPlaced (amenity row)) features.amenities
 amenities_placed features sound = all_of (λ (row : AmenityRow). IsPlaced (amenity row)) features.amenities (λ row own. on_earth features sound row.point (amenity_point features row own))
 
-pub anchors_placed : (features : Features) → AreSound features → All (λ (row : AnchorRow). IsPlaced (anchor row)) features.anchors
+anchors_placed : (features : Features) → AreSound features → All (λ (row : AnchorRow). IsPlaced (anchor row)) features.anchors
 anchors_placed features sound = all_of (λ (row : AnchorRow). IsPlaced (anchor row)) features.anchors (λ row own. on_earth features sound row.point (anchor_point features row own))
 
-pub openings_placed : (features : Features) → AreSound features → All (λ (row : OpeningRow). IsPlaced (opening row)) features.openings
+openings_placed : (features : Features) → AreSound features → All (λ (row : OpeningRow). IsPlaced (opening row)) features.openings
 openings_placed features sound = all_of (λ (row : OpeningRow). IsPlaced (opening row)) features.openings (λ row own.
     all_of IsOnEarth row.line.points (λ p h. on_earth features sound p (opening_point features row p own h)))
 
-pub units_placed : (features : Features) → AreSound features → All (λ (row : UnitRow). IsPlaced (unit row)) features.units
+units_placed : (features : Features) → AreSound features → All (λ (row : UnitRow). IsPlaced (unit row)) features.units
 units_placed features sound = all_of (λ (row : UnitRow). IsPlaced (unit row)) features.units (λ row own.
     All-append IsOnEarth (vertices row.shape) (display_of row)
     (all_of IsOnEarth (vertices row.shape) (λ p h. on_earth features sound p (unit_vertex features row p own h)))
     (all_of IsOnEarth (display_of row) (λ p h. on_earth features sound p (unit_display features row p own h))))
+
+pub placeable : (features : Features) → AreSound features → CanPlace features
+placeable features sound = record {
+  few = are_few features sound;
+  amenities = amenities_placed features sound;
+  anchors = anchors_placed features sound;
+  openings = openings_placed features sound;
+  units = units_placed features sound;
+}

@@ -16,3 +16,4 @@ pub mod Spread
 pub mod Placed
 pub mod Remarks
 pub mod Folder
+pub mod Once

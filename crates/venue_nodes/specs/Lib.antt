@@ -14,3 +14,4 @@ pub mod Bounds
 pub mod Numbering
 pub mod Views
 pub mod Noting
+pub mod Making

@@ -18,6 +18,8 @@ mod numbers;
 mod placing;
 mod rules;
 mod spots;
+#[cfg(test)]
+mod tests;
 mod touching;
 mod walkables;
 

@@ -2,10 +2,10 @@
 
 ghost use Rattle.std.specs.Prelude.{◌≡◌, ◌++◌, All, OnOk, IfOk, map, filter};
 ghost use Rattle.venue_types.specs.declared.features.UnitRow.{UnitRow as AUnit};
-ghost use Rattle.feature_rows.specs.Sound.{AreSound};
 ghost use Rattle.imdf_access.specs.Categories.{is_walkable};
 ghost use Rattle.venue_nodes.specs.Nodes.{NodeRow, unit as of_unit, node_of_row, nodes};
 ghost use Rattle.venue_nodes.specs.Bounds.{IsPlaced};
+ghost use Rattle.venue_nodes.specs.Making.{CanPlace};
 
 use crate::spots::{line_middle, middle, unit_spot};
 use imdf_access::walkable;
@@ -105,7 +105,7 @@ fn add_unit_nodes(nodes: &mut Vec<Node>, units: &[UnitRow]) -> Result<(), OutOfM
 
 /// The nodes of the features, in their order.
 pub(crate) fn nodes_of(alloc: Global, features: &Features) -> Result<Vec<Node>, OutOfMemory>
-    requires { AreSound features.now }
+    requires { CanPlace features.now }
     ensures { IfOk result (λ made. made.items ≡ nodes features.now) }
 {
     let mut made = Vec::new(alloc);

@@ -5,6 +5,7 @@ ghost use Rattle.venue_types.specs.declared.feature_id.FeatureId.{FeatureId};
 ghost use Rattle.venue_types.specs.declared.features.Features.{Features};
 ghost use Rattle.venue_types.specs.declared.link.Node.{Node};
 ghost use Rattle.feature_rows.specs.Figures.{judged_positions};
+ghost use Rattle.feature_rows.specs.Rows.{HaveOwnIds};
 ghost use Rattle.feature_rows.specs.Sound.{AreSound};
 ghost use Rattle.plane_exact.specs.Figure.{AllClose};
 ghost use Rattle.plane_exact.specs.Plane.{IsCloseDoubled};
@@ -22,8 +23,10 @@ pub fn few_law()
     ensures closables { (features : Features) → AreSound features → length (closables features) ≤ 400000 }
 {}
 
-/// The number of a place is that of a node, and at the number of what can be closed stands its identifier.
+/// The number of a place is that of a node. What can be closed has the number at which its identifier stands, and no other
+/// where identifiers are its own.
 pub fn number_law()
     ensures place { (features : Features) (id : FeatureId) (n : ℕ) → place_of features id ≡ Some n → n < length (nodes features) }
     ensures closable { (features : Features) (id : FeatureId) (k : ℕ) → number_among (closables features) id ≡ Some k → slice_get (closables features) k ≡ Some id }
+    ensures own { (features : Features) (id : FeatureId) (k : ℕ) → HaveOwnIds features → slice_get (closables features) k ≡ Some id → number_among (closables features) id ≡ Some k }
 {}

@@ -2,6 +2,7 @@
 
 ghost use Rattle.std.specs.Prelude.{◌≤◌, length};
 ghost use Rattle.feature_rows.specs.Sound.{AreSound};
+ghost use Rattle.venue_nodes.specs.Making.{CanPlace};
 
 use crate::ids::{anchors_of, closables_of, ids_of};
 use crate::making::nodes_of;
@@ -30,6 +31,14 @@ impl Nodes {
     /// Of the features of a folder. Takes n log n time, and some 100 bytes a feature.
     pub fn of(alloc: Global, features: &Features) -> Result<Nodes, OutOfMemory>
         requires { AreSound features.now }
+        ensures { IfOk result (AreNodes features.now) }
+    {
+        Nodes::placed(alloc, features)
+    }
+
+    /// The same, of rows of which only that is known that it takes.
+    pub(crate) fn placed(alloc: Global, features: &Features) -> Result<Nodes, OutOfMemory>
+        requires { CanPlace features.now }
         ensures { IfOk result (AreNodes features.now) }
     {
         let list = nodes_of(alloc, features)?;

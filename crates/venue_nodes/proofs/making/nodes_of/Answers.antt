@@ -1,18 +1,17 @@
 use Rattle.venue_nodes.proofs.Joining.{nodes_joined}
-use Rattle.venue_nodes.proofs.Judged.{amenities_placed, anchors_placed, openings_placed, units_placed}
 use Rattle.venue_nodes.proofs.making.nodes_of.Goals as goal
 
 pub add_nodes-requires : goal.add_nodes-requires
-add_nodes-requires c = rw c.as_slice.ensures (amenities_placed c.args.features.now c.requires)
+add_nodes-requires c = rw c.as_slice.ensures c.requires.amenities
 
 pub add_nodes-requires-2 : goal.add_nodes-requires-2
-add_nodes-requires-2 c = rw c.as_slice-2.ensures (anchors_placed c.args.features.now c.requires)
+add_nodes-requires-2 c = rw c.as_slice-2.ensures c.requires.anchors
 
 pub add_nodes-requires-3 : goal.add_nodes-requires-3
-add_nodes-requires-3 c = rw c.as_slice-3.ensures (openings_placed c.args.features.now c.requires)
+add_nodes-requires-3 c = rw c.as_slice-3.ensures c.requires.openings
 
 pub add_unit_nodes-requires : goal.add_unit_nodes-requires
-add_unit_nodes-requires c = rw c.as_slice-4.ensures (units_placed c.args.features.now c.requires)
+add_unit_nodes-requires c = rw c.as_slice-4.ensures c.requires.units
 
 pub returns : goal.returns
 returns c =

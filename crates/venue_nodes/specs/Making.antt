@@ -1,0 +1,21 @@
+-- What has to hold of rows so that nodes can be made of them: the code's own machinery.
+use Rattle.std.specs.Prelude.{ℕ, ◌+◌, ◌≤◌, All, length}
+use Rattle.venue_types.specs.declared.features.Features.{Features}
+use Rattle.venue_types.specs.declared.features.AmenityRow.{AmenityRow}
+use Rattle.venue_types.specs.declared.features.AnchorRow.{AnchorRow}
+use Rattle.venue_types.specs.declared.features.OpeningRow.{OpeningRow}
+use Rattle.venue_types.specs.declared.features.UnitRow.{UnitRow}
+use Rattle.venue_nodes.specs.Nodes.{amenity, anchor, opening, unit}
+use Rattle.venue_nodes.specs.Bounds.{IsPlaced}
+
+-- few features are places or can be closed
+pub record AreFew (features : Features) : Type 0 where
+  pub some : length features.amenities + length features.anchors + length features.occupants + length features.openings + length features.relationships + length features.units ≤ 100000
+
+-- few they are, and what nodes are made of lies on the earth
+pub record CanPlace (features : Features) : Type 0 where
+  pub few : AreFew features
+  pub amenities : All (λ (row : AmenityRow). IsPlaced (amenity row)) features.amenities
+  pub anchors : All (λ (row : AnchorRow). IsPlaced (anchor row)) features.anchors
+  pub openings : All (λ (row : OpeningRow). IsPlaced (opening row)) features.openings
+  pub units : All (λ (row : UnitRow). IsPlaced (unit row)) features.units
