@@ -2,3 +2,6 @@ mod Outcomes
 mod Phases
 mod Venues
 mod Planes
+mod Grounds
+mod Noting
+mod Builds

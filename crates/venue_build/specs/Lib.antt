@@ -1,4 +1,5 @@
 pub mod Phases
 pub mod Report
-pub mod Built
 pub mod Places
+pub mod Built
+pub mod Ground

@@ -1,10 +1,12 @@
--- The third phase of rules and the fourth.
+-- The third phase of rules, the fourth and the fifth.
 use Rattle.std.specs.Prelude.{ℕ, ◌⊎◌}
 use Rattle.venue_types.specs.declared.features.Features.{Features}
+use Rattle.venue_types.specs.declared.settings.Settings.{Settings}
 use Rattle.venue_types.specs.declared.finding.Finding.{Finding}
 use Rattle.report_laws.specs.Reports.{First}
 use Rattle.ring_rules.specs.Rules.{BreaksSpread, BreaksInRing}
 use Rattle.contain_rules.specs.Rules.{BreaksHold}
+use Rattle.venue_nodes.specs.Limits.{BreaksLimit}
 
 -- a rule of the fourth phase is broken there
 abbrev pub IsMisplaced : Features → ℕ → Finding → Type 0
@@ -13,3 +15,7 @@ IsMisplaced features tolerance x = BreaksInRing features x ⊎ BreaksHold featur
 -- the third phase, and, where it has nothing, the fourth
 abbrev pub IsPlaneBroken : Features → ℕ → Finding → Type 0
 IsPlaneBroken features tolerance = First (BreaksSpread features) (IsMisplaced features tolerance)
+
+-- the two phases on the plane, and, where they have nothing, the fifth, on how many members units have
+abbrev pub IsGroundBroken : Features → Settings → Finding → Type 0
+IsGroundBroken features settings = First (IsPlaneBroken features settings.contain_tol) (BreaksLimit features settings.border_tol)

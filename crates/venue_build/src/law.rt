@@ -11,6 +11,7 @@ ghost use Rattle.feature_rows.specs.Sound.{AreSound};
 ghost use Rattle.imdf_refs.specs.Laws.{OpeningsHaveLevels, UnitsHaveLevels, AnchorsHaveUnits, AmenitiesHaveUnits, OccupantsHaveAnchors};
 ghost use Rattle.imdf_refs.specs.Rules.{IsMisnamed};
 ghost use Rattle.ring_rules.specs.Rules.{BreaksSpread};
+ghost use Rattle.venue_nodes.specs.Limits.{BreaksLimit};
 ghost use Rattle.venue_build.specs.Phases.{IsMisplaced};
 ghost use Rattle.venue_build.specs.declared.venue.Venue.{Venue as TheVenue};
 ghost use Rattle.venue_build.specs.Built.{IsRejected, IsVenueOf};
@@ -24,13 +25,15 @@ use reading_laws::one_reading_law;
 use ring_rules::no_spread_law;
 
 /// The rows of a venue are sound, and under its settings no phase finds anything in them: each identifier stands for one
-/// feature and each reference names one of its type, all positions lie close, and each figure and place is where it has to be.
+/// feature and each reference names one of its type, all positions lie close, each figure and place is where it has to be, and
+/// the members of units are within their limits.
 pub fn every_venue(venue: &Venue)
     ensures sound { AreSound venue.now.features }
     ensures silent { (x : Finding) → ¬ IsLaterBroken venue.now.features venue.now.settings x }
     ensures named { (x : Finding) → ¬ IsMisnamed venue.now.features x }
     ensures close { (x : Finding) → ¬ BreaksSpread venue.now.features x }
     ensures placed { (x : Finding) → ¬ IsMisplaced venue.now.features venue.now.settings.contain_tol x }
+    ensures roomy { (x : Finding) → ¬ BreaksLimit venue.now.features venue.now.settings.border_tol x }
 {}
 
 /// What the features of a venue name is there: the level of each opening and unit, the unit of each anchor, the units of each

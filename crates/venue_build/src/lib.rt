@@ -3,6 +3,7 @@
 
 mod building;
 mod built;
+mod ground;
 mod law;
 mod plane;
 mod venue;

@@ -9,6 +9,7 @@ mod folder;
 mod holding_rows;
 mod item_rows;
 mod notation;
+mod place_rows;
 mod program;
 mod property_rows;
 mod reference_rows;
@@ -23,6 +24,7 @@ use file_rows::FILES;
 use folder::{Change, Edit, Row, files_of};
 use holding_rows::HOLDING;
 use item_rows::FEATURES;
+use place_rows::{MEMBERS, PLACES};
 use program::ending;
 use property_rows::{REFERENCE_FORMS, VALUE_FORMS};
 use reference_rows::{IDENTIFIERS, REFERENCES, Reference};
@@ -239,6 +241,16 @@ fn broken_rings(rt: HostRuntime) -> Result<(), Fail> {
 #[test]
 fn broken_holding(rt: HostRuntime) -> Result<(), Fail> {
     judge_rows(&rt, rt.alloc(), &HOLDING)
+}
+
+#[test]
+fn places_that_lead_nowhere(rt: HostRuntime) -> Result<(), Fail> {
+    judge_rows(&rt, rt.alloc(), &PLACES)
+}
+
+#[test]
+fn limits_of_members(rt: HostRuntime) -> Result<(), Fail> {
+    judge_bulk(&rt, rt.alloc(), &MEMBERS)
 }
 
 #[test]

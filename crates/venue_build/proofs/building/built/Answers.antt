@@ -1,0 +1,31 @@
+use Rattle.std.proofs.Common.{◌∙◌, ◌⊎◌, List, subst, sym}
+use Rattle.std.specs.Prelude.{Contains}
+use Rattle.venue_types.specs.declared.settings.Settings.{Settings}
+use Rattle.venue_types.specs.declared.finding.Note.{Note}
+use Rattle.report_laws.specs.Reports.{IsNoteList}
+use Rattle.venue_nodes.specs.Unplaced.{IsUnplaced}
+use Rattle.venue_build.specs.Ground.{IsJudged}
+use Rattle.venue_build.specs.Report.{AreValid}
+use Rattle.venue_build.specs.declared.ground.Judged.{Judged}
+use Rattle.venue_build.proofs.building.built.Goals as goal
+
+pub new-requires : goal.new-requires
+new-requires c =
+    let features = c.args.features in
+    let settings = c.args.settings.now in
+    let judged = subst (λ (j : Judged). IsJudged features settings j) c.in-Sound.is c.in_ok-findings.ensures in
+    let valid : AreValid features settings = record { sound = c.requires; unbroken = judged.0 } in
+    subst (λ (s : Settings). AreValid features s) (sym c.in_ok-kept-in-Sound.ensures) valid
+
+pub returns-in_ok-kept-in-Sound : goal.returns-in_ok-kept-in-Sound
+returns-in_ok-kept-in-Sound c =
+    let features = c.args.features in
+    let settings = c.args.settings.now in
+    let judged = subst (λ (j : Judged). IsJudged features settings j) c.in-Sound.is c.in_ok-findings.ensures in
+    record {
+      rows = c.new.ensures.features;
+      settings_given = c.new.ensures.settings ∙ c.in_ok-kept-in-Sound.ensures;
+      silent = judged.0;
+      notes = subst (λ (ns : List Note). IsNoteList (λ x. Contains c.args.noted x ⊎ IsUnplaced features settings.border_tol x) ns)
+          (sym c.new.ensures.notes) c.in_ok-notes-in-Sound.ensures;
+    }

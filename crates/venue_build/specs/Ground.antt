@@ -1,0 +1,48 @@
+-- What the fifth phase makes of rows, and what a venue's rows come to.
+use Rattle.std.specs.Prelude.{◌≡◌, ◌≢◌, ◌⊎◌, List, [], Contains}
+use Rattle.venue_types.specs.declared.features.Features.{Features}
+use Rattle.venue_types.specs.declared.settings.Settings.{Settings}
+use Rattle.venue_types.specs.declared.finding.Finding.{Finding}
+use Rattle.venue_types.specs.declared.finding.Note.{Note}
+use Rattle.venue_types.specs.declared.finding.Report.{Report}
+use Rattle.plane_exact.specs.Opening.{AreTouches}
+use Rattle.report_laws.specs.Reports.{IsReport, IsNoteList, Shortens}
+use Rattle.venue_nodes.specs.Views.{AreNodes}
+use Rattle.venue_nodes.specs.Rows.{AreRowsOf}
+use Rattle.venue_nodes.specs.Unplaced.{IsUnplaced}
+use Rattle.venue_build.specs.declared.built.Built.{Built}
+use Rattle.venue_build.specs.declared.built.Built.TheVariants as built
+use Rattle.venue_build.specs.declared.venue.Venue.{Venue}
+use Rattle.venue_build.specs.declared.ground.Ground.{Ground}
+use Rattle.venue_build.specs.declared.ground.Judged.{Judged}
+use Rattle.venue_build.specs.declared.ground.Judged.TheVariants as judged
+use Rattle.venue_build.specs.Report.{IsLaterBroken}
+
+-- the units that openings touch, the nodes, and the members of units, all of these rows
+pub record IsGround (features : Features) (settings : Settings) (ground : Ground) : Type 0 where
+  pub touches : AreTouches settings.border_tol features ground.touches
+  pub nodes : AreNodes features ground.nodes
+  pub members : AreRowsOf features settings.border_tol ground.members
+
+-- no later phase finds anything, and this is the ground; or one does, and these are its findings
+abbrev pub IsJudged : Features → Settings → Judged → Type 0
+IsJudged features settings (judged.Sound ground) = ((x : Finding) → ¬ IsLaterBroken features settings x) × IsGround features settings ground
+IsJudged features settings (judged.Broken findings) = (findings ≢ []) × IsReport (IsLaterBroken features settings) findings
+
+-- a later phase finds something, and this is its report; or none does, and the venue has these rows, these settings, and as
+-- notes these and what is no place or leads nowhere
+pub record IsSoundVenue (features : Features) (settings : Settings) (noted : List Note) (venue : Venue) : Type 0 where
+  pub rows : venue.features ≡ features
+  pub settings_given : venue.settings ≡ settings
+  pub silent : (x : Finding) → ¬ IsLaterBroken features settings x
+  pub notes : IsNoteList (λ x. Contains noted x ⊎ IsUnplaced features settings.border_tol x) venue.notes
+
+pub record IsLaterReport (features : Features) (settings : Settings) (report : Report) : Type 0 where
+  pub findings : List Finding
+  pub some : findings ≢ []
+  pub all : IsReport (IsLaterBroken features settings) findings
+  pub short : Shortens findings report
+
+abbrev pub IsLaterBuilt : Features → Settings → List Note → Built → Type 0
+IsLaterBuilt features settings noted (built.Rejected report) = IsLaterReport features settings report
+IsLaterBuilt features settings noted (built.Venue venue) = IsSoundVenue features settings noted venue
