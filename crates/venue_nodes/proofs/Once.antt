@@ -1,11 +1,8 @@
 -- Where no two features have the same identifier, each that can be closed stands once among them.
-use Rattle.std.proofs.Common.{◌≡◌, ℕ, zero, suc, ◌+◌, ◌≤◌, List, [], ◌∷◌, ◌++◌, map, length, Some, refl, sym, ap, ◌∙◌, ◌⊎◌, inl, inr, arith}
+use Rattle.std.proofs.Common.{◌≡◌, ℕ, zero, suc, ◌+◌, List, [], ◌∷◌, ◌++◌, length, Some, ap, ◌∙◌, ◌⊎◌, inl, inr, arith}
 use Rattle.std.specs.Prelude.{slice_get}
 use Rattle.venue_types.specs.declared.feature_id.FeatureId.{FeatureId}
 use Rattle.venue_types.specs.declared.features.Features.{Features}
-use Rattle.venue_types.specs.declared.features.OpeningRow.{OpeningRow}
-use Rattle.venue_types.specs.declared.features.RelationshipRow.{RelationshipRow}
-use Rattle.venue_types.specs.declared.features.UnitRow.{UnitRow}
 use Rattle.imdf_schema.specs.declared.files.File.{File}
 use Rattle.imdf_schema.specs.declared.files.File.TheVariants as file
 use Rattle.feature_rows.specs.Indexes.{AreOnce}

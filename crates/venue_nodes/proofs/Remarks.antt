@@ -40,11 +40,6 @@ of_none None true e h = refl
 of_none None false e h = cc
 of_none (Some x) b e h = cc
 
-pub some_of : {X : Type 0} (o : Option X) (b : Bool) → is_some o ≡ not b → b ≡ false → IsSome o
-some_of (Some x) b e h = refl
-some_of None true e h = cc
-some_of None false e h = cc
-
 -- ---- references of a property
 
 pub reference_step : (find : FeatureId → Option ℕ) (index : ℕ) (p : Property) (refs : List Ref) (k : ℕ) (d : Ref) (o : Option ℕ) (nowhere : Bool) (number : ℕ) (note : Note) (a b c : List Note)

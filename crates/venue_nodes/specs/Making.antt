@@ -1,5 +1,5 @@
 -- What has to hold of rows so that nodes can be made of them: the code's own machinery.
-use Rattle.std.specs.Prelude.{ℕ, ◌+◌, ◌≤◌, All, length}
+use Rattle.std.specs.Prelude.{◌+◌, ◌≤◌, All, length}
 use Rattle.venue_types.specs.declared.features.Features.{Features}
 use Rattle.venue_types.specs.declared.features.AmenityRow.{AmenityRow}
 use Rattle.venue_types.specs.declared.features.AnchorRow.{AnchorRow}

@@ -1,6 +1,6 @@
 //! The notes on what is no place.
 
-ghost use Rattle.std.specs.Prelude.{◌≡◌, ℕ, ◌≤◌, OnOk, All, length};
+ghost use Rattle.std.specs.Prelude.{◌≡◌, ◌↔◌, ℕ, ◌≤◌, IsTrue, IsSome, OnOk, All, length};
 ghost use Rattle.venue_types.specs.declared.features.RelationshipRow.{RelationshipRow as ARelationship};
 ghost use Rattle.feature_rows.specs.Sound.{AreSound, element_count};
 ghost use Rattle.plane_exact.specs.Opening.{AreTouches};
@@ -62,7 +62,14 @@ fn note_reference(
     }
 }
 
-/// At each element of a relationship: its origin, its intermediaries, its destination.
+/// Whether the relationship makes a passage.
+fn makes_passage(row: &RelationshipRow) -> bool
+    ensures { IsTrue result ↔ IsSome row.now.kind }
+{
+    row.kind.is_some()
+}
+
+/// At each element of a relationship that makes a passage: its origin, its intermediaries, its destination.
 fn note_elements(
     nodes: &Nodes,
     notes: &mut Vec<Note>,
@@ -72,7 +79,7 @@ fn note_elements(
     requires { element_count row.now ≤ 65 }
     ensures { OnOk result (Adds (LeavesElement (find_place nodes.now) index row.now) notes.old.items notes.new.items) }
 {
-    if row.kind.is_none() {
+    if !makes_passage(row) {
         return Ok(());
     }
     note_reference(nodes, notes, index, Property::Origin, row.origin)?;
