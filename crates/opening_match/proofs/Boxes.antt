@@ -1,6 +1,5 @@
 -- Where the openings and units of the tests lie.
-use Rattle.std.proofs.Common.{◌≡◌, List, [], ◌∷◌, All, subst, sym, length, get_or, refl, arith}
-use Rattle.std.specs.Prelude.{Contains}
+use Rattle.std.proofs.Common.{◌≡◌, List, [], ◌∷◌, All, subst, sym, get_or}
 use Rattle.std.proofs.lemmas.List.Elements.{All-nil, All-append, All-cons, All-contains}
 use Rattle.venue_types.specs.declared.features.OpeningRow.{OpeningRow}
 use Rattle.venue_types.specs.declared.features.UnitRow.{UnitRow}

@@ -1,5 +1,5 @@
 -- A position near a shape lies in its frame or beyond it by no more than the tolerance.
-use Rattle.std.proofs.Common.{◌≡◌, ◌∙◌, ℕ, zero, suc, ◌+◌, ◌*◌, ◌<◌, ◌≤◌, ℤ, pos, ◌+ℤ◌, ◌≤ℤ◌, List, [], ◌∷◌, ◌++◌, length, get_or, take, refl, sym, ap, subst, arith, ◌⊎◌, inl, inr, flat_map, All}
+use Rattle.std.proofs.Common.{◌≡◌, ◌∙◌, ℕ, zero, suc, ◌+◌, ◌*◌, ◌<◌, ◌≤◌, ℤ, pos, ◌+ℤ◌, ◌≤ℤ◌, List, [], ◌∷◌, ◌++◌, length, get_or, take, ap, subst, arith, ◌⊎◌, inl, inr, flat_map, All}
 use Rattle.std.specs.Prelude.{Contains}
 use Rattle.std.proofs.lemmas.List.{take_more, take_all}
 use Rattle.std.proofs.lemmas.List.Concat.{flat_map-append}
@@ -8,7 +8,7 @@ use Rattle.std.proofs.lemmas.Int.{ints}
 use Rattle.venue_types.specs.declared.point.Point.{Point}
 use Rattle.venue_types.specs.declared.point.Ring.{Ring}
 use Rattle.venue_types.specs.declared.point.Shape.{Shape}
-use Rattle.plane_exact.specs.Figure.{Edge, edges, edges_from, ring_edges, ring_points, rings, IsNear, IsNearSome}
+use Rattle.plane_exact.specs.Figure.{edges, edges_from, ring_edges, ring_points, rings, IsNear, IsNearSome}
 use Rattle.plane_bands.specs.Line.{Direction, Longitude, Latitude, coordinate, stretch}
 use Rattle.opening_match.specs.declared.frame.Frame.{Frame}
 use Rattle.opening_match.specs.Frames.{IsFramedAt, IsAtHeight, IsAtWidth, IsFramed, Grows}

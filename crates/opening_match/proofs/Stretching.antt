@@ -1,6 +1,6 @@
 -- Which entries stand between two bounds.
-use Rattle.std.proofs.Common.{◌≡◌, ◌≢◌, ℕ, ◌+◌, ◌-◌, ◌<◌, ◌≤◌, ℤ, pos, ◌+ℤ◌, ◌-ℤ◌, ◌<ℤ◌, ◌≤ℤ◌, List, Bool, true, false, IsTrue, eqb, ltb, length, get_or, take, drop, refl, sym, ap, subst, ◌∙◌, arith, inl, inr}
-use Rattle.std.specs.Prelude.{Contains, ◌==◌, nat_lt, int_lt, ◌&&◌, ◌||◌}
+use Rattle.std.proofs.Common.{◌≡◌, ◌≢◌, ℕ, ◌+◌, ◌-◌, ◌<◌, ◌≤◌, ℤ, pos, ◌+ℤ◌, ◌-ℤ◌, ◌<ℤ◌, ◌≤ℤ◌, List, Bool, true, false, length, get_or, take, drop, sym, ap, subst, ◌∙◌, arith, inl, inr}
+use Rattle.std.specs.Prelude.{◌==◌, nat_lt, int_lt, ◌&&◌, ◌||◌}
 use Rattle.std.specs.List.Sorted.{IsPartitionedBy}
 use Rattle.std.proofs.lemmas.Bool.{cases_lt}
 use Rattle.std.proofs.lemmas.Bool.Decides.{nat_tests}
@@ -10,7 +10,6 @@ use Rattle.venue_types.specs.declared.feature_id.FeatureId.{FeatureId}
 use Rattle.opening_match.specs.declared.entries.Entry.{Entry}
 use Rattle.opening_match.specs.declared.frame.Frame.{Frame}
 use Rattle.opening_match.specs.Entries.{AreRising, IsNotBehind, AreApart}
-use Rattle.opening_match.specs.Frames.{IsAtWidth}
 use Rattle.opening_match.specs.Stretches.{is_before, IsFront, IsStretch}
 use Rattle.opening_match.proofs.Items.{pairs_drop, pairs_take}
 

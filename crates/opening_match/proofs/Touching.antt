@@ -1,5 +1,5 @@
 -- The openings that touch a unit, by what the index and the bands say.
-use Rattle.std.proofs.Common.{◌≡◌, ◌≢◌, ℕ, ◌<◌, ◌≤◌, zero, suc, Bool, true, false, IsTrue, true≢false, eqb, eq-eqb, List, [], ◌∷◌, Some, length, get_or, ◌↔◌, refl, sym, ap, subst, ◌∙◌, arith, inl, inr, All}
+use Rattle.std.proofs.Common.{◌≡◌, ℕ, ◌<◌, Bool, true, false, IsTrue, true≢false, eqb, eq-eqb, List, [], ◌∷◌, Some, length, get_or, ◌↔◌, refl, sym, ap, subst, ◌∙◌, arith, All}
 use Rattle.std.specs.Prelude.{Contains, slice_get}
 use Rattle.std.proofs.lemmas.List.Elements.{All-contains, Contains-get_or, Contains-append_right}
 use Rattle.std.proofs.lemmas.Option.{slice_get_within, same_Some}
@@ -11,16 +11,15 @@ use Rattle.venue_types.specs.declared.features.UnitRow.{UnitRow}
 use Rattle.venue_types.specs.declared.point.Point.{Point}
 use Rattle.venue_types.specs.declared.point.Shape.{Shape}
 use Rattle.plane_exact.specs.Figure.{AllClose, vertices, IsNear}
-use Rattle.plane_exact.specs.Opening.{Touches}
 use Rattle.feature_rows.specs.Figures.{judged_positions}
 use Rattle.feature_rows.specs.Named.{IsUnit}
 use Rattle.opening_match.specs.declared.entries.Entry.{Entry}
 use Rattle.opening_match.specs.declared.frame.Frame.{Frame}
-use Rattle.opening_match.specs.Entries.{IsEntry, AreEntries, start_of}
+use Rattle.opening_match.specs.Entries.{AreEntries, start_of}
 use Rattle.opening_match.specs.Frames.{IsFramed, IsAtHeight}
 use Rattle.opening_match.specs.Stretches.{IsStretch}
 use Rattle.opening_match.specs.Places.{ArePlaces}
-use Rattle.opening_match.specs.Matches.{AreCloseTo, AreBeside, RunsAlong, TouchesAt, AreMatches}
+use Rattle.opening_match.specs.Matches.{AreBeside, RunsAlong, TouchesAt, AreMatches}
 use Rattle.opening_match.proofs.Framing.{LeastLaw, GreatestLaw, near_framed}
 use Rattle.opening_match.proofs.Items.{member_at, some_in, Contains-nil}
 

@@ -1,5 +1,5 @@
 -- Openings and units of the tests, whose positions lie in one box.
-use Rattle.std.specs.Prelude.{◌≤◌, List, All, length}
+use Rattle.std.specs.Prelude.{◌≤◌, All, length}
 use Rattle.venue_types.specs.declared.features.OpeningRow.{OpeningRow}
 use Rattle.venue_types.specs.declared.features.UnitRow.{UnitRow}
 use Rattle.plane_exact.specs.Figure.{vertices}

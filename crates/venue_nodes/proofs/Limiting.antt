@@ -1,5 +1,5 @@
 -- The limits, from rows to units and back.
-use Rattle.std.proofs.Common.{◌≡◌, ℕ, Bool, true, false, ◌+◌, ◌*◌, ◌≤◌, ◌<◌, zero, suc, List, [], ◌∷◌, Option, Some, None, length, map, filter, take, get_or, refl, sym, ap, subst, ◌∙◌, arith, inl, inr}
+use Rattle.std.proofs.Common.{◌≡◌, ℕ, Bool, true, false, ◌+◌, ◌*◌, ◌≤◌, ◌<◌, zero, suc, List, [], ◌∷◌, Option, Some, None, length, map, take, get_or, refl, sym, ap, subst, ◌∙◌, arith, inl, inr}
 use Rattle.std.specs.Prelude.{Contains, All, IsTrue, slice_get, sum_by}
 use Rattle.std.specs.Option.{option_map, option_to_list}
 use Rattle.std.specs.List.Sorted.{IsStrictlySortedBy}
@@ -22,7 +22,7 @@ use Rattle.venue_nodes.specs.declared.rules.LimitRule.TheVariants.{S5, S6}
 use Rattle.venue_nodes.specs.declared.members.Rows.{Rows}
 use Rattle.venue_nodes.specs.Nodes.{walkable_units}
 use Rattle.venue_nodes.specs.Members.{members, places_where}
-use Rattle.venue_nodes.specs.Limits.{IsCrowded, LimitBreaks, BreaksLimit, member_count, square_sum, limit_rule_number}
+use Rattle.venue_nodes.specs.Limits.{IsCrowded, LimitBreaks, BreaksLimit, square_sum, limit_rule_number}
 use Rattle.venue_nodes.specs.Crowds.{Crowds, NoneCrowded, IsFirstFull, IsRoomy, limit_finding, square_of}
 use Rattle.venue_nodes.specs.Rows.{AreRowsOf, row_list, unit_indexes}
 use Rattle.venue_nodes.proofs.Items.{member_at, at_member, at_map, from_map}

@@ -1,5 +1,5 @@
 -- Rows filled node by node.
-use Rattle.std.proofs.Common.{◌≡◌, ◌≢◌, ℕ, ◌+◌, ◌≤◌, ◌<◌, zero, suc, List, [], ◌∷◌, ◌++◌, Some, None, Bool, true, false, cond, eqb, eq-eqb, length, map, take, get_or, set, refl, sym, ap, subst, ◌∙◌, arith, inl, inr, append_assoc, append-nil, length-append}
+use Rattle.std.proofs.Common.{◌≡◌, ◌≢◌, ℕ, ◌+◌, ◌≤◌, ◌<◌, suc, List, [], ◌∷◌, ◌++◌, Some, Bool, true, false, cond, eqb, eq-eqb, length, map, take, get_or, set, refl, sym, ap, subst, ◌∙◌, arith, inl, inr, append_assoc, append-nil}
 use Rattle.std.specs.Prelude.{All, replicate, slice_get}
 use Rattle.std.proofs.lemmas.Bool.{cases_Bool, cases_lt, eqb-true}
 use Rattle.std.proofs.lemmas.List.{get_or_at, set_at, get_or_past, get_or_push, get_or_append_left, length_push, take_more, take_all, length-take-le, length-map, length-take}
@@ -7,11 +7,11 @@ use Rattle.std.proofs.lemmas.Option.{slice_get-get_or, slice_get_within, get_or_
 use Rattle.venue_types.specs.declared.feature_id.FeatureId.{FeatureId}
 use Rattle.venue_nodes.specs.declared.members.Membership.{Membership}
 use Rattle.venue_nodes.specs.Members.{places_where}
-use Rattle.venue_nodes.specs.Standing.{standings, AreStandings}
+use Rattle.venue_nodes.specs.Standing.{standings}
 use Rattle.venue_nodes.specs.Naming.{names, numbers, row_in}
 use Rattle.venue_nodes.specs.Filling.{seat, joined, AreNumbers, AreFilled}
-use Rattle.venue_nodes.proofs.Items.{from_map, at_map}
-use Rattle.venue_nodes.proofs.Places.{places-append, places-push, places_few, places_within}
+use Rattle.venue_nodes.proofs.Items.{from_map}
+use Rattle.venue_nodes.proofs.Places.{places-push, places_few, places_within}
 
 -- the node, where the test holds
 abbrev once : Bool → ℕ → List ℕ

@@ -1,5 +1,5 @@
 -- Rows as they are filled, node by node: the code's own machinery, which no public contract cites.
-use Rattle.std.specs.Prelude.{◌≡◌, ℕ, ◌+◌, List, [], ◌∷◌, ◌++◌, map, length, slice_index_or, slice_set}
+use Rattle.std.specs.Prelude.{◌≡◌, ℕ, List, [], ◌∷◌, ◌++◌, map, length, slice_index_or, slice_set}
 use Rattle.venue_types.specs.declared.feature_id.FeatureId.{FeatureId}
 use Rattle.venue_nodes.specs.declared.members.Membership.{Membership}
 use Rattle.venue_nodes.specs.Naming.{numbers, row_in}

@@ -1,5 +1,5 @@
 -- Lists that lie in one vector, each from a start to an end: the code's own machinery, which no public contract cites.
-use Rattle.std.specs.Prelude.{ℕ, ◌-◌, ◌≤◌, List, All, length, take, drop}
+use Rattle.std.specs.Prelude.{◌-◌, ◌≤◌, List, All, length, take, drop}
 use Rattle.venue_nodes.specs.declared.lists.Span.{Span}
 
 -- the items from the start to the end

@@ -1,4 +1,4 @@
-use Rattle.std.proofs.Common.{◌<◌, ◌≡◌, ℕ, List, Vec, Global, length, All, ap, sym, subst, ◌∙◌, true≢false}
+use Rattle.std.proofs.Common.{◌<◌, ℕ, List, Vec, Global, length, All, sym, subst}
 use Rattle.std.proofs.lemmas.Result.{IfOk-weaker}
 use Rattle.opening_match.specs.Places.{ArePlaces}
 use Rattle.opening_match.specs.Matches.{RunsAlong, AreMatches}

@@ -1,7 +1,6 @@
-use Rattle.std.proofs.Common.{◌≡◌, ◌∙◌, ℕ, List, Vec, Global, take, ap, sym, subst}
+use Rattle.std.proofs.Common.{◌≡◌, ◌∙◌, ℕ, Vec, Global, take, ap, sym, subst}
 use Rattle.std.proofs.lemmas.List.{get_or_default}
 use Rattle.venue_types.specs.declared.features.OpeningRow.{OpeningRow}
-use Rattle.venue_types.specs.declared.point.Point.{Point}
 use Rattle.opening_match.specs.Places.{ArePlaces}
 use Rattle.opening_match.specs.Matches.{RunsAlong}
 use Rattle.opening_match.proofs.Items.{item_at}

@@ -1,4 +1,4 @@
-use Rattle.std.proofs.Common.{◌≡◌, ◌≤◌, length, take, arith, ◌∙◌}
+use Rattle.std.proofs.Common.{◌≡◌, length, take, arith}
 use Rattle.venue_nodes.proofs.Seating.{none_seated, list_within, rows_few, nodes_few, rows_many, step, all_seated}
 use Rattle.venue_nodes.proofs.filling.filled.Goals as goal
 

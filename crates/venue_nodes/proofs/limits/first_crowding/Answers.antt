@@ -1,6 +1,4 @@
-use Rattle.std.proofs.Common.{◌≤◌, ◌<◌, arith, subst, refl, ℕ}
-use Rattle.venue_nodes.specs.Limits.{square_sum}
-use Rattle.venue_nodes.specs.Rows.{row_list}
+use Rattle.std.proofs.Common.{◌≤◌, ◌<◌, subst, refl, ℕ}
 use Rattle.venue_nodes.proofs.Limiting.{first_crowded, none_crowded, squares_are, not_above}
 use Rattle.venue_nodes.proofs.limits.first_crowding.Goals as goal
 

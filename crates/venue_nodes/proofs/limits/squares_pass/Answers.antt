@@ -1,4 +1,4 @@
-use Rattle.std.proofs.Common.{◌≤◌, ◌*◌, ◌+◌, length, arith}
+use Rattle.std.proofs.Common.{◌≤◌, ◌*◌, length, arith}
 use Rattle.venue_nodes.specs.Rows.{row_list}
 use Rattle.venue_nodes.proofs.Limiting.{roomy_at, square_few, sum_on}
 use Rattle.venue_nodes.proofs.limits.squares_pass.Goals as goal

@@ -1,4 +1,4 @@
-use Rattle.std.proofs.Common.{◌≡◌, ◌++◌, ◌∷◌, [], map, take}
+use Rattle.std.proofs.Common.{◌≡◌, ◌++◌, map, take}
 use Rattle.venue_types.specs.declared.features.AmenityRow.{AmenityRow}
 use Rattle.venue_nodes.specs.Naming.{numbers}
 use Rattle.venue_nodes.proofs.naming.add_amenities.Given as goal

@@ -1,4 +1,4 @@
-use Rattle.std.proofs.Common.{◌∙◌, sym, ap, arith}
+use Rattle.std.proofs.Common.{arith}
 use Rattle.std.proofs.lemmas.Grind.{common_steps}
 use Rattle.venue_nodes.specs.Naming.{can_walk}
 use Rattle.venue_nodes.proofs.Places.{places_more}

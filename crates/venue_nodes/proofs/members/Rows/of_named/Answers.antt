@@ -2,11 +2,10 @@ use Rattle.std.proofs.Common.{◌≡◌, ◌≤◌, List, ℕ, length, map, filt
 use Rattle.std.proofs.lemmas.List.{length-map}
 use Rattle.venue_types.specs.declared.feature_id.FeatureId.{FeatureId}
 use Rattle.venue_types.specs.declared.features.UnitRow.{UnitRow}
-use Rattle.imdf_schema.specs.declared.files.File.TheVariants as file
 use Rattle.feature_rows.specs.Indexes.{AreOnce}
 use Rattle.venue_nodes.specs.Members.{places_where}
-use Rattle.venue_nodes.specs.Naming.{can_walk, unit_id, numbers, named_by, row_in}
-use Rattle.venue_nodes.specs.Filling.{AreNumbers, AreFilled}
+use Rattle.venue_nodes.specs.Naming.{can_walk, unit_id, named_by, row_in}
+use Rattle.venue_nodes.specs.Filling.{AreNumbers}
 use Rattle.venue_nodes.specs.Standing.{AreStandings}
 use Rattle.venue_nodes.specs.Rows.{row_list, unit_indexes}
 use Rattle.venue_nodes.proofs.Folder.{few_lists, paired}
