@@ -2,5 +2,9 @@
 #![tactic(auto)]
 
 mod ends;
+mod laws;
+#[cfg(test)]
+mod tests;
 
 pub use ends::End;
+pub use laws::{acts_more_law, acts_push_law, acts_then_law};
