@@ -1,12 +1,12 @@
 -- Messages acted on one after the other, from the front of some bytes.
-use Rattle.std.specs.Prelude.{◌≡◌, ◌⊎◌, ℕ, Bool, true, false, List, [], ◌∷◌, ◌++◌, drop, All}
+use Rattle.std.specs.Prelude.{◌≡◌, ◌⊎◌, ℕ, ◌+◌, Bool, true, false, List, [], ◌∷◌, ◌++◌, drop, All}
 use Rattle.version_board.specs.Facts.{Facts}
 use Rattle.venue_wire.specs.Messages.{At}
 use Rattle.venue_wire.specs.declared.messages.Message.{Message}
 use Rattle.venue_wire.specs.declared.messages.Taken.{Taken}
 use Rattle.wire_replies.specs.Replies.{reply_text}
 use Rattle.wire_replies.specs.declared.answer.Answer.{Answer}
-use Rattle.venue_session.specs.Steps.{IsStep}
+use Rattle.venue_session.specs.Steps.{told_by, IsStep}
 
 -- a message with its length, whether it closes, and what it was answered
 pub record Acted : Type 0 where
@@ -31,6 +31,11 @@ AreOpen ms = All (λ m. m.close ≡ false) ms
 -- the last of them closes
 abbrev pub ClosesLast : List Acted → Type 0
 ClosesLast ms = (front : List Acted) × (last : Acted) × (ms ≡ front ++ last ∷ []) × (last.close ≡ true)
+
+-- how many accepted changes their answers tell
+abbrev pub told_in : List Acted → ℕ
+told_in [] = 0
+told_in (m ∷ ms) = told_by m.answer + told_in ms
 
 -- the messages were acted on in order, each at the front of what the one before it left, none behind one that closes; out is the
 -- text of their answers, new what became of the hall, and rest the bytes behind them

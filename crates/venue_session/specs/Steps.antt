@@ -1,5 +1,5 @@
 -- One message acted on: what it is answered, and what becomes of the hall.
-use Rattle.std.specs.Prelude.{◌≡◌, ◌≢◌, ℕ, ◌+◌, ◌≤◌, List}
+use Rattle.std.specs.Prelude.{◌≡◌, ◌≢◌, ◌⊎◌, ℕ, ◌+◌, ◌≤◌, List}
 use mathlib.Core.List.{IsPrefix}
 use Rattle.venue_types.specs.declared.reply.Reply.{Reply}
 use Rattle.venue_types.specs.declared.reply.Reply.TheVariants as reply
@@ -36,6 +36,10 @@ ComesOfLook (Message.Ask query) (Of r) = IsAhead r
 ComesOfLook (Message.Do change) (Of r) = r ≢ reply.OutOfMemory
 ComesOfLook _ _ = ⊥
 
+-- a count stays, or has risen
+abbrev pub StaysOrRose : ℕ → ℕ → Type 0
+StaysOrRose before now = (now ≡ before) ⊎ Rose before now
+
 -- the hall acts on the message: the answer is right, what is seen is legal and at most grows, an accepted change that is told is
 -- counted, and no count falls
 pub record IsStep (old : Facts) (message : Message) (answer : Answer) (new : Facts) : Type 0 where
@@ -46,5 +50,5 @@ pub record IsStep (old : Facts) (message : Message) (answer : Answer) (new : Fac
   pub made : new.made ≡ old.made + told_by answer
   pub faults : old.faults ≤ new.faults
   pub fault : TellsFault answer → Rose old.faults new.faults
-  pub looks : old.looks ≤ new.looks
+  pub looks : StaysOrRose old.looks new.looks
   pub look : ComesOfLook message answer → Rose old.looks new.looks

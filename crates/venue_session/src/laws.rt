@@ -1,8 +1,10 @@
 //! What holds of every run of messages.
 
-ghost use Rattle.std.specs.Prelude.{ℕ, List, [], ◌∷◌, ◌++◌, drop};
-ghost use Rattle.version_board.specs.Facts.{Facts};
-ghost use Rattle.venue_session.specs.Acting.{Acted, text_of, IsActed, AreOpen, Acts};
+ghost use Rattle.std.specs.Prelude.{◌≡◌, ◌+◌, ◌≤◌, ℕ, List, [], ◌∷◌, ◌++◌, drop};
+ghost use mathlib.Core.List.{IsPrefix};
+ghost use Rattle.venue_history.specs.Histories.{IsLegal};
+ghost use Rattle.version_board.specs.Facts.{Facts, IsSameHall};
+ghost use Rattle.venue_session.specs.Acting.{Acted, text_of, IsActed, AreOpen, Acts, told_in};
 
 use venue_wire::{message_length_law, message_more_law};
 
@@ -28,4 +30,25 @@ pub fn acts_then_law()
     ensures { (keys : List (List ℕ)) (old mid new : Facts) (bytes out rest behind last : List ℕ) (ms others : List Acted)
         → Acts keys old bytes ms out mid rest → AreOpen ms → Acts keys mid rest others behind new last
         → Acts keys old bytes (ms ++ others) (out ++ behind) new last }
+{}
+
+/// Of the messages that were acted on only the last may close.
+pub fn acts_close_law()
+    ensures { (keys : List (List ℕ)) (old new : Facts) (bytes out rest : List ℕ) (front : List Acted) (last : Acted)
+        → Acts keys old bytes (front ++ last ∷ []) out new rest → AreOpen front }
+{}
+
+/// A run of messages keeps the hall: what it sees at most grows and stays a legal history, each accepted change that was told is
+/// counted once, and faults are not forgotten.
+pub fn acts_hall_law()
+    ensures grows { (keys : List (List ℕ)) (old new : Facts) (bytes out rest : List ℕ) (ms : List Acted)
+        → Acts keys old bytes ms out new rest → IsPrefix old.seen new.seen }
+    ensures legal { (keys : List (List ℕ)) (old new : Facts) (bytes out rest : List ℕ) (ms : List Acted)
+        → Acts keys old bytes ms out new rest → IsLegal old.seen → IsLegal new.seen }
+    ensures same { (keys : List (List ℕ)) (old new : Facts) (bytes out rest : List ℕ) (ms : List Acted)
+        → Acts keys old bytes ms out new rest → IsSameHall old new }
+    ensures made { (keys : List (List ℕ)) (old new : Facts) (bytes out rest : List ℕ) (ms : List Acted)
+        → Acts keys old bytes ms out new rest → new.made ≡ old.made + told_in ms }
+    ensures faults { (keys : List (List ℕ)) (old new : Facts) (bytes out rest : List ℕ) (ms : List Acted)
+        → Acts keys old bytes ms out new rest → old.faults ≤ new.faults }
 {}

@@ -7,4 +7,4 @@ mod laws;
 mod tests;
 
 pub use ends::End;
-pub use laws::{acts_more_law, acts_push_law, acts_then_law};
+pub use laws::{acts_close_law, acts_hall_law, acts_more_law, acts_push_law, acts_then_law};
