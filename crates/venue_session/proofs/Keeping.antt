@@ -1,10 +1,9 @@
 -- What a run of messages makes of the hall, and which of them may close.
-use Rattle.std.proofs.Common.{◌≡◌, ℕ, ◌+◌, ◌≤◌, ◌⊎◌, inl, inr, Bool, false, List, [], ◌∷◌, ◌++◌, length, map, sum, drop, refl, sym, ap, ◌∙◌, subst, arith, append-nil, append_assoc, length-append}
+use Rattle.std.proofs.Common.{◌≡◌, ℕ, ◌+◌, ◌≤◌, inl, inr, false, List, [], ◌∷◌, ◌++◌, length, drop, sym, ap, ◌∙◌, subst, arith, append-nil, append_assoc, length-append}
 use Rattle.std.proofs.lemmas.List.Elements.{All-nil, All-cons}
 use mathlib.Core.List.{IsPrefix}
 use Rattle.version_board.specs.Facts.{Facts, IsSameHall}
 use Rattle.venue_history.specs.Histories.{IsLegal}
-use Rattle.venue_session.specs.Steps.{told_by}
 use Rattle.venue_session.specs.Acting.{Acted, AreOpen, Acts, told_in}
 
 never_none : (front : List Acted) (last : Acted) → front ++ last ∷ [] ≡ [] → ⊥

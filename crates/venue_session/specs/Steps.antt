@@ -1,7 +1,6 @@
 -- One message acted on: what it is answered, and what becomes of the hall.
-use Rattle.std.specs.Prelude.{◌≡◌, ◌≢◌, ◌⊎◌, ℕ, ◌+◌, ◌≤◌, List}
+use Rattle.std.specs.Prelude.{◌≡◌, ◌≢◌, ◌⊎◌, ℕ, ◌+◌, ◌≤◌}
 use mathlib.Core.List.{IsPrefix}
-use Rattle.venue_types.specs.declared.reply.Reply.{Reply}
 use Rattle.venue_types.specs.declared.reply.Reply.TheVariants as reply
 use Rattle.venue_ports.specs.Causes.{Rose}
 use Rattle.venue_history.specs.Histories.{IsLegal}
