@@ -1,0 +1,4 @@
+pub mod Steps
+pub mod Acting
+pub mod Ends
+pub mod Sessions

@@ -1,0 +1,17 @@
+-- A whole session.
+use Rattle.std.specs.Prelude.{ℕ, List}
+use Rattle.std.specs.Io.KnownBytes.{Consumes}
+use Rattle.venue_history.specs.Histories.{IsLegal}
+use Rattle.version_board.specs.Facts.{Facts}
+use Rattle.venue_session.specs.Acting.{Acts}
+use Rattle.venue_session.specs.Ends.{Measured, Run, Ended}
+use Rattle.venue_session.specs.declared.ends.End.{End}
+
+-- a session that found a legal history: messages from the front of the bytes that the link lost were acted on, and the rest is as
+-- its end says
+pub record IsSession (keys : List (List ℕ)) (old new : Facts) (link : Measured) (end : End) : Type 0 where
+  pub legal : IsLegal old.seen
+  pub run : Run
+  pub took : Consumes link.left_before link.left_after run.bytes
+  pub acts : Acts keys old run.bytes run.acted run.out run.facts run.rest
+  pub ended : Ended keys end run link new
