@@ -1,1 +1,5 @@
 pub mod Lengths
+pub mod Items
+pub mod Sorts
+pub mod Ranges
+pub mod Insides

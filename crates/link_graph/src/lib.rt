@@ -3,4 +3,4 @@
 
 mod laws;
 
-pub use laws::length_between_law;
+pub use laws::{inside_law, length_between_law, range_law};
