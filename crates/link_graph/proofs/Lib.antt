@@ -3,3 +3,4 @@ pub mod Items
 pub mod Sorts
 pub mod Ranges
 pub mod Insides
+pub mod Across

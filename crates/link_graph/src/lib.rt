@@ -3,4 +3,4 @@
 
 mod laws;
 
-pub use laws::{inside_law, length_between_law, range_law};
+pub use laws::{detour_law, inside_law, length_between_law, range_law, whole_law};
