@@ -1,5 +1,5 @@
 -- Two usable links of a unit, one behind the other, lead back, or a usable link leads across.
-use Rattle.std.proofs.Common.{◌≡◌, ◌≢◌, ℕ, zero, suc, ◌+◌, ◌<◌, ◌≤◌, ◌↔◌, ◌==◌, not, Bool, true, false, IsTrue, List, [], ◌∷◌, length, Option, Some, None, pos, refl, sym, ap, ◌∙◌, subst, subst₂, ◌⊎◌, inl, inr, arith, tests}
+use Rattle.std.proofs.Common.{◌≡◌, ◌≢◌, ℕ, zero, suc, ◌+◌, ◌<◌, ◌≤◌, ◌↔◌, List, [], ◌∷◌, length, Option, Some, None, pos, refl, sym, ap, ◌∙◌, subst, subst₂, inl, inr, arith}
 use Rattle.std.specs.Prelude.{Contains, slice_get}
 use Rattle.std.proofs.lemmas.Bool.{cases_eq, ne_eqb}
 use Rattle.venue_types.specs.declared.feature_id.FeatureId.{FeatureId}
@@ -19,10 +19,9 @@ use Rattle.plane_exact.specs.Figure.{AllClose}
 use Rattle.plane_exact.specs.Length.{IsLength}
 use Rattle.plane_exact.specs.Plane.{IsCloseDoubled}
 use Rattle.venue_nodes.specs.Nodes.{nodes}
-use Rattle.venue_nodes.specs.Members.{members}
 use Rattle.venue_nodes.proofs.Items.{member_at}
-use Rattle.link_graph.specs.Links.{are_joined, links, spot_of, way}
-use Rattle.link_graph.specs.Facts.{end_at, unit_by, facts_at, IsOpen}
+use Rattle.link_graph.specs.Links.{spot_of, way}
+use Rattle.link_graph.specs.Facts.{end_at, unit_by, facts_at}
 use Rattle.link_graph.specs.Usable.{IsUsable, IsUnitBy, IsWhole, IsWayAcross, HasWayAcross}
 use Rattle.link_graph.specs.Inside.{GoesInside}
 use Rattle.link_graph.proofs.Lengths.{between_length}
@@ -55,7 +54,7 @@ spots_close law features a b sound close h k =
     let here = at_place (nodes features) a h in
     let there = at_place (nodes features) b k in
     subst₂ IsCloseDoubled (sym (ap spot_at here.1)) (sym (ap spot_at there.1))
-      (law features here.0 there.0 sound close (member_at (nodes features) a here.0 here.1) (member_at (nodes features) b there.0 there.1))
+    (law features here.0 there.0 sound close (member_at (nodes features) a here.0 here.1) (member_at (nodes features) b there.0 there.1))
 
 way_length : SpotLaw → (features : Features) (settings : Settings) (a b : ℕ) → AreSound features → AllClose (judged_positions features) → a < length (nodes features) → b < length (nodes features)
     → IsLength (spot_of features a) (spot_of features b) settings.kx settings.ky (way features settings a b)
@@ -66,9 +65,9 @@ way_across : SpotLaw → LengthsLaw → (features : Features) (settings : Settin
     → way features settings a e ≤ way features settings a b + way features settings b e
 way_across spots lengths features settings a b e sound close h k l =
     lengths (spot_of features a) (spot_of features b) (spot_of features e) settings.kx settings.ky (way features settings a b) (way features settings b e) (way features settings a e)
-      (way_length spots features settings a b sound close h k)
-      (way_length spots features settings b e sound close k l)
-      (way_length spots features settings a e sound close h l)
+    (way_length spots features settings a b sound close h k)
+    (way_length spots features settings b e sound close k l)
+    (way_length spots features settings a e sound close h l)
 
 -- ---- what a link asks
 
@@ -119,10 +118,9 @@ across_usable spots lengths parts features settings closed profile first second 
     let asked = parts_of parts features profile first h.first_usable.allowed in
     let asked_next = parts_of parts features profile second h.second_usable.allowed in
     let shorter = way_across spots lengths features settings first.from first.to second.to h.sound h.close
-      (member_within features settings.border_tol u first.from one.start)
-      (member_within features settings.border_tol u first.to one.finish)
-      (member_within features settings.border_tol u second.to two.finish) in
-    (
+    (member_within features settings.border_tol u first.from one.start)
+    (member_within features settings.border_tol u first.to one.finish)
+    (member_within features settings.border_tol u second.to two.finish) in (
       link,
       record {
         there = link_there features settings link u h.unit goes;

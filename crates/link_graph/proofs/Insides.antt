@@ -1,5 +1,5 @@
 -- The links by a unit's number are those inside it.
-use Rattle.std.proofs.Common.{◌≡◌, ℕ, ◌+◌, ◌<◌, ◌↔◌, length, Some, refl, sym, ap, ap₂, ◌∙◌, subst, inl, inr, arith}
+use Rattle.std.proofs.Common.{◌≡◌, ℕ, ◌+◌, length, Some, refl, sym, ap, ◌∙◌, subst, inl, inr, arith}
 use Rattle.std.specs.Prelude.{Contains, slice_get}
 use Rattle.std.proofs.lemmas.Option.{slice_get_within, same_Some}
 use Rattle.venue_types.specs.declared.features.Features.{Features}
@@ -8,10 +8,10 @@ use Rattle.venue_types.specs.declared.kind.Kind.{Kind}
 use Rattle.venue_types.specs.declared.link.Link.{Link}
 use Rattle.venue_types.specs.declared.settings.Settings.{Settings}
 use Rattle.imdf_access.specs.Categories.{unit_kind_of}
-use Rattle.link_graph.specs.Links.{first_unit, inside_link, links, way}
+use Rattle.link_graph.specs.Links.{first_unit, links, way}
 use Rattle.link_graph.specs.Usable.{IsUnitBy}
 use Rattle.link_graph.specs.Inside.{GoesInside}
-use Rattle.link_graph.proofs.Sorts.{IsInside, IsPassage, link_sort, inside_there}
+use Rattle.link_graph.proofs.Sorts.{IsInside, link_sort, inside_there}
 
 -- a link that is made of its ends goes inside
 made_inside : (features : Features) (settings : Settings) (u : UnitRow) (k : ℕ) (link : Link) (h : IsInside features settings link) → h.u ≡ u → GoesInside features settings u link
@@ -34,13 +34,13 @@ same_unit features via k j u v e f h i =
 pub unit_link : (features : Features) (settings : Settings) (link : Link) (u : UnitRow) → IsUnitBy features link.via u → Contains (links features settings) link → GoesInside features settings u link
 unit_link features settings link u by h = elim (link_sort features settings link h) [
   | inl inside ↦
-    let via : link.via ≡ first_unit features + inside.k = ap (λ (l : Link). l.via) (sym inside.is) in
-    made_inside features settings u inside.k link inside (same_unit features link.via by.0 inside.k u inside.u by.1 via by.2 inside.there)
+      let via : link.via ≡ first_unit features + inside.k = ap (λ (l : Link). l.via) (sym inside.is) in
+      made_inside features settings u inside.k link inside (same_unit features link.via by.0 inside.k u inside.u by.1 via by.2 inside.there)
   | inr passage ↦
-    let via : link.via ≡ length features.openings + passage.k = ap (λ (l : Link). l.via) (sym passage.between.is) in
-    let within = slice_get_within features.relationships passage.k passage.row passage.there in
-    let unit : link.via ≡ length features.openings + length features.relationships + by.0 = by.1 in
-    absurd (omega (arith, via, within, unit))
+      let via : link.via ≡ length features.openings + passage.k = ap (λ (l : Link). l.via) (sym passage.between.is) in
+      let within = slice_get_within features.relationships passage.k passage.row passage.there in
+      let unit : link.via ≡ length features.openings + length features.relationships + by.0 = by.1 in
+      absurd (omega (arith, via, within, unit))
 ]
 
 -- a link by its five parts

@@ -1,9 +1,6 @@
 -- The length that is computed plainly is the least number of centimetres that spans the way.
-use Rattle.std.proofs.Common.{◌≡◌, ℕ, zero, suc, ◌+◌, ◌*◌, ◌^◌, ◌≤◌, ◌<◌, ℤ, pos, negsuc, ◌+ℤ◌, ◌-ℤ◌, ◌*ℤ◌, ◌≤ℤ◌, unsigned_abs, ◌↔◌, Bool, true, false, cond, IsTrue, refl, ap, ap₂, sym, ◌∙◌, ◌⊎◌, inl, inr, arith}
-use Rattle.std.proofs.Math.IntN.{pos-*ℤ-pos, negsuc-*ℤ-negsuc}
-use Rattle.std.proofs.lemmas.Bool.{cases_Bool}
-use Rattle.std.proofs.lemmas.Int.{ints, unsigned_abs-mul}
-use Rattle.std.proofs.lemmas.Nat.{mul-le}
+use Rattle.std.proofs.Common.{◌≡◌, ℕ, zero, suc, ◌+◌, ◌*◌, ◌^◌, ◌≤◌, ℤ, pos, ◌+ℤ◌, ◌-ℤ◌, ◌*ℤ◌, ◌≤ℤ◌, unsigned_abs, ◌↔◌, Bool, true, false, cond, IsTrue, refl, arith}
+use Rattle.std.proofs.lemmas.Int.{ints}
 use Rattle.venue_types.specs.declared.point.Spot.{Spot}
 use Rattle.plane_exact.specs.Plane.{IsWithin, IsCloseDoubled, square}
 use Rattle.plane_exact.specs.Length.{IsLength, Spans, scaled_square}

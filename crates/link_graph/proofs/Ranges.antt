@@ -1,6 +1,6 @@
 -- The ends of links are nodes, their ways can be closed, and their costs are bounded.
-use Rattle.std.proofs.Common.{◌≡◌, ℕ, ◌+◌, ◌<◌, ◌≤◌, List, ◌++◌, length, map, Some, refl, sym, ap, ◌∙◌, subst, inl, inr, arith, length-append}
-use Rattle.std.specs.Prelude.{Contains, slice_get}
+use Rattle.std.proofs.Common.{◌≡◌, ℕ, ◌+◌, ◌<◌, ◌≤◌, length, refl, subst, inl, inr, arith, length-append}
+use Rattle.std.specs.Prelude.{Contains}
 use Rattle.std.proofs.lemmas.List.{length-map}
 use Rattle.std.proofs.lemmas.Option.{slice_get_within}
 use Rattle.venue_types.specs.declared.features.Features.{Features}
@@ -10,7 +10,7 @@ use Rattle.venue_types.specs.declared.kind.Kind.TheVariants as kinds
 use Rattle.venue_types.specs.declared.link.Link.{Link}
 use Rattle.venue_types.specs.declared.settings.Extras.{Extras}
 use Rattle.venue_types.specs.declared.settings.Settings.{Settings}
-use Rattle.venue_nodes.specs.Nodes.{nodes, node_rows, node_of_row, closables}
+use Rattle.venue_nodes.specs.Nodes.{nodes, node_rows, closables}
 use Rattle.venue_nodes.specs.Members.{members, is_member}
 use Rattle.venue_nodes.proofs.Items.{at_member}
 use Rattle.venue_nodes.proofs.Places.{places_within}

@@ -1,5 +1,5 @@
 -- Each link goes inside a unit or by a relationship.
-use Rattle.std.proofs.Common.{◌≡◌, ℕ, ◌+◌, ◌<◌, ◌==◌, Bool, cond, IsTrue, List, [], ◌∷◌, ◌++◌, length, map, filter, flat_map, filter_map, Option, Some, None, refl, sym, ap, ◌∙◌, subst, ◌⊎◌, inl, inr}
+use Rattle.std.proofs.Common.{◌≡◌, ℕ, ◌+◌, ◌<◌, ◌==◌, Bool, cond, IsTrue, List, [], ◌∷◌, length, map, filter, flat_map, Option, Some, None, refl, sym, ap, ◌∙◌, subst, ◌⊎◌, inl, inr}
 use Rattle.std.specs.Prelude.{Contains, slice_get}
 use Rattle.std.specs.List.{enumerate_from}
 use Rattle.std.proofs.lemmas.List.Elements.{Contains-append_left, Contains-append_cases}
@@ -63,14 +63,14 @@ inside_there features settings link h =
     let made = inside_link features settings via h.u h.a in
     let others = filter (are_joined h.a) standing in
     let from_start : Contains (links_from features settings via h.u h.a) link =
-      subst (λ l. Contains (map made others) l) h.is (Contains-map made others h.b (to_filter (are_joined h.a) standing h.b h.finish h.joined)) in
+    subst (λ l. Contains (map made others) l) h.is (Contains-map made others h.b (to_filter (are_joined h.a) standing h.b h.finish h.joined)) in
     let of_members = to_flat_map (links_from features settings via h.u) standing h.a link h.start from_start in
     let of_row = to_then (has_links h.u) (flat_map (links_from features settings via h.u) standing) link h.walked of_members in
     Contains-append_left
-      (flat_map (unit_links features settings) (enumerate_from (first_unit features) features.units))
-      (flat_map (relationship_links features settings) (enumerate_from (length features.openings) features.relationships))
-      link
-      (to_flat_map (unit_links features settings) (enumerate_from (first_unit features) features.units) (via, h.u) link (to_enumerate (first_unit features) features.units h.k h.u via refl h.there) of_row)
+    (flat_map (unit_links features settings) (enumerate_from (first_unit features) features.units))
+    (flat_map (relationship_links features settings) (enumerate_from (length features.openings) features.relationships))
+    link
+    (to_flat_map (unit_links features settings) (enumerate_from (first_unit features) features.units) (via, h.u) link (to_enumerate (first_unit features) features.units h.k h.u via refl h.there) of_row)
 
 -- ---- by a relationship
 
@@ -153,11 +153,11 @@ link_sort features settings link h =
     let relationships = enumerate_from (length features.openings) features.relationships in
     elim (Contains-append_cases (flat_map (unit_links features settings) units) (flat_map (relationship_links features settings) relationships) link h) [
       | inl here ↦
-        let row = from_flat_map (unit_links features settings) units link here in
-        let at = from_enumerate (first_unit features) features.units row.0 row.1 in
-        inl (of_unit features settings row.0 at.0 link at.1 at.2 row.2)
+          let row = from_flat_map (unit_links features settings) units link here in
+          let at = from_enumerate (first_unit features) features.units row.0 row.1 in
+          inl (of_unit features settings row.0 at.0 link at.1 at.2 row.2)
       | inr there ↦
-        let row = from_flat_map (relationship_links features settings) relationships link there in
-        let at = from_enumerate (length features.openings) features.relationships row.0 row.1 in
-        inr (of_relationship features settings row.0 at.0 link at.1 at.2 row.2)
+          let row = from_flat_map (relationship_links features settings) relationships link there in
+          let at = from_enumerate (length features.openings) features.relationships row.0 row.1 in
+          inr (of_relationship features settings row.0 at.0 link at.1 at.2 row.2)
     ]
