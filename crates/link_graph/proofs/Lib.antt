@@ -1,5 +1,6 @@
 pub mod Lengths
 pub mod Items
+pub mod Passages
 pub mod Sorts
 pub mod Ranges
 pub mod Insides

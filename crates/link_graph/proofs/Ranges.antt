@@ -1,5 +1,5 @@
 -- The ends of links are nodes, their ways can be closed, and their costs are bounded.
-use Rattle.std.proofs.Common.{◌≡◌, ℕ, ◌+◌, ◌<◌, ◌≤◌, length, refl, subst, inl, inr, arith, length-append}
+use Rattle.std.proofs.Common.{◌≡◌, ◌≢◌, ℕ, ◌+◌, ◌<◌, ◌≤◌, not, true≢false, eq-eqb, length, refl, sym, ap, ◌∙◌, subst, inl, inr, arith, length-append}
 use Rattle.std.specs.Prelude.{Contains}
 use Rattle.std.proofs.lemmas.List.{length-map}
 use Rattle.std.proofs.lemmas.Option.{slice_get_within}
@@ -16,7 +16,8 @@ use Rattle.venue_nodes.proofs.Items.{at_member}
 use Rattle.venue_nodes.proofs.Places.{places_within}
 use Rattle.link_graph.specs.Links.{spot_of, extra_of, links}
 use Rattle.link_graph.proofs.Lengths.{between_bound}
-use Rattle.link_graph.proofs.Sorts.{IsInside, IsPassage, link_sort}
+use Rattle.link_graph.proofs.Passages.{IsPassage}
+use Rattle.link_graph.proofs.Sorts.{IsInside, link_sort}
 
 pub member_within : (features : Features) (border_tol : ℕ) (u : UnitRow) (a : ℕ) → Contains (members features border_tol u) a → a < length (nodes features)
 unfolding members nodes
@@ -38,12 +39,13 @@ extra_bound extras kinds.Ramp = extras.ramp_range
 extra_bound extras kinds.Stairs = extras.stairs_range
 extra_bound extras kinds.Traversal = extras.traversal_range
 
--- ends below the number of nodes, a way below that of what can be closed, and a cost in its bound
+-- two ends below the number of nodes, a way below that of what can be closed, and a cost in its bound
 pub record IsInRange (node_count way_count : ℕ) (link : Link) : Type 0 where
   pub from : link.from < node_count
   pub to : link.to < node_count
   pub via : link.via < way_count
   pub cost : link.cost ≤ 6700000
+  pub apart : link.from ≢ link.to
 
 inside_range : (features : Features) (settings : Settings) (link : Link) → IsInside features settings link → IsInRange (length (nodes features)) (length (closables features)) link
 inside_range features settings link h =
@@ -55,6 +57,7 @@ inside_range features settings link h =
       to = member_within features settings.border_tol h.u h.b h.finish;
       via = omega (arith, within, count);
       cost = omega (arith, long);
+      apart = λ e. true≢false (sym h.joined ∙ ap not (eq-eqb h.a h.b e));
     })
 
 passage_range : (features : Features) (settings : Settings) (link : Link) → IsPassage features settings link → IsInRange (length (nodes features)) (length (closables features)) link
@@ -68,6 +71,7 @@ passage_range features settings link h =
       to = h.between.finish;
       via = omega (arith, within, count);
       cost = omega (arith, long, extra);
+      apart = h.between.apart;
     })
 
 pub link_range : (features : Features) (settings : Settings) (link : Link) → Contains (links features settings) link → IsInRange (length (nodes features)) (length (closables features)) link

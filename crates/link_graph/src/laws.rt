@@ -1,6 +1,6 @@
 //! What holds of the links of a venue.
 
-ghost use Rattle.std.specs.Prelude.{◌≡◌, ℕ, ◌≤◌, ◌<◌, ◌↔◌, List, length, Contains};
+ghost use Rattle.std.specs.Prelude.{◌≡◌, ◌≢◌, ℕ, ◌≤◌, ◌<◌, ◌↔◌, List, length, Contains};
 ghost use Rattle.venue_types.specs.declared.feature_id.FeatureId.{FeatureId};
 ghost use Rattle.venue_types.specs.declared.features.Features.{Features};
 ghost use Rattle.venue_types.specs.declared.features.UnitRow.{UnitRow};
@@ -22,18 +22,19 @@ ghost use Rattle.link_graph.specs.Usable.{IsUsable, IsUnitBy, IsWhole, HasWayAcr
 use imdf_access::parts_law;
 use venue_nodes::spot_law;
 
-/// The number that is computed plainly is the length, and no longer than the diagonal of the greatest spread.
+/// The number that is computed plainly is the length, and never more than a little above the diagonal of the greatest spread.
 pub fn length_between_law()
     ensures length { (a b : Spot) (kx ky : ℕ) → IsCloseDoubled a b → kx ≤ 20000000 → ky ≤ 20000000 → IsLength a b kx ky (length_between a b kx ky) }
     ensures bound { (a b : Spot) (kx ky : ℕ) → length_between a b kx ky ≤ 5700000 }
 {}
 
-/// A link leads from a node to a node by what can be closed, and costs no more than the longest way and the greatest extra.
+/// A link leads from a node to another by what can be closed, and costs no more than the longest way and the greatest extra.
 pub fn range_law()
     ensures from { (features : Features) (settings : Settings) (link : Link) → Contains (links features settings) link → link.from < length (nodes features) }
     ensures to { (features : Features) (settings : Settings) (link : Link) → Contains (links features settings) link → link.to < length (nodes features) }
     ensures via { (features : Features) (settings : Settings) (link : Link) → Contains (links features settings) link → link.via < length (closables features) }
     ensures cost { (features : Features) (settings : Settings) (link : Link) → Contains (links features settings) link → link.cost ≤ 6700000 }
+    ensures apart { (features : Features) (settings : Settings) (link : Link) → Contains (links features settings) link → link.from ≢ link.to }
 {}
 
 /// The links by the number of a unit are exactly those that go inside it.

@@ -12,3 +12,6 @@ returns-clause-via c = λ features settings link h. (link_range features setting
 
 pub returns-clause-cost : goal.returns-clause-cost
 returns-clause-cost c = λ features settings link h. (link_range features settings link h).cost
+
+pub returns-clause-apart : goal.returns-clause-apart
+returns-clause-apart c = λ features settings link h. (link_range features settings link h).apart
