@@ -3,3 +3,4 @@ pub mod Links
 pub mod Facts
 pub mod Views
 pub mod Usable
+pub mod Inside
