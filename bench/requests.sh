@@ -36,8 +36,13 @@ use std::env;
 use std::fs;
 use std::io::{self, Error};
 
-use venue_types::{Ask, Change, List, Query, Text};
+use venue_types::{Ask, Change, FeatureId, List, Query, Text};
 use venue_wire::{Front, Message, Taken, take};
+
+/// The low half of an identifier.
+fn low(id: FeatureId) -> u64 {
+    (id.0 % 18_446_744_073_709_551_616) as u64
+}
 
 /// A number that tells apart what is asked.
 fn number_of(ask: &Ask) -> u64 {
@@ -45,15 +50,15 @@ fn number_of(ask: &Ask) -> u64 {
         Ask::Version => 1,
         Ask::Places => 2,
         Ask::Closures => 3,
-        Ask::Place(id) => id.0 as u64,
+        Ask::Place(id) => low(*id),
         Ask::Route {
             from,
             to,
             profile,
             certificate,
-        } => (from.0 as u64)
+        } => low(*from)
             .wrapping_mul(3)
-            .wrapping_add(to.0 as u64)
+            .wrapping_add(low(*to))
             .wrapping_add(profile.as_str().len() as u64)
             .wrapping_add(*certificate as u64),
     }
@@ -68,7 +73,7 @@ fn query_number(query: &Query) -> u64 {
 
 fn change_number(change: &Change) -> u64 {
     match change {
-        Change::Closure { feature, closed } => (feature.0 as u64).wrapping_add(*closed as u64),
+        Change::Closure { feature, closed } => low(*feature).wrapping_add(*closed as u64),
         Change::Publish { folder } => folder.as_str().len() as u64,
     }
 }
