@@ -3,3 +3,4 @@ pub mod MessageLemmas
 pub mod PathLemmas
 pub mod RouteLemmas
 pub mod ValueLemmas
+pub mod NumberLemmas

@@ -1,7 +1,5 @@
 -- What a query asks of a path (the URL Standard, section 5).
-use Rattle.std.specs.Prelude.{ℕ, ◌^◌, Bool, true, false, not, ◌&&◌, ◌||◌, ◌==◌, nat_lt, nat_le, List, [], ◌∷◌, length, map, flat_map, codes, slice_index, if◌then◌else◌, Option, Some, None, option_map, option_and_then, bytes_eq}
-use Rattle.std.specs.Char.{is_ascii_digit}
-use Rattle.std.specs.List.{list_all}
+use Rattle.std.specs.Prelude.{ℕ, ◌^◌, Bool, true, false, ◌&&◌, nat_lt, List, [], ◌∷◌, map, flat_map, codes, if◌then◌else◌, Option, Some, None, option_map, option_and_then, bytes_eq, decimal}
 use Rattle.std.specs.Str.Lossy.{utf8_lossy}
 use Rattle.std.specs.Str.Parse.{digits_value}
 use Rattle.form_urlencoded.specs.Form.{raw_pairs, decode}
@@ -37,11 +35,10 @@ value_or absent form [] = Some absent
 value_or absent form (value ∷ []) = form value
 value_or absent form (value ∷ other ∷ values) = None
 
--- a number below 2 ^ 32, in digits without a zero in front of others
-abbrev pub number_read : List ℕ → Option ℕ
+-- a number below 2 ^ 32 in decimal: the text is the one that is written for it, without a sign and without a zero in front
+unfoldable pub number_read : List ℕ → Option ℕ
 number_read text =
-    if nat_lt 0 (length text) && (nat_le (length text) 10 && (list_all is_ascii_digit text
-    && ((length text == 1 || not (slice_index text 0 == 48)) && nat_lt (digits_value 10 text) (2 ^ 32))))
+    if bytes_eq text (decimal (digits_value 10 text)) && nat_lt (digits_value 10 text) (2 ^ 32)
     then Some (digits_value 10 text) else None
 
 -- `yes` or `no`

@@ -1,38 +1,18 @@
 //! The forms of values.
 
-ghost use Rattle.std.specs.Prelude.{◌≡◌, ◌≤◌, ◌==◌, length, Some, None, IfSome, IfNone, if◌then◌else◌};
-ghost use Rattle.std.specs.Char.{is_ascii_digit};
+ghost use Rattle.std.specs.Prelude.{◌≡◌};
 ghost use Rattle.std.specs.List.{list_all};
-ghost use Rattle.std.specs.Str.Parse.{digits_value};
 ghost use Rattle.venue_wire.specs.Bodies.{is_folder_byte, is_folder_name};
 ghost use Rattle.venue_wire.specs.Queries.{answer_read, number_read};
 
-/// At most ten digits as a number.
-fn read_digits(text: &[u8]) -> Option<u64>
-    requires { length text.now ≤ 10 }
-    ensures { result ≡ (if list_all is_ascii_digit text.now then Some (digits_value 10 text.now) else None) }
-{
-    let mut number: u64 = 0;
-    for byte in text {
-        if !byte.is_ascii_digit() {
-            return None;
-        }
-        number = number * 10 + u64::from(*byte - b'0');
-    }
-    Some(number)
-}
+use line_forms::number;
 
-/// A number below 2^32, in digits without a zero in front of others.
+/// A number below 2^32 in decimal, without a sign and without a zero in front of others.
+#[tactic(auto, unfolding(crate::specs::Queries::number_read))]
 pub(crate) fn read_number(text: &[u8]) -> Option<u32>
     ensures { result ≡ number_read text.now }
 {
-    if text.is_empty() || text.len() > 10 {
-        return None;
-    }
-    if text.len() > 1 && text[0] == b'0' {
-        return None;
-    }
-    let number = read_digits(text)?;
+    let number = number(text)?;
     if number < 0x1_0000_0000 {
         Some(number as u32)
     } else {

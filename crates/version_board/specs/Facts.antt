@@ -1,5 +1,5 @@
 -- What is seen of a hall.
-use Rattle.std.specs.Prelude.{◌≡◌, ℕ, List, Option}
+use Rattle.std.specs.Prelude.{◌≡◌, ℕ, List, [], ◌∷◌, ◌++◌, Option}
 use mathlib.Core.List.{IsPrefix}
 use Rattle.venue_types.specs.declared.query.Change.{Change}
 use Rattle.venue_types.specs.declared.query.Query.{Query}
@@ -35,3 +35,7 @@ IsAnswered seen query r = (v : Version) × Replays seen v × Answers v query r
 -- the change was asked at a history that begins with what was seen before, and the reply and what is seen now are right for it
 abbrev pub IsChanged : Facts → Facts → Change → Reply → Type 0
 IsChanged old new asked r = (h : List Entry) × IsPrefix old.seen h × Changes old.files old.worker asked h r new.seen
+
+-- the last of the entries is by the worker
+abbrev pub IsLastBy : ℕ → List Entry → Type 0
+IsLastBy worker entries = (front : List Entry) × (last : Entry) × (entries ≡ front ++ last ∷ []) × (last.worker ≡ worker)

@@ -2,5 +2,7 @@
 #![tactic(auto)]
 
 mod hall;
+mod laws;
 
 pub use hall::{Asks, Hall};
+pub use laws::{answered_law, changed_law};
