@@ -1,0 +1,49 @@
+//! The bytes that were read and wait to be acted on.
+
+ghost use Rattle.std.specs.Prelude.{◌≡◌, ◌≤◌, ◌<◌, [], ◌++◌, ℕ, List, length, drop, IfOk, OnOk, OnErr};
+ghost use Rattle.std.specs.Io.KnownBytes.{Consumes, IsAtEnd};
+ghost use Rattle.venue_ports.specs.Causes.{HasExactCause};
+
+use std::alloc::Global;
+use std::marker::Model;
+use venue_ports::{Failed, Stream};
+use venue_types::OutOfMemory;
+
+/// Room for more than ever waits: a head of 16,384 bytes and a body of 65,536 make the longest message.
+pub(crate) const ROOM: usize = 81_920;
+
+/// A buffer in which bytes wait from a start to an end. All its memory is taken when it is made.
+#[derive(Drop)]
+pub(crate) struct Input {
+    bytes: Vec<u8>,
+    start: usize,
+    end: usize,
+}
+
+impl Model for Input {
+    // Value = List ℕ: the bytes from start to end; invariant: start ≤ end, end ≤ length bytes.items, length bytes.items ≡ 81920
+}
+
+impl Input {
+    /// Nothing waits.
+    pub(crate) fn new(alloc: Global) -> Result<Input, OutOfMemory>
+        ensures { IfOk result (λ input. input ≡ []) }
+
+    /// What waits.
+    pub(crate) fn waiting(&self) -> &[u8]
+        ensures { result.now ≡ self.now }
+
+    /// The front of so many bytes waits no longer. Nothing is moved.
+    pub(crate) fn pass(&mut self, count: usize)
+        requires { count ≤ length self.old }
+        ensures { self.new ≡ drop count self.old }
+
+    /// Reads behind what waits, which is moved to the start of the buffer first. 0 tells the end of the stream.
+    pub(crate) fn read_more<L: Stream>(&mut self, link: &mut L) -> Result<usize, Failed>
+        requires { length self.old < 81920 }
+        ensures ok { OnOk result ((more : List ℕ) × (self.new ≡ self.old ++ more) × (count is its length) × Consumes (L.left link.old) (L.left link.new) more) }
+        ensures end { a count of 0 : IsAtEnd (L.left link.new) }
+        ensures err { OnErr result (self.new ≡ self.old × L.left link.new ≡ L.left link.old or whatever MovesIn gives for a failed read) }
+        ensures written { L.written link.new ≡ L.written link.old }
+        ensures cause { HasExactCause (L.faults link.old) (L.faults link.new) result }
+}
