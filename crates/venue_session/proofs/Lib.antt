@@ -1,3 +1,5 @@
 pub mod Following
 pub mod Joining
 pub mod Keeping
+pub mod Goings
+pub mod Endings

@@ -2,3 +2,5 @@ pub mod Steps
 pub mod Acting
 pub mod Ends
 pub mod Sessions
+pub mod Texts
+pub mod Going

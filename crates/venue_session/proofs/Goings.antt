@@ -1,0 +1,62 @@
+-- A session under way begins, takes more bytes, and acts on a message.
+use Rattle.std.proofs.Common.{◌≡◌, ℕ, ◌+◌, ◌≤◌, Bool, false, List, [], ◌∷◌, ◌++◌, length, drop, refl, sym, ap, ◌∙◌, subst, arith, length-append, append-nil, Option}
+use Rattle.std.specs.Io.KnownBytes.{Appends, Consumes, IsAtEnd}
+use Rattle.std.proofs.KnownBytes.{Appends-nil, Appends-trans, Consumes-nil, Consumes-trans}
+use Rattle.std.proofs.lemmas.List.Elements.{All-nil, All-push}
+use Rattle.venue_history.specs.Histories.{IsLegal}
+use Rattle.version_board.specs.Facts.{Facts}
+use Rattle.wire_frames.specs.Frames.{IsShort}
+use Rattle.venue_session.specs.Acting.{Acted, text_of, IsActed, AreOpen, Acts}
+use Rattle.venue_session.specs.Going.{Moment, moment, IsGoing}
+use Rattle.venue_session.proofs.Joining.{acts_push}
+
+pub going_first : (keys : List (List ℕ)) (first : Moment) → IsLegal first.facts.seen → IsGoing keys first first 0 []
+going_first keys first legal = record {
+  legal = legal;
+  bytes = [];
+  acted = [];
+  out = [];
+  took = Consumes-nil first.left;
+  count = omega arith;
+  acts = (refl, refl, refl);
+  are_open = All-nil (λ (m : Acted). m.close ≡ false);
+  wrote = Appends-nil first.written;
+  sound = refl;
+}
+
+pub going_more : (law : (keys : List (List ℕ)) (old new : Facts) (bytes out rest more : List ℕ) (ms : List Acted)
+        → Acts keys old bytes ms out new rest → Acts keys old (bytes ++ more) ms out new (rest ++ more))
+    (keys : List (List ℕ)) (first : Moment) (facts : Facts) (left after written same : Option (List ℕ)) (faults later taken total : ℕ)
+    (waiting more : List ℕ)
+    → IsGoing keys first (moment facts left written faults) taken waiting → Consumes left after more → same ≡ written → later ≡ faults
+    → total ≤ taken + length more → IsGoing keys first (moment facts after same later) total (waiting ++ more)
+going_more law keys first facts left after written same faults later taken total waiting more going took kept sound count = record {
+  legal = going.legal;
+  bytes = going.bytes ++ more;
+  acted = going.acted;
+  out = going.out;
+  took = Consumes-trans first.left left after going.bytes more going.took took;
+  count = omega (arith, count, going.count, length-append going.bytes more);
+  acts = law keys first.facts facts going.bytes going.out waiting more going.acted going.acts;
+  are_open = going.are_open;
+  wrote = subst (λ (w : Option (List ℕ)). Appends first.written w going.out) (sym kept) going.wrote;
+  sound = sound ∙ going.sound;
+}
+
+pub going_acted : (keys : List (List ℕ)) (first : Moment) (mid new : Facts) (left same written after : Option (List ℕ)) (faults later taken : ℕ)
+    (waiting : List ℕ) (m : Acted)
+    → IsGoing keys first (moment mid left written faults) taken waiting → IsActed keys mid waiting m new → m.close ≡ false
+    → same ≡ left → Appends written after (text_of m) → later ≡ faults
+    → IsGoing keys first (moment new same after later) taken (drop m.length waiting)
+going_acted keys first mid new left same written after faults later taken waiting m going acted stays kept wrote sound = record {
+  legal = going.legal;
+  bytes = going.bytes;
+  acted = going.acted ++ m ∷ [];
+  out = going.out ++ text_of m;
+  took = subst (λ (l : Option (List ℕ)). Consumes first.left l going.bytes) (sym kept) going.took;
+  count = going.count;
+  acts = acts_push keys first.facts mid new going.bytes going.out waiting going.acted m going.acts going.are_open acted;
+  are_open = All-push (λ (k : Acted). k.close ≡ false) going.acted m going.are_open stays;
+  wrote = Appends-trans first.written written after going.out (text_of m) going.wrote wrote;
+  sound = sound ∙ going.sound;
+}
