@@ -90,7 +90,7 @@ fn step_without_memory(answer: &Answer, close: bool) -> Step
     }
 }
 
-fn step(alloc: Global, answer: &Answer, close: bool) -> Step
+fn make_step(alloc: Global, answer: &Answer, close: bool) -> Step
     ensures { (old new : Facts) (message : AMessage) → IsStep old message answer.now new → Stepped old message close result new }
 {
     match reply_bytes(alloc, answer, close) {
@@ -110,5 +110,5 @@ pub(crate) fn answer_message<H: Hall>(
     ensures { Stepped (H.facts hall.old) message.now close result (H.facts hall.new) }
 {
     let answer = answer(hall, message);
-    step(alloc, &answer, close)
+    make_step(alloc, &answer, close)
 }

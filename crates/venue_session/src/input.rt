@@ -1,8 +1,9 @@
 //! The bytes that were read and wait to be acted on.
 
-ghost use Rattle.std.specs.Prelude.{◌≡◌, ◌≤◌, ◌<◌, [], ◌++◌, ℕ, List, length, drop, IfOk, OnErr};
+ghost use Rattle.std.specs.Prelude.{◌≡◌, ◌+◌, ◌-◌, ◌≤◌, ◌<◌, [], ◌++◌, ℕ, List, length, take, drop, slice_range, IfOk, OnErr};
 ghost use Rattle.std.specs.Io.KnownBytes.{Consumes, IsAtEnd};
 ghost use Rattle.venue_ports.specs.Causes.{HasExactCause};
+ghost use Rattle.venue_ports.specs.Moves.{MovesIn};
 
 use std::alloc::Global;
 use std::marker::Model;
@@ -30,13 +31,40 @@ impl Model for Input {
     ghost invariant = { λ a. (a.start ≤ a.end) × (a.end ≤ 81920) × (length a.bytes.items ≡ 81920) };
 }
 
+/// Moves the bytes from a start to an end to the front.
+fn move_to_front(bytes: &mut [u8], start: usize, end: usize)
+    requires order { start ≤ end }
+    requires within { end ≤ length bytes.old }
+    ensures { take (end - start) bytes.new ≡ slice_range bytes.old start end }
+{
+    if start > 0 {
+        bytes.copy_within(start..end, 0);
+    }
+}
+
+/// Reads behind the first bytes, which stay.
+fn read_behind<L: Stream>(link: &mut L, bytes: &mut [u8], end: usize) -> Result<usize, Failed>
+    requires { end < length bytes.old }
+    ensures kept { take end bytes.new ≡ take end bytes.old }
+    ensures bound { IfOk result (λ count. end + count ≤ length bytes.old) }
+    ensures bytes { MovesIn (L.left link.old) (L.left link.new) result (drop end bytes.new) }
+    ensures written { L.written link.new ≡ L.written link.old }
+    ensures cause { HasExactCause (L.faults link.old) (L.faults link.new) result }
+{
+    link.read(&mut bytes[end..])
+}
+
 impl Input {
     /// Nothing waits.
     pub(crate) fn new(alloc: Global) -> Result<Input, OutOfMemory>
         ensures { IfOk result (λ input. input ≡ []) }
     {
-        let _ = alloc;
-        Err(OutOfMemory)
+        let bytes = vec![in alloc; 0; ROOM]?;
+        Ok(Input {
+            bytes,
+            start: 0,
+            end: 0,
+        })
     }
 
     /// What waits.
@@ -64,7 +92,11 @@ impl Input {
         ensures written { L.written link.new ≡ L.written link.old }
         ensures cause { HasExactCause (L.faults link.old) (L.faults link.new) result }
     {
-        let _ = link;
-        Err(Failed)
+        move_to_front(&mut self.bytes, self.start, self.end);
+        self.end -= self.start;
+        self.start = 0;
+        let count = read_behind(link, &mut self.bytes, self.end)?;
+        self.end += count;
+        Ok(count)
     }
 }
