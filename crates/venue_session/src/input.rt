@@ -32,10 +32,11 @@ impl Model for Input {
 }
 
 /// Moves the bytes from a start to an end to the front.
-fn move_to_front(bytes: &mut [u8], start: usize, end: usize)
+fn move_to_front(bytes: &mut Vec<u8>, start: usize, end: usize)
     requires order { start ≤ end }
-    requires within { end ≤ length bytes.old }
-    ensures { take (end - start) bytes.new ≡ slice_range bytes.old start end }
+    requires within { end ≤ length bytes.old.items }
+    ensures front { take (end - start) bytes.new.items ≡ slice_range bytes.old.items start end }
+    ensures room { length bytes.new.items ≡ length bytes.old.items }
 {
     if start > 0 {
         bytes.copy_within(start..end, 0);
@@ -43,11 +44,12 @@ fn move_to_front(bytes: &mut [u8], start: usize, end: usize)
 }
 
 /// Reads behind the first bytes, which stay.
-fn read_behind<L: Stream>(link: &mut L, bytes: &mut [u8], end: usize) -> Result<usize, Failed>
-    requires { end < length bytes.old }
-    ensures kept { take end bytes.new ≡ take end bytes.old }
-    ensures bound { IfOk result (λ count. end + count ≤ length bytes.old) }
-    ensures bytes { MovesIn (L.left link.old) (L.left link.new) result (drop end bytes.new) }
+fn read_behind<L: Stream>(link: &mut L, bytes: &mut Vec<u8>, end: usize) -> Result<usize, Failed>
+    requires { end < length bytes.old.items }
+    ensures kept { take end bytes.new.items ≡ take end bytes.old.items }
+    ensures room { length bytes.new.items ≡ length bytes.old.items }
+    ensures bound { IfOk result (λ count. end + count ≤ length bytes.old.items) }
+    ensures bytes { MovesIn (L.left link.old) (L.left link.new) result (drop end bytes.new.items) }
     ensures written { L.written link.new ≡ L.written link.old }
     ensures cause { HasExactCause (L.faults link.old) (L.faults link.new) result }
 {

@@ -7,7 +7,7 @@ invariant-loop-done g l = record {
   within : l.done ≤ length l.text;
   wrote : Appends (g.L.Stream.written l.fn.link) (g.L.Stream.written l.link) (take l.done l.text);
   left : g.L.Stream.left l.link ≡ g.L.Stream.left l.fn.link;
-  faults : g.L.Stream.faults l.link ≡ g.L.Stream.faults l.fn.link
+  faults : g.L.Stream.faults l.link ≡ g.L.Stream.faults l.fn.link;
 }
 
 abbrev pub decreases-loop-done : goal.decreases-loop-done
