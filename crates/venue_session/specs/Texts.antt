@@ -13,7 +13,7 @@ use Rattle.venue_session.specs.Steps.{told_by, IsStep}
 -- the bytes of a text
 abbrev pub bytes_of : Text → List ℕ
 bytes_of (Made bytes) = bytes
-bytes_of (Fixed bytes) = bytes
+bytes_of (Fixed bytes) = bytes.now
 
 -- the hall acted on the message: the text is that of its answer; or there is none, since memory ran out behind an accepted change
 abbrev pub Stepped : Facts → Message → Bool → Step → Facts → Type 0

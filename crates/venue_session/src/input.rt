@@ -1,8 +1,9 @@
 //! The bytes that were read and wait to be acted on.
 
-ghost use Rattle.std.specs.Prelude.{◌≡◌, ◌≤◌, ◌<◌, [], ◌++◌, ℕ, List, length, drop, IfOk, OnOk, OnErr};
+ghost use Rattle.std.specs.Prelude.{◌≡◌, ◌+◌, ◌-◌, ◌≤◌, ◌<◌, [], ◌++◌, ℕ, List, length, take, drop, slice_range, IfOk, OnErr};
 ghost use Rattle.std.specs.Io.KnownBytes.{Consumes, IsAtEnd};
 ghost use Rattle.venue_ports.specs.Causes.{HasExactCause};
+ghost use Rattle.venue_ports.specs.Moves.{MovesIn};
 
 use std::alloc::Global;
 use std::marker::Model;
@@ -21,29 +22,83 @@ pub(crate) struct Input {
 }
 
 impl Model for Input {
-    // Value = List ℕ: the bytes from start to end; invariant: start ≤ end, end ≤ length bytes.items, length bytes.items ≡ 81920
+    ghost use Rattle.std.specs.Prelude.{◌≡◌, ◌≤◌, ℕ, List, length, slice_range};
+
+    ghost Value = { List ℕ };
+
+    ghost view = { λ a. slice_range a.bytes.items a.start a.end };
+
+    ghost invariant = { λ a. (a.start ≤ a.end) × (a.end ≤ 81920) × (length a.bytes.items ≡ 81920) };
+}
+
+/// Moves the bytes from a start to an end to the front.
+fn move_to_front(bytes: &mut Vec<u8>, start: usize, end: usize)
+    requires order { start ≤ end }
+    requires within { end ≤ length bytes.old.items }
+    ensures front { take (end - start) bytes.new.items ≡ slice_range bytes.old.items start end }
+    ensures room { length bytes.new.items ≡ length bytes.old.items }
+{
+    if start > 0 {
+        bytes.copy_within(start..end, 0);
+    }
+}
+
+/// Reads behind the first bytes, which stay.
+fn read_behind<L: Stream>(link: &mut L, bytes: &mut Vec<u8>, end: usize) -> Result<usize, Failed>
+    requires { end < length bytes.old.items }
+    ensures kept { take end bytes.new.items ≡ take end bytes.old.items }
+    ensures room { length bytes.new.items ≡ length bytes.old.items }
+    ensures bound { IfOk result (λ count. end + count ≤ length bytes.old.items) }
+    ensures bytes { MovesIn (L.left link.old) (L.left link.new) result (drop end bytes.new.items) }
+    ensures written { L.written link.new ≡ L.written link.old }
+    ensures cause { HasExactCause (L.faults link.old) (L.faults link.new) result }
+{
+    link.read(&mut bytes[end..])
 }
 
 impl Input {
     /// Nothing waits.
     pub(crate) fn new(alloc: Global) -> Result<Input, OutOfMemory>
         ensures { IfOk result (λ input. input ≡ []) }
+    {
+        let bytes = vec![in alloc; 0; ROOM]?;
+        Ok(Input {
+            bytes,
+            start: 0,
+            end: 0,
+        })
+    }
 
     /// What waits.
     pub(crate) fn waiting(&self) -> &[u8]
         ensures { result.now ≡ self.now }
+    {
+        &self.bytes[self.start..self.end]
+    }
 
     /// The front of so many bytes waits no longer. Nothing is moved.
     pub(crate) fn pass(&mut self, count: usize)
         requires { count ≤ length self.old }
         ensures { self.new ≡ drop count self.old }
+    {
+        self.start += count;
+    }
 
     /// Reads behind what waits, which is moved to the start of the buffer first. 0 tells the end of the stream.
     pub(crate) fn read_more<L: Stream>(&mut self, link: &mut L) -> Result<usize, Failed>
         requires { length self.old < 81920 }
-        ensures ok { OnOk result ((more : List ℕ) × (self.new ≡ self.old ++ more) × (count is its length) × Consumes (L.left link.old) (L.left link.new) more) }
-        ensures end { a count of 0 : IsAtEnd (L.left link.new) }
-        ensures err { OnErr result (self.new ≡ self.old × L.left link.new ≡ L.left link.old or whatever MovesIn gives for a failed read) }
+        ensures ok { IfOk result (λ count. (more : List ℕ) × (count ≡ length more) × (self.new ≡ self.old ++ more)
+            × Consumes (L.left link.old) (L.left link.new) more) }
+        ensures end { IfOk result (λ count. count ≡ 0 → IsAtEnd (L.left link.new)) }
+        ensures err { OnErr result ((self.new ≡ self.old) × (L.left link.new ≡ L.left link.old)) }
         ensures written { L.written link.new ≡ L.written link.old }
         ensures cause { HasExactCause (L.faults link.old) (L.faults link.new) result }
+    {
+        move_to_front(&mut self.bytes, self.start, self.end);
+        self.end -= self.start;
+        self.start = 0;
+        let count = read_behind(link, &mut self.bytes, self.end)?;
+        self.end += count;
+        Ok(count)
+    }
 }

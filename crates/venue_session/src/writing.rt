@@ -14,5 +14,12 @@ pub(crate) fn write_whole<L: Stream>(link: &mut L, text: &[u8]) -> Result<(), Fa
     ensures left { L.left link.new ≡ L.left link.old }
     ensures cause { HasExactCause (L.faults link.old) (L.faults link.new) result }
 {
-    todo
+    let mut done = 0;
+    while done < text.len() {
+        match link.write(&text[done..]) {
+            Ok(count) => done += count,
+            Err(failed) => return Err(failed),
+        }
+    }
+    Ok(())
 }
