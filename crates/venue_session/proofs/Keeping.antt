@@ -16,7 +16,7 @@ acts_close keys old new bytes out rest (k ∷ front) last (via, more, first, inl
     All-cons (λ (m : Acted). m.close ≡ false) k front goes (acts_close keys via new (drop k.length bytes) more rest front last later)
 acts_close keys old new bytes out rest (k ∷ front) last (via, more, first, inr none, text, later) = absurd (never_none front last none)
 
-grown : {A : Type 0} (a b c : List A) → IsPrefix a b → IsPrefix b c → IsPrefix a c
+pub grown : {A : Type 0} (a b c : List A) → IsPrefix a b → IsPrefix b c → IsPrefix a c
 grown a b c (x, first) (y, second) = (x ++ y, sym (append_assoc a x y) ∙ ap (λ (l : List _). l ++ y) first ∙ second)
 
 pub acts_grows : (keys : List (List ℕ)) (old new : Facts) (bytes out rest : List ℕ) (ms : List Acted)

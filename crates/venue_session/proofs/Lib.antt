@@ -3,6 +3,7 @@ pub mod Joining
 pub mod Keeping
 pub mod Goings
 pub mod Endings
+pub mod Served
 pub mod Moving
 pub mod Waiting
 pub mod Wanting

@@ -1,13 +1,14 @@
 -- A session under way, between two calls.
-use Rattle.std.specs.Prelude.{◌≡◌, ◌≤◌, ℕ, List, length, Option, Some, None}
+use Rattle.std.specs.Prelude.{◌≡◌, ◌<◌, ◌≤◌, ◌+◌, ℕ, List, ◌++◌, length, Option, Some, None}
 use Rattle.std.specs.Io.KnownBytes.{Appends, Consumes}
 use Rattle.venue_history.specs.Histories.{IsLegal}
 use Rattle.version_board.specs.Facts.{Facts}
-use Rattle.wire_frames.specs.Outcomes.{WaitsFor}
+use Rattle.wire_frames.specs.Frames.{IsShort}
 use Rattle.venue_session.specs.Acting.{Acted, AreOpen, Acts}
 use Rattle.venue_session.specs.Ends.{Measured}
 use Rattle.venue_session.specs.Sessions.{IsSession}
 use Rattle.venue_session.specs.declared.ends.End.{End}
+use Rattle.venue_session.specs.declared.reading.Heard.{Heard}
 use Rattle.venue_session.specs.declared.running.Stop.{Stop}
 
 -- what is seen of the hall and of the link at one moment
@@ -55,9 +56,23 @@ abbrev pub GoesOrEnded : List (List ℕ) → Moment → Moment → ℕ → List 
 GoesOrEnded keys first now taken waiting None = IsGoing keys first now taken waiting
 GoesOrEnded keys first now taken waiting (Some end) = HasEnded keys first now end
 
+-- less than a message stays there whatever bytes follow, while there are fewer than this in all
+abbrev pub StaysShort : List ℕ → ℕ → Type 0
+StaysShort bytes least = (behind : List ℕ) → length (bytes ++ behind) < least → IsShort (bytes ++ behind)
+
+-- less than a message is there, and stays there while there are fewer than this in all
+abbrev pub Awaits : List ℕ → ℕ → Type 0
+Awaits bytes least = IsShort bytes × StaysShort bytes least
+
+-- bytes came behind those that waited, or the session has ended so
+abbrev pub HeardOrEnded : List (List ℕ) → Moment → Moment → ℕ → List ℕ → ℕ → Heard → Type 0
+HeardOrEnded keys first now taken waiting least (Heard.More count) =
+    (0 < count) × IsGoing keys first now (taken + count) waiting × StaysShort waiting least
+HeardOrEnded keys first now taken waiting least (Heard.Ended end) = HasEnded keys first now end
+
 -- the session waits for more bytes, or has ended so
 abbrev pub WaitsOrEnded : List (List ℕ) → Moment → Moment → ℕ → List ℕ → Stop → Type 0
-WaitsOrEnded keys first now taken waiting (Stop.Waiting least) = IsGoing keys first now taken waiting × WaitsFor waiting least
+WaitsOrEnded keys first now taken waiting (Stop.Waiting least) = IsGoing keys first now taken waiting × Awaits waiting least
 WaitsOrEnded keys first now taken waiting (Stop.Ended end) = HasEnded keys first now end
 
 -- the run goes on, or stops so

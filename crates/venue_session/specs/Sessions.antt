@@ -1,10 +1,12 @@
 -- A whole session.
-use Rattle.std.specs.Prelude.{ℕ, List}
+use Rattle.std.specs.Prelude.{ℕ, ◌≤◌, List}
 use Rattle.std.specs.Io.KnownBytes.{Consumes}
+use mathlib.Core.List.{IsPrefix}
 use Rattle.venue_history.specs.Histories.{IsLegal}
-use Rattle.version_board.specs.Facts.{Facts}
+use Rattle.version_board.specs.Facts.{Facts, IsSameHall}
 use Rattle.venue_session.specs.Acting.{Acts}
 use Rattle.venue_session.specs.Ends.{Measured, Run, Ended}
+use Rattle.venue_session.specs.Steps.{StaysOrRose}
 use Rattle.venue_session.specs.declared.ends.End.{End}
 
 -- a session that found a legal history: messages from the front of the bytes that the link lost were acted on, and the rest is as
@@ -15,3 +17,12 @@ pub record IsSession (keys : List (List ℕ)) (old new : Facts) (link : Measured
   pub took : Consumes link.left_before link.left_after run.bytes
   pub acts : Acts keys old run.bytes run.acted run.out run.facts run.rest
   pub ended : Ended keys end run link new
+
+-- the hall behind a session: it is the same hall, what it sees at most grew and is a legal history, and no count fell
+pub record HasServed (old new : Facts) : Type 0 where
+  pub same : IsSameHall old new
+  pub grows : IsPrefix old.seen new.seen
+  pub legal : IsLegal new.seen
+  pub made : old.made ≤ new.made
+  pub faults : old.faults ≤ new.faults
+  pub looks : StaysOrRose old.looks new.looks

@@ -5,8 +5,10 @@ mod answering;
 mod ends;
 mod input;
 mod laws;
+mod reading;
 mod refusing;
 mod running;
+mod serving;
 #[cfg(test)]
 mod tests;
 mod texts;
@@ -14,3 +16,4 @@ mod writing;
 
 pub use ends::End;
 pub use laws::{acts_close_law, acts_hall_law, acts_more_law, acts_push_law, acts_then_law};
+pub use serving::serve_session;
