@@ -1,5 +1,5 @@
 -- A session under way begins, takes more bytes, and acts on a message.
-use Rattle.std.proofs.Common.{◌≡◌, ℕ, ◌+◌, ◌≤◌, Bool, false, List, [], ◌∷◌, ◌++◌, length, drop, refl, sym, ap, ◌∙◌, subst, arith, length-append, append-nil, Option}
+use Rattle.std.proofs.Common.{◌≡◌, inl, lit<, ℕ, ◌+◌, ◌<◌, ◌≤◌, Bool, false, List, [], ◌∷◌, ◌++◌, length, drop, refl, sym, ap, ◌∙◌, subst, arith, length-append, append-nil, append_assoc, Option}
 use Rattle.std.specs.Io.KnownBytes.{Appends, Consumes, IsAtEnd}
 use Rattle.std.proofs.KnownBytes.{Appends-nil, Appends-trans, Consumes-nil, Consumes-trans}
 use Rattle.std.proofs.lemmas.List.Elements.{All-nil, All-push}
@@ -7,7 +7,7 @@ use Rattle.venue_history.specs.Histories.{IsLegal}
 use Rattle.version_board.specs.Facts.{Facts}
 use Rattle.wire_frames.specs.Frames.{IsShort}
 use Rattle.venue_session.specs.Acting.{Acted, text_of, IsActed, AreOpen, Acts}
-use Rattle.venue_session.specs.Going.{Moment, moment, IsGoing}
+use Rattle.venue_session.specs.Going.{Moment, moment, IsGoing, StaysShort, Awaits}
 use Rattle.venue_session.proofs.Joining.{acts_push}
 
 pub going_first : (keys : List (List ℕ)) (first : Moment) → IsLegal first.facts.seen → IsGoing keys first first 0 []
@@ -23,6 +23,12 @@ going_first keys first legal = record {
   wrote = Appends-nil first.written;
   sound = refl;
 }
+
+nothing_is_short : IsShort []
+nothing_is_short = inl (refl, lit< tt)
+
+pub nothing_awaits : Awaits [] 0
+nothing_awaits = (nothing_is_short, λ behind below. absurd (omega (arith, below)))
 
 pub going_more : (law : (keys : List (List ℕ)) (old new : Facts) (bytes out rest more : List ℕ) (ms : List Acted)
         → Acts keys old bytes ms out new rest → Acts keys old (bytes ++ more) ms out new (rest ++ more))
@@ -60,3 +66,35 @@ going_acted keys first mid new left same written after faults later taken waitin
   wrote = Appends-trans first.written written after going.out (text_of m) going.wrote wrote;
   sound = sound ∙ going.sound;
 }
+
+pub going_fewer : (keys : List (List ℕ)) (first now : Moment) (taken total : ℕ) (waiting : List ℕ)
+    → IsGoing keys first now taken waiting → total ≤ taken → IsGoing keys first now total waiting
+going_fewer keys first now taken total waiting going le = record {
+  legal = going.legal;
+  bytes = going.bytes;
+  acted = going.acted;
+  out = going.out;
+  took = going.took;
+  count = omega (arith, le, going.count);
+  acts = going.acts;
+  are_open = going.are_open;
+  wrote = going.wrote;
+  sound = going.sound;
+}
+
+pub going_renamed : (keys : List (List ℕ)) (first now : Moment) (taken : ℕ) (waiting same : List ℕ)
+    → IsGoing keys first now taken waiting → same ≡ waiting → IsGoing keys first now taken same
+going_renamed keys first now taken waiting same going is = subst (λ (b : List ℕ). IsGoing keys first now taken b) (sym is) going
+
+pub short_grown : (bytes more : List ℕ) (least : ℕ) → StaysShort bytes least → StaysShort (bytes ++ more) least
+short_grown bytes more least stays = λ behind below.
+    let same : (bytes ++ more) ++ behind ≡ bytes ++ (more ++ behind) = append_assoc bytes more behind in
+    subst IsShort (sym same) (stays (more ++ behind) (subst (λ (b : List ℕ). length b < least) same below))
+
+pub short_itself : (bytes : List ℕ) (least : ℕ) → StaysShort bytes least → length bytes < least → IsShort bytes
+short_itself bytes least stays below =
+    subst IsShort (append-nil bytes) (stays [] (subst (λ (b : List ℕ). length b < least) (sym (append-nil bytes)) below))
+
+pub nothing_more : (more : List ℕ) (count : ℕ) → count ≡ length more → count ≡ 0 → more ≡ []
+nothing_more [] count is zero = refl
+nothing_more (byte ∷ more) count is zero = absurd (omega (arith, is, zero))
