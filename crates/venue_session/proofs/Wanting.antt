@@ -1,8 +1,7 @@
 -- Want of memory may stand for every answer that tells no accepted change.
-use Rattle.std.proofs.Common.{◌≡◌, ℕ, ◌+◌, refl, sym, ap, ◌∙◌}
+use Rattle.std.proofs.Common.{◌≡◌, ℕ, ◌+◌, refl, ap, ◌∙◌}
 use mathlib.Core.List.{IsPrefix}
 use Rattle.venue_types.specs.declared.reply.Reply.TheVariants as reply
-use Rattle.venue_ports.specs.Causes.{Rose}
 use Rattle.version_board.specs.Facts.{Facts}
 use Rattle.venue_wire.specs.declared.messages.Message.{Message}
 use Rattle.wire_replies.specs.declared.answer.Answer.{Answer}

@@ -24,7 +24,7 @@ pub(crate) enum Step {
     Untold,
 }
 
-/// Asks behind a look at what others changed.
+// Asks behind a look at what others changed.
 fn ask_again<H: Hall>(hall: &mut H, query: &Query) -> Reply
     ensures { IsStep (H.facts hall.old) (AMessage.Ask query.now) (Of result) (H.facts hall.new) }
 {
@@ -32,7 +32,7 @@ fn ask_again<H: Hall>(hall: &mut H, query: &Query) -> Reply
     hall.ask(query)
 }
 
-/// Asks, and once more where the question comes too early.
+// Asks, and once more where the question comes too early.
 fn ask<H: Hall>(hall: &mut H, query: &Query) -> Reply
     ensures { IsStep (H.facts hall.old) (AMessage.Ask query.now) (Of result) (H.facts hall.new) }
 {
@@ -42,13 +42,13 @@ fn ask<H: Hall>(hall: &mut H, query: &Query) -> Reply
     }
 }
 
-fn change<H: Hall>(hall: &mut H, change: &Change) -> Reply
-    ensures { IsStep (H.facts hall.old) (AMessage.Do change.now) (Of result) (H.facts hall.new) }
+fn change<H: Hall>(hall: &mut H, asked: &Change) -> Reply
+    ensures { IsStep (H.facts hall.old) (AMessage.Do asked.now) (Of result) (H.facts hall.new) }
 {
-    hall.change(change)
+    hall.change(asked)
 }
 
-/// A message that is refused by itself leaves the hall as it is.
+// A message that is refused by itself leaves the hall as it is.
 fn refuse<H: Hall>(hall: &H, refusal: Refusal) -> Answer
     ensures { IsStep (H.facts hall.now) (AMessage.Refused refusal) result (H.facts hall.now) }
 {
@@ -67,7 +67,7 @@ fn answer<H: Hall>(hall: &mut H, message: &Message) -> Answer
     }
 }
 
-/// Whether an answer tells that a change was accepted.
+// Whether an answer tells that a change was accepted.
 fn tells_change(answer: &Answer) -> bool
     ensures { told_by answer.now ≡ (if result then 1 else 0) }
 {
@@ -79,7 +79,7 @@ fn tells_change(answer: &Answer) -> bool
     }
 }
 
-/// What is written where there is no memory for an answer's text.
+// What is written where there is no memory for an answer's text.
 fn step_without_memory(answer: &Answer, close: bool) -> Step
     ensures { (old new : Facts) (message : AMessage) → IsStep old message answer.now new → Stepped old message close result new }
 {

@@ -31,7 +31,7 @@ impl Model for Input {
     ghost invariant = { λ a. (a.start ≤ a.end) × (a.end ≤ 81920) × (length a.bytes.items ≡ 81920) };
 }
 
-/// Moves the bytes from a start to an end to the front.
+// Moves the bytes from a start to an end to the front.
 fn move_to_front(bytes: &mut Vec<u8>, start: usize, end: usize)
     requires order { start ≤ end }
     requires within { end ≤ length bytes.old.items }
@@ -43,7 +43,7 @@ fn move_to_front(bytes: &mut Vec<u8>, start: usize, end: usize)
     }
 }
 
-/// Reads behind the first bytes, which stay.
+// Reads behind the first bytes, which stay.
 fn read_behind<L: Stream>(link: &mut L, bytes: &mut Vec<u8>, end: usize) -> Result<usize, Failed>
     requires { end < length bytes.old.items }
     ensures kept { take end bytes.new.items ≡ take end bytes.old.items }
@@ -90,6 +90,7 @@ impl Input {
         ensures ok { IfOk result (λ count. (more : List ℕ) × (count ≡ length more) × (self.new ≡ self.old ++ more)
             × Consumes (L.left link.old) (L.left link.new) more) }
         ensures end { IfOk result (λ count. count ≡ 0 → IsAtEnd (L.left link.new)) }
+        ensures room { length self.new ≤ 81920 }
         ensures err { OnErr result ((self.new ≡ self.old) × (L.left link.new ≡ L.left link.old)) }
         ensures written { L.written link.new ≡ L.written link.old }
         ensures cause { HasExactCause (L.faults link.old) (L.faults link.new) result }

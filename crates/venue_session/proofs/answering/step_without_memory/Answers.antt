@@ -1,4 +1,3 @@
-use Rattle.std.proofs.Common.{◌≡◌, ℕ, ap, ◌∙◌, if◌then◌else◌}
 use Rattle.venue_types.specs.declared.reply.Reply.TheVariants as reply
 use Rattle.wire_replies.specs.declared.answer.Answer.TheVariants.{Of}
 use Rattle.venue_session.proofs.Wanting.{step_wants}

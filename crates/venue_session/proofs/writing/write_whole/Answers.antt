@@ -1,4 +1,4 @@
-use Rattle.std.proofs.Common.{◌≡◌, ℕ, ◌-◌, List, length, take, drop, ◌∙◌, subst, arith, take-append-drop}
+use Rattle.std.proofs.Common.{ℕ, ◌-◌, length, take, drop, ◌∙◌, subst, arith, take-append-drop}
 use Rattle.std.specs.Io.KnownBytes.{Appends}
 use Rattle.std.proofs.lemmas.List.{length-take, length-drop}
 use Rattle.venue_session.proofs.Moving.{appends_move, appends_stay, front_grows}

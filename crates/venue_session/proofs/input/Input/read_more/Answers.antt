@@ -1,4 +1,4 @@
-use Rattle.std.proofs.Common.{◌≡◌, ℕ, ◌-◌, ◌≤◌, sym, ◌∙◌, take, drop, length, arith, length-drop}
+use Rattle.std.proofs.Common.{◌-◌, ◌≤◌, sym, ◌∙◌, take, drop, length, arith, length-drop}
 use Rattle.std.proofs.lemmas.List.{length-take-le}
 use Rattle.venue_session.proofs.Moving.{consumes_move}
 use Rattle.venue_session.proofs.Waiting.{waits_more}
