@@ -76,7 +76,7 @@ module _ (keys : List (List ℕ)) (first : Moment) (mid : Facts) (left written :
       → HasEnded keys first (moment mid same after later) (end.Refused status)
   ends_refused same after later refusal status refused is kept wrote sound =
       ended (end.Refused status) mid same after later kept (omega (arith, sound))
-          (sound ∙ going.sound, refl, refusal, (going.are_open, refused), is, in_all after (refused_text refusal) wrote)
+      (sound ∙ going.sound, refl, refusal, (going.are_open, refused), is, in_all after (refused_text refusal) wrote)
 
   pub ends_worn : IsShort waiting → 2 ^ 40 ≤ taken → HasEnded keys first (moment mid left written faults) end.Worn
   ends_worn short many =
@@ -87,21 +87,21 @@ module _ (keys : List (List ℕ)) (first : Moment) (mid : Facts) (left written :
       → HasEnded keys first (moment mid same kept later) end.LinkFault
   ends_unread same kept later short is stays le rose =
       ended end.LinkFault mid same kept later is le
-          (rose_in_all later rose, [], subst (Appends first.written kept) (sym (append-nil going.out)) (kept_wrote kept stays), inl ((going.are_open, short), refl, refl))
+      (rose_in_all later rose, [], subst (Appends first.written kept) (sym (append-nil going.out)) (kept_wrote kept stays), inl ((going.are_open, short), refl, refl))
 
   pub ends_told_in_part : (new : Facts) (same after : Option (List ℕ)) (later : ℕ) (m : Acted) (part : List ℕ) → IsActed keys mid waiting m new
       → IsPrefix part (text_of m) → Appends written after part → same ≡ left → faults ≤ later → Rose faults later
       → HasEnded keys first (moment new same after later) end.LinkFault
   ends_told_in_part new same after later m part acted within wrote kept le rose =
       ended end.LinkFault new same after later kept le
-          (rose_in_all later rose, part, in_all after part wrote, inr (inl (going.are_open, m, acted, within)))
+      (rose_in_all later rose, part, in_all after part wrote, inr (inl (going.are_open, m, acted, within)))
 
   pub ends_refused_in_part : (same after : Option (List ℕ)) (later : ℕ) (refusal : Refusal) (part : List ℕ) → IsRefused waiting refusal
       → IsPrefix part (refused_text refusal) → Appends written after part → same ≡ left → faults ≤ later → Rose faults later
       → HasEnded keys first (moment mid same after later) end.LinkFault
   ends_refused_in_part same after later refusal part refused within wrote kept le rose =
       ended end.LinkFault mid same after later kept le
-          (rose_in_all later rose, part, in_all after part wrote, inr (inr (refusal, (going.are_open, refused), refl, within)))
+      (rose_in_all later rose, part, in_all after part wrote, inr (inr (refusal, (going.are_open, refused), refl, within)))
 
   pub ends_starved : HasEnded keys first (moment mid left written faults) end.OutOfMemory
   ends_starved = ended end.OutOfMemory mid left written faults refl (omega arith) (going.sound, going.wrote, going.are_open, inl refl)

@@ -17,7 +17,7 @@ going_first keys first legal = record {
   acted = [];
   out = [];
   took = Consumes-nil first.left;
-  count = omega arith;
+  count = refl;
   acts = (refl, refl, refl);
   are_open = All-nil (λ (m : Acted). m.close ≡ false);
   wrote = Appends-nil first.written;
@@ -31,11 +31,11 @@ pub nothing_awaits : Awaits [] 0
 nothing_awaits = (nothing_is_short, λ behind below. absurd (omega (arith, below)))
 
 pub going_more : (law : (keys : List (List ℕ)) (old new : Facts) (bytes out rest more : List ℕ) (ms : List Acted)
-        → Acts keys old bytes ms out new rest → Acts keys old (bytes ++ more) ms out new (rest ++ more))
+    → Acts keys old bytes ms out new rest → Acts keys old (bytes ++ more) ms out new (rest ++ more))
     (keys : List (List ℕ)) (first : Moment) (facts : Facts) (left after written same : Option (List ℕ)) (faults later taken total : ℕ)
     (waiting more : List ℕ)
     → IsGoing keys first (moment facts left written faults) taken waiting → Consumes left after more → same ≡ written → later ≡ faults
-    → total ≤ taken + length more → IsGoing keys first (moment facts after same later) total (waiting ++ more)
+    → total ≡ taken + length more → IsGoing keys first (moment facts after same later) total (waiting ++ more)
 going_more law keys first facts left after written same faults later taken total waiting more going took kept sound count = record {
   legal = going.legal;
   bytes = going.bytes ++ more;
@@ -65,21 +65,6 @@ going_acted keys first mid new left same written after faults later taken waitin
   are_open = All-push (λ (k : Acted). k.close ≡ false) going.acted m going.are_open stays;
   wrote = Appends-trans first.written written after going.out (text_of m) going.wrote wrote;
   sound = sound ∙ going.sound;
-}
-
-pub going_fewer : (keys : List (List ℕ)) (first now : Moment) (taken total : ℕ) (waiting : List ℕ)
-    → IsGoing keys first now taken waiting → total ≤ taken → IsGoing keys first now total waiting
-going_fewer keys first now taken total waiting going le = record {
-  legal = going.legal;
-  bytes = going.bytes;
-  acted = going.acted;
-  out = going.out;
-  took = going.took;
-  count = omega (arith, le, going.count);
-  acts = going.acts;
-  are_open = going.are_open;
-  wrote = going.wrote;
-  sound = going.sound;
 }
 
 pub going_renamed : (keys : List (List ℕ)) (first now : Moment) (taken : ℕ) (waiting same : List ℕ)

@@ -86,5 +86,5 @@ pub session_serves : (keys : List (List ℕ)) (old new : Facts) (link : Measured
 session_serves keys old new link e session =
     let run = session.run in
     last_serves keys old new run
-        (acts_serve keys old run.facts run.bytes run.out run.rest run.acted session.acts session.legal)
-        (ended_last keys e run link new session.ended)
+    (acts_serve keys old run.facts run.bytes run.out run.rest run.acted session.acts session.legal)
+    (ended_last keys e run link new session.ended)

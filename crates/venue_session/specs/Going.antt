@@ -40,7 +40,7 @@ pub record IsGoing (keys : List (List ℕ)) (first now : Moment) (taken : ℕ) (
   pub acted : List Acted
   pub out : List ℕ
   pub took : Consumes first.left now.left bytes
-  pub count : taken ≤ length bytes
+  pub count : taken ≡ length bytes
   pub acts : Acts keys first.facts bytes acted out now.facts waiting
   pub are_open : AreOpen acted
   pub wrote : Appends first.written now.written out
@@ -67,7 +67,7 @@ Awaits bytes least = IsShort bytes × StaysShort bytes least
 -- bytes came behind those that waited, or the session has ended so
 abbrev pub HeardOrEnded : List (List ℕ) → Moment → Moment → ℕ → List ℕ → ℕ → Heard → Type 0
 HeardOrEnded keys first now taken waiting least (Heard.More count) =
-    (0 < count) × IsGoing keys first now (taken + count) waiting × StaysShort waiting least
+    (0 < count) × (count ≤ 81920) × IsGoing keys first now (taken + count) waiting × StaysShort waiting least
 HeardOrEnded keys first now taken waiting least (Heard.Ended end) = HasEnded keys first now end
 
 -- the session waits for more bytes, or has ended so

@@ -26,7 +26,7 @@ pub(crate) enum Stop {
     Ended(End),
 }
 
-/// Writes the text for a message, and tells how the session ends by it, if it does.
+// Writes the text for a message, and tells how the session ends by it, if it does.
 fn write_step<L: Stream>(link: &mut L, step: &Step, close: bool) -> Option<End>
     ensures { (keys : List (List ℕ)) (first : Moment) (before after : Facts) (taken : ℕ) (waiting : List ℕ) (message : Message) (length : ℕ)
         → IsGoing keys first (moment before (L.left link.old) (L.written link.old) (L.faults link.old)) taken waiting
@@ -37,18 +37,12 @@ fn write_step<L: Stream>(link: &mut L, step: &Step, close: bool) -> Option<End>
         Step::Untold => Some(End::OutOfMemory),
         Step::Replied(text) => match write_whole(link, text.as_slice()) {
             Err(_failed) => Some(End::LinkFault),
-            Ok(()) => {
-                if close {
-                    Some(End::Done)
-                } else {
-                    None
-                }
-            }
+            Ok(()) => { if close { Some(End::Done) } else { None } }
         },
     }
 }
 
-/// Acts on a message at the front of what waits, and tells how the session ends by it, if it does.
+// Acts on a message at the front of what waits, and tells how the session ends by it, if it does.
 fn answer_front<H: Hall, L: Stream>(
     alloc: Global,
     hall: &mut H,
@@ -60,13 +54,13 @@ fn answer_front<H: Hall, L: Stream>(
         → IsGoing keys first (moment (H.facts hall.old) (L.left link.old) (L.written link.old) (L.faults link.old)) taken waiting
         → At keys waiting (taken_as.Message message.now length close)
         → GoesOrEnded keys first (moment (H.facts hall.new) (L.left link.new) (L.written link.new) (L.faults link.new)) taken
-            (drop length waiting) result }
+        (drop length waiting) result }
 {
     let step = answer_message(alloc, hall, message, close);
     write_step(link, &step, close)
 }
 
-/// Acts on a message of this length at the front of what waits, and passes it: tells how the run stops there, if it does.
+// Acts on a message of this length at the front of what waits, and passes it: tells how the run stops there, if it does.
 fn pass_message<H: Hall, L: Stream>(
     alloc: Global,
     hall: &mut H,
@@ -81,7 +75,7 @@ fn pass_message<H: Hall, L: Stream>(
         → IsGoing keys first (moment (H.facts hall.old) (L.left link.old) (L.written link.old) (L.faults link.old)) taken input.old
         → At keys input.old (taken_as.Message message.now length close)
         → GoesOrStops keys first (moment (H.facts hall.new) (L.left link.new) (L.written link.new) (L.faults link.new)) taken
-            input.new result }
+        input.new result }
     ensures passed { IsNone result → input.new ≡ drop length input.old }
 {
     match answer_front(alloc, hall, link, message, close) {
@@ -93,7 +87,7 @@ fn pass_message<H: Hall, L: Stream>(
     }
 }
 
-/// Acts on what stands at the front of what waits: tells how the run stops there, if it does.
+// Acts on what stands at the front of what waits: tells how the run stops there, if it does.
 fn step<H: Hall, L: Stream>(
     alloc: Global,
     hall: &mut H,
@@ -104,7 +98,7 @@ fn step<H: Hall, L: Stream>(
     ensures stop { (first : Moment) (taken : ℕ)
         → IsGoing front.now first (moment (H.facts hall.old) (L.left link.old) (L.written link.old) (L.faults link.old)) taken input.old
         → GoesOrStops front.now first (moment (H.facts hall.new) (L.left link.new) (L.written link.new) (L.faults link.new)) taken
-            input.new result }
+        input.new result }
     ensures shorter { IsNone result → length input.new < length input.old }
 {
     message_length_law();
@@ -131,7 +125,7 @@ pub(crate) fn run_steps<H: Hall, L: Stream>(
     ensures { (first : Moment) (taken : ℕ)
         → IsGoing front.now first (moment (H.facts hall.old) (L.left link.old) (L.written link.old) (L.faults link.old)) taken input.old
         → WaitsOrEnded front.now first (moment (H.facts hall.new) (L.left link.new) (L.written link.new) (L.faults link.new)) taken
-            input.new result }
+        input.new result }
 {
     'steps: loop {
         if let Some(stop) = step(alloc, hall, front, link, input) {

@@ -14,10 +14,10 @@ use venue_ports::Stream;
 use venue_wire::{Front, more_is_short_law};
 use version_board::Hall;
 
-/// Behind so many bytes a session ends by itself, once all the messages in them are answered.
+// Behind so many bytes a session ends by itself, once all the messages in them are answered.
 const MOST: u64 = 1 << 40;
 
-/// Acts on the messages that wait, where there are enough bytes for one.
+// Acts on the messages that wait, where there are enough bytes for one.
 fn run_where_due<H: Hall, L: Stream>(
     alloc: Global,
     hall: &mut H,
@@ -30,7 +30,7 @@ fn run_where_due<H: Hall, L: Stream>(
         → IsGoing front.now first (moment (H.facts hall.old) (L.left link.old) (L.written link.old) (L.faults link.old)) taken input.old
         → StaysShort input.old least
         → WaitsOrEnded front.now first (moment (H.facts hall.new) (L.left link.new) (L.written link.new) (L.faults link.new)) taken
-            input.new result }
+        input.new result }
 {
     if input.waiting().len() < least {
         Stop::Waiting(least)
@@ -39,7 +39,7 @@ fn run_where_due<H: Hall, L: Stream>(
     }
 }
 
-/// Reads and runs in turn, from an input in which nothing waits.
+// Reads and runs in turn, from an input in which nothing waits.
 fn serve<H: Hall, L: Stream>(
     alloc: Global,
     hall: &mut H,
@@ -58,7 +58,7 @@ fn serve<H: Hall, L: Stream>(
     'reads: while taken < MOST {
         match read_on(link, input) {
             Heard::Ended(end) => return end,
-            Heard::More(count) => taken = taken.saturating_add(count as u64),
+            Heard::More(count) => taken += count as u64,
         }
         match run_where_due(alloc, hall, front, link, input, least) {
             Stop::Ended(end) => return end,
@@ -85,9 +85,13 @@ pub fn serve_session<H: Hall, L: Stream>(
     link: &mut L,
 ) -> End
     ensures session { IsSession front.now (H.facts hall.old) (H.facts hall.new) (record {
-        left_before = L.left link.old; left_after = L.left link.new;
-        written_before = L.written link.old; written_after = L.written link.new;
-        faults_before = L.faults link.old; faults_after = L.faults link.new }) result }
+      left_before = L.left link.old;
+      left_after = L.left link.new;
+      written_before = L.written link.old;
+      written_after = L.written link.new;
+      faults_before = L.faults link.old;
+      faults_after = L.faults link.new;
+    }) result }
     ensures hall { HasServed (H.facts hall.old) (H.facts hall.new) }
     ensures link { L.faults link.old ≤ L.faults link.new }
 {
