@@ -4,3 +4,9 @@ pub mod Facts
 pub mod Views
 pub mod Usable
 pub mod Inside
+pub mod Networks
+pub mod Marking
+pub mod Cores
+pub mod Lower
+pub mod Detours
+pub mod Graphs
