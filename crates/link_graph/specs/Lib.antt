@@ -10,3 +10,5 @@ pub mod Cores
 pub mod Lower
 pub mod Detours
 pub mod Graphs
+pub mod Making
+pub mod Grounds

@@ -3,14 +3,19 @@
 
 mod asking;
 mod calls;
+mod crossings;
+mod doors;
 mod graph;
 mod laws;
 mod leading;
+mod leaving;
 mod making;
 mod marks;
 mod network_laws;
 mod parts;
+mod seating;
 mod stretches;
+mod trails;
 
 pub use graph::Graph;
 pub use laws::{detour_law, inside_law, length_between_law, range_law, whole_law};

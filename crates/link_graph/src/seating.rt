@@ -1,0 +1,69 @@
+//! Where nodes stand in the rows in which they have links.
+
+ghost use Rattle.std.specs.Prelude.{◌≡◌, ◌<◌, ◌≤◌, IfOk, length, sum_by};
+ghost use Rattle.venue_nodes.specs.declared.members.Membership.{Membership as AMembership};
+ghost use Rattle.venue_nodes.specs.Rows.{row_list};
+ghost use Rattle.venue_nodes.specs.Standing.{standings};
+ghost use Rattle.link_graph.specs.Making.{AreRoomy, AreSeats, others_among, seats_among};
+
+use crate::parts::{Crossing, Seat};
+use std::alloc::Global;
+use venue_nodes::Rows;
+use venue_types::{List, OutOfMemory};
+
+// How many links each member of a row has across its unit.
+fn others(rows: &Rows, crossings: &[Crossing], w: u32) -> u32
+    requires paired { length crossings.now ≡ length (row_list rows.now) }
+    requires roomy { AreRoomy (row_list rows.now) }
+    ensures { result ≡ others_among crossings.now (row_list rows.now) w }
+{
+    match crossings.get(w as usize) {
+        Some(crossing) if crossing.walked => (rows.row(w).len() as u32).saturating_sub(1),
+        _ => 0,
+    }
+}
+
+// The seats of a node.
+fn seats_at(
+    alloc: Global,
+    rows: &Rows,
+    crossings: &[Crossing],
+    node: u32,
+) -> Result<List<Seat>, OutOfMemory>
+    requires paired { length crossings.now ≡ length (row_list rows.now) }
+    requires roomy { AreRoomy (row_list rows.now) }
+    ensures { IfOk result (λ seats. seats ≡ seats_among crossings.now (row_list rows.now) 0 (standings node 0 (row_list rows.now))) }
+{
+    let mut seats = List::new(alloc);
+    let mut first = 0;
+    for membership in rows.memberships(node) {
+        let count = others(rows, crossings, membership.unit);
+        if count > 0 {
+            seats.push(Seat {
+                row: membership.unit,
+                place: membership.place,
+                first,
+            })?;
+            first += count;
+        }
+    }
+    Ok(seats)
+}
+
+/// For each of so many nodes its seats. Takes time in proportion to their number and that of the members of rows.
+pub(crate) fn seats_of(
+    alloc: Global,
+    count: u32,
+    rows: &Rows,
+    crossings: &[Crossing],
+) -> Result<Vec<List<Seat>>, OutOfMemory>
+    requires paired { length crossings.now ≡ length (row_list rows.now) }
+    requires roomy { AreRoomy (row_list rows.now) }
+    ensures { IfOk result (λ seats. AreSeats crossings.now (row_list rows.now) count seats.items) }
+{
+    let mut seats = Vec::with_capacity(alloc, count as usize)?;
+    for node in 0..count {
+        seats.push(seats_at(alloc, rows, crossings, node)?)?;
+    }
+    Ok(seats)
+}
