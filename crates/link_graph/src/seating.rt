@@ -3,12 +3,11 @@
 ghost use Rattle.std.specs.Prelude.{◌≡◌, ◌<◌, ◌≤◌, IfOk, length, sum_by};
 ghost use Rattle.venue_nodes.specs.declared.members.Membership.{Membership as AMembership};
 ghost use Rattle.venue_nodes.specs.Rows.{row_list};
-ghost use Rattle.venue_nodes.specs.Standing.{standings};
 ghost use Rattle.link_graph.specs.Making.{AreRoomy, AreSeats, others_among, seats_among};
 
 use crate::parts::{Crossing, Seat};
 use std::alloc::Global;
-use venue_nodes::Rows;
+use venue_nodes::{Membership, Rows};
 use venue_types::{List, OutOfMemory};
 
 // How many links each member of a row has across its unit.
@@ -23,20 +22,21 @@ fn others(rows: &Rows, crossings: &[Crossing], w: u32) -> u32
     }
 }
 
-// The seats of a node.
-fn seats_at(
+// The seats of a node that is a member of these units.
+fn seats_in(
     alloc: Global,
     rows: &Rows,
     crossings: &[Crossing],
-    node: u32,
+    memberships: &[Membership],
 ) -> Result<List<Seat>, OutOfMemory>
     requires paired { length crossings.now ≡ length (row_list rows.now) }
     requires roomy { AreRoomy (row_list rows.now) }
-    ensures { IfOk result (λ seats. seats ≡ seats_among crossings.now (row_list rows.now) 0 (standings node 0 (row_list rows.now))) }
+    requires few { sum_by (λ (m : AMembership). others_among crossings.now (row_list rows.now) m.unit) memberships.now ≤ 20000000 }
+    ensures { IfOk result (λ seats. seats ≡ seats_among crossings.now (row_list rows.now) 0 memberships.now) }
 {
     let mut seats = List::new(alloc);
     let mut first = 0;
-    for membership in rows.memberships(node) {
+    for membership in memberships {
         let count = others(rows, crossings, membership.unit);
         if count > 0 {
             seats.push(Seat {
@@ -63,7 +63,8 @@ pub(crate) fn seats_of(
 {
     let mut seats = Vec::with_capacity(alloc, count as usize)?;
     for node in 0..count {
-        seats.push(seats_at(alloc, rows, crossings, node)?)?;
+        let memberships = rows.memberships(node);
+        seats.push(seats_in(alloc, rows, crossings, memberships)?)?;
     }
     Ok(seats)
 }

@@ -6,7 +6,7 @@ ghost use Rattle.venue_nodes.specs.Nodes.{nodes as nodes_of};
 ghost use Rattle.venue_nodes.specs.Unplaced.{one_or_none};
 ghost use Rattle.venue_nodes.specs.Views.{find_place};
 ghost use Rattle.link_graph.specs.Grounds.{IsGround};
-ghost use Rattle.link_graph.specs.Links.{passage_link, pair_links, whole_chain_links, relationship_links, chain as chain_of, extra_of};
+ghost use Rattle.link_graph.specs.Links.{passage_link, pair_links, chain_links, whole_chain_links, relationship_links, chain as chain_of, extra_of};
 ghost use Rattle.link_graph.specs.Making.{places_on, passages_from};
 
 use crate::laws::length_between_law;
@@ -116,22 +116,37 @@ impl Ground<'_> {
         Ok(())
     }
 
-    // Adds the links along a chain, pair by pair.
-    fn add_chain(&self, links: &mut Vec<Link>, trail: Trail, chain: &[u32]) -> Result<(), OutOfMemory>
+    // Adds the links from a node along what follows it in a chain, pair by pair.
+    fn add_rest(
+        &self,
+        links: &mut Vec<Link>,
+        trail: Trail,
+        first: u32,
+        rest: &[u32],
+    ) -> Result<(), OutOfMemory>
         requires ground { IsGround self.now }
-        requires within { All (λ n. n < length (nodes_of self.now.features.now)) chain.now }
-        ensures { OnOk result (links.new.items ≡ links.old.items ++ whole_chain_links self.now.features.now self.now.settings.now trail.via trail.kind trail.directed chain.now) }
+        requires from { first < length (nodes_of self.now.features.now) }
+        requires within { All (λ n. n < length (nodes_of self.now.features.now)) rest.now }
+        ensures { OnOk result (links.new.items ≡ links.old.items ++ chain_links self.now.features.now self.now.settings.now trail.via trail.kind trail.directed first rest.now) }
     {
-        let (first, rest) = match chain {
-            [] => return Ok(()),
-            [first, rest @ ..] => (*first, rest),
-        };
         let mut last = first;
         for next in rest {
             self.add_pair(links, trail, last, *next)?;
             last = *next;
         }
         Ok(())
+    }
+
+    // Adds the links along a chain.
+    fn add_chain(&self, links: &mut Vec<Link>, trail: Trail, chain: &[u32]) -> Result<(), OutOfMemory>
+        requires ground { IsGround self.now }
+        requires within { All (λ n. n < length (nodes_of self.now.features.now)) chain.now }
+        ensures { OnOk result (links.new.items ≡ links.old.items ++ whole_chain_links self.now.features.now self.now.settings.now trail.via trail.kind trail.directed chain.now) }
+    {
+        match chain {
+            [] => Ok(()),
+            [first, rest @ ..] => self.add_rest(links, trail, *first, rest),
+        }
     }
 
     // The nodes of a relationship's elements, in their order.
