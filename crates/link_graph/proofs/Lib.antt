@@ -6,3 +6,7 @@ pub mod Ranges
 pub mod Insides
 pub mod Across
 pub mod MadeTrails
+pub mod MadeDoors
+pub mod MadeSeats
+pub mod MadeUnits
+pub mod MadeCore
