@@ -12,3 +12,4 @@ pub mod Detours
 pub mod Graphs
 pub mod Making
 pub mod Grounds
+pub mod Faults

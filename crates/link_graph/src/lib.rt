@@ -2,9 +2,11 @@
 #![tactic(auto)]
 
 mod asking;
+mod building;
 mod calls;
 mod crossings;
 mod doors;
+mod faults;
 mod graph;
 mod laws;
 mod leading;
@@ -17,6 +19,7 @@ mod seating;
 mod stretches;
 mod trails;
 
+pub use faults::GraphFault;
 pub use graph::Graph;
 pub use laws::{detour_law, inside_law, length_between_law, range_law, whole_law};
 pub use marks::Marks;
