@@ -5,3 +5,8 @@ pub mod Sorts
 pub mod Ranges
 pub mod Insides
 pub mod Across
+pub mod MadeTrails
+pub mod MadeDoors
+pub mod MadeSeats
+pub mod MadeUnits
+pub mod MadeCore

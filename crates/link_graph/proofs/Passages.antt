@@ -60,7 +60,7 @@ of_whole_chain features settings via kind directed bound [] link k there = absur
 of_whole_chain features settings via kind directed bound (a ∷ rest) link k there =
     of_chain features settings via kind directed bound a rest link (k a (Contains-first a rest)) (λ c s. k c (Contains-later a rest c s)) there
 
-chain_within : (features : Features) (row : RelationshipRow) (c : ℕ) → Contains (chain features row) c → c < length (nodes features)
+pub chain_within : (features : Features) (row : RelationshipRow) (c : ℕ) → Contains (chain features row) c → c < length (nodes features)
 chain_within features row c h =
     let place = λ (e : Element). place_of features e.reference.id in
     let at = at_member (chain features row) c h in

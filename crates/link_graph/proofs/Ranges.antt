@@ -26,7 +26,7 @@ member_within features border_tol u a h =
     let within = places_within (is_member border_tol u) (node_rows features) at.0 a at.1 in
     rw length-map within
 
-closables_count : (features : Features) → length (closables features) ≡ length features.openings + length features.relationships + length features.units
+pub closables_count : (features : Features) → length (closables features) ≡ length features.openings + length features.relationships + length features.units
 unfolding closables
 closables_count features = simp (length-append, length-map) refl
 
@@ -60,7 +60,7 @@ inside_range features settings link h =
       apart = λ e. true≢false (sym h.joined ∙ ap not (eq-eqb h.a h.b e));
     })
 
-passage_range : (features : Features) (settings : Settings) (link : Link) → IsPassage features settings link → IsInRange (length (nodes features)) (length (closables features)) link
+pub passage_range : (features : Features) (settings : Settings) (link : Link) → IsPassage features settings link → IsInRange (length (nodes features)) (length (closables features)) link
 passage_range features settings link h =
     let within = slice_get_within features.relationships h.k h.row h.there in
     let count = closables_count features in

@@ -29,16 +29,20 @@ unit_by features via = (if nat_lt via (first_unit features) then None else slice
 unfoldable pub facts_at : Features → Link → LinkFacts
 facts_at features link = facts_of link.kind (unit_by features link.via) (end_at features link.from) (end_at features link.to)
 
--- the feature of a node is closed
-abbrev pub IsNodeClosed : Features → List FeatureId → ℕ → Type 0
-IsNodeClosed features closed n = (node : Node) × (slice_get (nodes features) n ≡ Some node) × Contains closed node.id
+-- the feature of a node is closed, of these nodes
+abbrev pub IsNodeClosed : List Node → List FeatureId → ℕ → Type 0
+IsNodeClosed nodes closed n = (node : Node) × (slice_get nodes n ≡ Some node) × Contains closed node.id
 
--- the unit or the relationship that a link goes by is closed
-abbrev pub IsWayClosed : Features → List FeatureId → ℕ → Type 0
-IsWayClosed features closed via = (id : FeatureId) × (slice_get (closables features) via ≡ Some id) × Contains closed id
+-- the unit or the relationship that a link goes by is closed, of what can be
+abbrev pub IsWayClosed : List FeatureId → List FeatureId → ℕ → Type 0
+IsWayClosed closables closed via = (id : FeatureId) × (slice_get closables via ≡ Some id) × Contains closed id
+
+-- of these nodes and of what can be closed: neither the way of a link nor the feature at either end is closed
+pub record IsOpenAmong (nodes : List Node) (closables closed : List FeatureId) (link : Link) : Type 0 where
+  pub way : ¬ IsWayClosed closables closed link.via
+  pub start : ¬ IsNodeClosed nodes closed link.from
+  pub finish : ¬ IsNodeClosed nodes closed link.to
 
 -- neither the way of a link nor the feature at either end is closed
-pub record IsOpen (features : Features) (closed : List FeatureId) (link : Link) : Type 0 where
-  pub way : ¬ IsWayClosed features closed link.via
-  pub start : ¬ IsNodeClosed features closed link.from
-  pub finish : ¬ IsNodeClosed features closed link.to
+abbrev pub IsOpen : Features → List FeatureId → Link → Type 0
+IsOpen features closed link = IsOpenAmong (nodes features) (closables features) closed link

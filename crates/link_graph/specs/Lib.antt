@@ -4,3 +4,12 @@ pub mod Facts
 pub mod Views
 pub mod Usable
 pub mod Inside
+pub mod Networks
+pub mod Marking
+pub mod Cores
+pub mod Lower
+pub mod Detours
+pub mod Graphs
+pub mod Making
+pub mod Grounds
+pub mod Faults

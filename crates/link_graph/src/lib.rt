@@ -1,6 +1,27 @@
 //! The links of a venue: which there are, in which order, what they cost, what they ask of who uses them, and which are open.
 #![tactic(auto)]
 
+mod asking;
+mod building;
+mod calls;
+mod crossings;
+mod doors;
+mod faults;
+mod graph;
 mod laws;
+mod leading;
+mod leaving;
+mod making;
+mod marks;
+mod network_laws;
+mod parts;
+mod seating;
+mod stretches;
+mod trails;
 
+pub use faults::GraphFault;
+pub use graph::Graph;
 pub use laws::{detour_law, inside_law, length_between_law, range_law, whole_law};
+pub use marks::Marks;
+pub use network_laws::{network_parts_law, passable_law};
+pub use stretches::{Stretch, Way};

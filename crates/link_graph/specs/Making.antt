@@ -1,0 +1,112 @@
+-- What a graph keeps, as it is made of the features: the code's own machinery, which no public contract cites.
+use Rattle.std.specs.Prelude.{◌≡◌, ℕ, ◌+◌, ◌-◌, ◌<◌, ◌≤◌, ◌==◌, List, [], ◌∷◌, ◌++◌, map, flat_map, filter, length, replicate, sum_by, slice_get, slice_index_or, All, Contains, Option, Some, None, Bool, false, not, nat_lt, if◌then◌else◌}
+use Rattle.std.specs.List.{enumerate_from, filter_map}
+use Rattle.venue_types.specs.declared.feature_id.FeatureId.{FeatureId}
+use Rattle.venue_types.specs.declared.features.Features.{Features}
+use Rattle.venue_types.specs.declared.features.Ref.{Ref}
+use Rattle.venue_types.specs.declared.features.UnitRow.{UnitRow}
+use Rattle.venue_types.specs.declared.link.Link.{Link}
+use Rattle.venue_types.specs.declared.link.Node.{Node}
+use Rattle.venue_types.specs.declared.settings.Settings.{Settings}
+use Rattle.imdf_access.specs.Categories.{is_walkable, unit_kind_of}
+use Rattle.imdf_access.specs.Parts.{end_facts}
+use Rattle.plane_exact.specs.Plane.{IsCloseDoubled}
+use Rattle.venue_nodes.specs.declared.members.Membership.{Membership}
+use Rattle.venue_nodes.specs.declared.nodes.Nodes.{Nodes}
+use Rattle.venue_nodes.specs.Crowds.{IsRoomy, square_of}
+use Rattle.venue_nodes.specs.Members.{places_where}
+use Rattle.venue_nodes.specs.Nodes.{NodeRow, amenity, anchor, opening, unit, node_rows}
+use Rattle.venue_nodes.specs.Rows.{AreRowsOf, row_list}
+use Rattle.venue_nodes.specs.Standing.{standings}
+use Rattle.venue_nodes.specs.Views.{AreNodes, node_list, find_closable}
+use Rattle.link_graph.specs.declared.parts.Core.{Core}
+use Rattle.link_graph.specs.declared.parts.Crossing.{Crossing}
+use Rattle.link_graph.specs.declared.parts.Door.{Door}
+use Rattle.link_graph.specs.declared.parts.Seat.{Seat}
+use Rattle.link_graph.specs.Facts.{end_of}
+use Rattle.link_graph.specs.Links.{first_unit, is_moving, relationship_links}
+
+-- ---- units
+
+-- the unit of this number among what can be closed, as one that is crossed
+abbrev pub crossing_of : ℕ → UnitRow → Crossing
+crossing_of via u = record { via = via; kind = unit_kind_of u.category; walked = not (is_moving (unit_kind_of u.category)) }
+
+-- the walkable ones of the units, which are numbered from here
+abbrev pub crossings_from : ℕ → List UnitRow → List Crossing
+crossings_from via [] = []
+crossings_from via (u ∷ us) = (if is_walkable u.category then crossing_of via u ∷ crossings_from (via + 1) us else crossings_from (via + 1) us)
+
+-- behind so many that are no units, whether each unit is restricted
+abbrev pub barred_from : ℕ → List UnitRow → List Bool
+barred_from count units = replicate count false ++ map (λ (u : UnitRow). u.restricted) units
+
+-- ---- nodes
+
+abbrev pub id_of_row : NodeRow → FeatureId
+id_of_row (amenity row) = row.id
+id_of_row (anchor row) = row.id
+id_of_row (opening row) = row.id
+id_of_row (unit row) = row.id
+
+-- what is known of the node of a feature, by the numbers of what can be closed
+abbrev pub door_of : (FeatureId → Option ℕ) → NodeRow → Door
+door_of find row = record { facts = end_facts (end_of row); closable = find (id_of_row row) }
+
+-- any two nodes are close
+pub record AreClose (nodes : Nodes) : Type 0 where
+  pub close : (a b : Node) → Contains (node_list nodes) a → Contains (node_list nodes) b → IsCloseDoubled a.spot b.spot
+
+-- ---- relationships
+
+-- the places that these references name
+abbrev pub places_on : (FeatureId → Option ℕ) → List Ref → List ℕ
+places_on find refs = filter_map (λ (r : Ref). find r.id) refs
+
+-- the links by relationships, of which the first has this number
+abbrev pub passages_from : Features → Settings → ℕ → List Link
+passages_from features settings via = flat_map (relationship_links features settings) (enumerate_from via features.relationships)
+
+-- ---- seats
+
+-- how many links each member of this row has across its unit
+abbrev pub others_among : List Crossing → List (List ℕ) → ℕ → ℕ
+others_among crossings rows w = elim (slice_get crossings w) [ None ↦ 0 | Some crossing ↦ (if crossing.walked then length (slice_index_or rows w []) - 1 else 0) ]
+
+-- of where a node stands the rows in which it has links, with the place of the first of these
+abbrev pub seats_among : List Crossing → List (List ℕ) → ℕ → List Membership → List Seat
+seats_among crossings rows at [] = []
+seats_among crossings rows at (m ∷ ms) =
+    (if nat_lt 0 (others_among crossings rows m.unit) then record { row = m.unit; place = m.place; first = at } ∷ seats_among crossings rows (at + others_among crossings rows m.unit) ms
+    else seats_among crossings rows at ms)
+
+-- the rows have room, and all their squares too
+pub record AreRoomy (rows : List (List ℕ)) : Type 0 where
+  pub each : All IsRoomy rows
+  pub squares : sum_by square_of rows ≤ 20000000
+
+-- for each node its seats
+pub record AreSeats (crossings : List Crossing) (rows : List (List ℕ)) (count : ℕ) (seats : List (List Seat)) : Type 0 where
+  pub many : length seats ≡ count
+  pub each : (n : ℕ) → n < count → slice_index_or seats n [] ≡ seats_among crossings rows 0 (standings n 0 rows)
+
+-- for each node the numbers of the links that start there
+pub record AreLeaving (passages : List Link) (count : ℕ) (leaving : List (List ℕ)) : Type 0 where
+  pub many : length leaving ≡ count
+  pub each : (n : ℕ) → slice_index_or leaving n [] ≡ places_where (λ (link : Link). link.from == n) 0 passages
+
+-- ---- all of it
+
+-- it is made of these features
+pub record IsMadeOf (features : Features) (settings : Settings) (core : Core) : Type 0 where
+  pub nodes : AreNodes features core.nodes
+  pub rows : AreRowsOf features settings.border_tol core.rows
+  pub crossings : core.crossings.items ≡ crossings_from (first_unit features) features.units
+  pub doors : core.doors.items ≡ map (door_of (find_closable core.nodes)) (node_rows features)
+  pub passages : core.passages.items ≡ passages_from features settings (length features.openings)
+  pub seats : AreSeats core.crossings.items (row_list core.rows) (length (node_list core.nodes)) core.seats.items
+  pub leaving : AreLeaving core.passages.items (length (node_list core.nodes)) core.leaving.items
+  pub barred : core.barred.items ≡ barred_from (first_unit features) features.units
+  pub first_unit_is : core.first_unit ≡ first_unit features
+  pub kx_is : core.kx ≡ settings.kx
+  pub ky_is : core.ky ≡ settings.ky
