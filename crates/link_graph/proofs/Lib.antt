@@ -5,3 +5,4 @@ pub mod Sorts
 pub mod Ranges
 pub mod Insides
 pub mod Across
+pub mod LeadingLists

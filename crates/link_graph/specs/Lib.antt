@@ -10,3 +10,4 @@ pub mod Cores
 pub mod Lower
 pub mod Detours
 pub mod Graphs
+pub mod Leads

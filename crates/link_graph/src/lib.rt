@@ -3,14 +3,18 @@
 
 mod asking;
 mod calls;
+mod finding;
 mod graph;
 mod laws;
 mod leading;
+mod listing;
 mod making;
 mod marks;
 mod network_laws;
+mod outlook;
 mod parts;
 mod stretches;
+mod ways;
 
 pub use graph::Graph;
 pub use laws::{detour_law, inside_law, length_between_law, range_law, whole_law};
