@@ -6,3 +6,4 @@ pub mod Ranges
 pub mod Insides
 pub mod Across
 pub mod LeadingLists
+pub mod LeadingRows
