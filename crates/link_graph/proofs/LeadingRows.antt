@@ -75,14 +75,14 @@ of_rows core n w F (crossing ∷ crossings) (row ∷ rows) e h =
     ∙ sym (flat_map-append (λ (m : Membership). F m.unit) (map (seated w) (places_where (λ m. eqb m n) 0 row)) (standings n (w + 1) rows))
 
 -- the row of a number is there
-row_known : (core : Core) (n w : ℕ) (crossing : Crossing) (row : List ℕ) → slice_get core.crossings.items w ≡ Some crossing → slice_get (row_list core.rows) w ≡ Some row
+pub row_known : (core : Core) (n w : ℕ) (crossing : Crossing) (row : List ℕ) → slice_get core.crossings.items w ≡ Some crossing → slice_get (row_list core.rows) w ≡ Some row
     → links_of_row core n w ≡ cond crossing.walked (links_across_from core crossing row n) []
 unfolding links_of_row
 row_known core n w crossing row here there =
     ap (λ (found : Option Crossing). elim found [ None ↦ [] | Some c ↦ cond c.walked (links_across_from core c (get_or (row_list core.rows) w []) n) [] ]) here
     ∙ ap (λ (r : List ℕ). cond crossing.walked (links_across_from core crossing r n) []) (get_or_from_slice_get (row_list core.rows) w row [] there)
 
-across_memberships : (core : Core) (n : ℕ) → IsSoundCore core
+pub across_memberships : (core : Core) (n : ℕ) → IsSoundCore core
     → filter (starts_at n) (links_across_all core core.crossings.items (row_list core.rows)) ≡ flat_map (λ (m : Membership). links_of_row core n m.unit) (standings n 0 (row_list core.rows))
 across_memberships core n sound =
     of_rows core n 0 (links_of_row core n) core.crossings.items (row_list core.rows) sound.paired (λ k crossing row here there.

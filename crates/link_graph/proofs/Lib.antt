@@ -7,3 +7,5 @@ pub mod Insides
 pub mod Across
 pub mod LeadingLists
 pub mod LeadingRows
+pub mod LeadingSeats
+pub mod LeadingPlaces
