@@ -9,3 +9,4 @@ pub mod LeadingLists
 pub mod LeadingRows
 pub mod LeadingSeats
 pub mod LeadingPlaces
+pub mod LeadingEnds
