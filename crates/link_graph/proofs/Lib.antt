@@ -10,3 +10,4 @@ pub mod LeadingRows
 pub mod LeadingSeats
 pub mod LeadingPlaces
 pub mod LeadingEnds
+pub mod LeadingReads

@@ -19,6 +19,7 @@ pub(crate) enum Lead {
 }
 
 /// The link at a place among those that start at a node.
+#[tactic(auto, unfolding(crate::specs::Cores::network_in))]
 pub(crate) fn lead_at(core: &Core, n: u32, place: u32) -> Lead
     requires sound { IsSoundCore core.now }
     requires node { n < length (network_in core.now).nodes }
@@ -51,6 +52,7 @@ pub(crate) fn others(core: &Core, row: u32) -> u32
 }
 
 /// How many links a node has across units.
+#[tactic(auto, unfolding(crate::specs::Cores::network_in))]
 pub(crate) fn across_end(core: &Core, n: u32) -> u32
     requires sound { IsSoundCore core.now }
     requires node { n < length (network_in core.now).nodes }

@@ -14,6 +14,7 @@ use crate::ways::{across_link, is_within, room_below};
 use venue_types::Link;
 
 /// How many links start at a node.
+#[tactic(auto, unfolding(crate::specs::Cores::network_in))]
 pub(crate) fn out_count(core: &Core, n: u32) -> u32
     requires sound { IsSoundCore core.now }
     requires node { n < length (network_in core.now).nodes }
@@ -23,6 +24,7 @@ pub(crate) fn out_count(core: &Core, n: u32) -> u32
 }
 
 /// The link at a place among those that start at a node. Takes time logarithmic in the number of units of the node.
+#[tactic(auto, unfolding(crate::specs::Cores::network_in))]
 pub(crate) fn out_link(core: &Core, n: u32, place: u32) -> Link
     requires sound { IsSoundCore core.now }
     requires node { n < length (network_in core.now).nodes }
@@ -36,6 +38,7 @@ pub(crate) fn out_link(core: &Core, n: u32, place: u32) -> Link
 }
 
 /// That link, where it leads to its end at a cost below the one that is listed.
+#[tactic(auto, unfolding(crate::specs::Cores::network_in))]
 pub(crate) fn lower_link(core: &Core, n: u32, place: u32, base: u64, least: &[u64]) -> Option<Link>
     requires sound { IsSoundCore core.now }
     requires node { n < length (network_in core.now).nodes }

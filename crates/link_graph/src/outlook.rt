@@ -8,6 +8,7 @@ use crate::parts::{Core, Seat};
 use crate::stretches::{Stretch, Way};
 
 /// How many stretches the links out of a node have.
+#[tactic(auto, unfolding(crate::specs::Cores::network_in))]
 pub(crate) fn stretch_count(core: &Core, n: u32) -> u32
     requires sound { IsSoundCore core.now }
     requires node { n < length (network_in core.now).nodes }
@@ -17,6 +18,7 @@ pub(crate) fn stretch_count(core: &Core, n: u32) -> u32
 }
 
 /// One of them.
+#[tactic(auto, unfolding(crate::specs::Cores::network_in))]
 pub(crate) fn stretch_at(core: &Core, n: u32, k: u32) -> Stretch
     requires sound { IsSoundCore core.now }
     requires node { n < length (network_in core.now).nodes }
@@ -36,18 +38,16 @@ pub(crate) fn stretch_at(core: &Core, n: u32, k: u32) -> Stretch
 // The links across the unit of a seat.
 fn seat_stretch(core: &Core, seat: &Seat) -> Stretch
     requires sound { IsSoundCore core.now }
+    requires row { seat.now.row < length core.now.crossings.items }
     ensures { result ≡ stretch_of core.now seat.now }
 {
-    let way = match core.crossings.get(seat.row as usize) {
-        None => Way::Between,
-        Some(crossing) => Way::Inside {
+    let crossing = core.crossings[seat.row as usize];
+    Stretch {
+        way: Way::Inside {
             via: crossing.via,
             kind: crossing.kind,
             restricted: core.barred[crossing.via as usize],
         },
-    };
-    Stretch {
-        way,
         first: seat.first,
         count: others(core, seat.row),
     }
