@@ -1,5 +1,5 @@
 -- How many links there are, and where they lead.
-use Rattle.std.proofs.Common.{◌≡◌, ◌≢◌, ℕ, ◌+◌, ◌-◌, ◌*◌, ◌<◌, ◌≤◌, zero, suc, Bool, true, false, cond, not, eqb, ltb, List, [], ◌∷◌, ◌++◌, Option, Some, None, length, map, get_or, refl, sym, ap, ◌∙◌, subst, arith, inl, inr, length-append}
+use Rattle.std.proofs.Common.{◌≡◌, ◌≢◌, ℕ, ◌+◌, ◌-◌, ◌*◌, ◌<◌, ◌≤◌, zero, suc, Bool, true, false, cond, not, eqb, ltb, List, [], ◌∷◌, ◌++◌, Option, Some, None, length, map, get_or, refl, sym, ap, ◌∙◌, subst, arith, inl, inr, length-append, eq-eqb}
 use Rattle.std.specs.Prelude.{slice_get, filter, All, Contains, sum_by, IsTrue}
 use Rattle.std.specs.List.{flat_map}
 use Rattle.std.proofs.lemmas.List.{length-map}
@@ -154,3 +154,15 @@ out_member core n place link h = (from_filter (starts_at n) (links_in core) link
 
 pub out_ends : (core : Core) (n place : ℕ) (link : Link) → IsSoundCore core → slice_get (links_out (network_in core) n) place ≡ Some link → HasEnds core link
 out_ends core n place link sound h = link_ends core link sound (out_member core n place link h)
+
+-- a link stands at a place among those out of its start, and what stands there is a link
+pub stands_out : (core : Core) (link : Link) → IsSoundCore core → Contains (network_in core).links link → (link.from < length (network_in core).nodes) × (place : ℕ) × (slice_get (links_out (network_in core) link.from) place ≡ Some link)
+unfolding network_in
+stands_out core link sound h =
+    let ends = link_ends core link sound h in
+    let at = at_member (filter (starts_at link.from) (links_in core)) link (to_filter (starts_at link.from) (links_in core) link h (eq-eqb link.from link.from refl)) in
+    (ends.from, at.0, at.1)
+
+pub out_stands : (core : Core) (link : Link) (place : ℕ) → slice_get (links_out (network_in core) link.from) place ≡ Some link → Contains (network_in core).links link
+unfolding network_in
+out_stands core link place h = (from_filter (starts_at link.from) (links_in core) link (member_at (filter (starts_at link.from) (links_in core)) place link h)).0

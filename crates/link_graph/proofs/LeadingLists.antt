@@ -1,10 +1,11 @@
 -- Lists that are filtered, joined and read by place.
-use Rattle.std.proofs.Common.{◌≡◌, ◌≢◌, ℕ, ◌+◌, ◌-◌, ◌*◌, ◌<◌, ◌≤◌, zero, suc, Bool, true, false, cond, not, eqb, ltb, List, [], ◌∷◌, ◌++◌, Option, Some, None, length, map, refl, sym, ap, ◌∙◌, subst, arith, inl, inr}
+use Rattle.std.proofs.Common.{◌≡◌, ◌≢◌, ℕ, ◌+◌, ◌-◌, ◌*◌, ◌<◌, ◌≤◌, zero, suc, Bool, true, false, cond, not, eqb, ltb, List, [], ◌∷◌, ◌++◌, Option, Some, None, length, map, get_or, take, refl, sym, ap, ◌∙◌, subst, arith, inl, inr}
 use Rattle.std.specs.Prelude.{slice_get, filter, slice_index_or, Contains}
 use Rattle.std.specs.List.{flat_map, All}
 use Rattle.std.specs.Option.{option_map}
 use Rattle.std.proofs.lemmas.Bool.{eqb-true, eq-eqb, ne_eqb}
-use Rattle.std.proofs.lemmas.List.Elements.{filter-append}
+use Rattle.std.proofs.lemmas.List.{append-nil, append_assoc, map-append}
+use Rattle.std.proofs.lemmas.List.Elements.{filter-append, filter_more}
 use Rattle.std.proofs.lemmas.List.Concat.{flat_map-append}
 use Rattle.std.proofs.lemmas.Option.{same_Some, slice_get_within}
 use Rattle.venue_nodes.specs.Members.{places_where}
@@ -132,3 +133,31 @@ other_behind (m ∷ row) n (suc p) zero h from = absurd (omega (arith, from))
 other_behind (m ∷ row) n (suc p) (suc k) h from =
     ap (λ (ms : List ℕ). slice_get ms (suc k)) (keeps n m (filter (λ m. not (eqb n m)) row) (not_first m row n p h))
     ∙ other_behind row n p k (once_later m row n p h) (omega (arith, from))
+
+-- ---- kept one by one
+
+kept_step : {X Y : Type 0} (f : X → Y) (b : Bool) (x : X) (kept : List X) (start : List Y) → b ≡ true → (start ++ map f kept) ++ f x ∷ [] ≡ start ++ map f (kept ++ cond b (x ∷ []) [])
+kept_step {X} {Y} f true x kept start e = append_assoc start (map f kept) (f x ∷ []) ∙ ap (λ (ys : List Y). start ++ ys) (sym (map-append f kept (x ∷ [])))
+kept_step f false x kept start e = absurd (cc)
+
+left_step : {X Y : Type 0} (f : X → Y) (b : Bool) (x : X) (kept : List X) (start : List Y) → b ≡ false → start ++ map f kept ≡ start ++ map f (kept ++ cond b (x ∷ []) [])
+left_step f true x kept start e = absurd (cc)
+left_step {X} {Y} f false x kept start e = ap (λ (xs : List X). start ++ map f xs) (sym (append-nil kept))
+
+-- an item that passes is added behind what was made of those before it
+pub kept_more : {X Y : Type 0} (f : X → Y) (t : X → Bool) (xs : List X) (i : ℕ) (d : X) (start old new : List Y) → i < length xs → old ≡ start ++ map f (filter t (take i xs)) → t (get_or xs i d) ≡ true → new ≡ old ++ f (get_or xs i d) ∷ []
+    → new ≡ start ++ map f (filter t (take (i + 1) xs))
+kept_more {X} {Y} f t xs i d start old new within before pass grown =
+    grown
+    ∙ ap (λ (ys : List Y). ys ++ f (get_or xs i d) ∷ []) before
+    ∙ kept_step f (t (get_or xs i d)) (get_or xs i d) (filter t (take i xs)) start pass
+    ∙ ap (λ (zs : List X). start ++ map f zs) (sym (filter_more t xs i d within))
+
+-- one that doesn't pass isn't
+pub left_more : {X Y : Type 0} (f : X → Y) (t : X → Bool) (xs : List X) (i : ℕ) (d : X) (start old new : List Y) → i < length xs → old ≡ start ++ map f (filter t (take i xs)) → t (get_or xs i d) ≡ false → new ≡ old
+    → new ≡ start ++ map f (filter t (take (i + 1) xs))
+left_more {X} {Y} f t xs i d start old new within before fail same =
+    same
+    ∙ before
+    ∙ left_step f (t (get_or xs i d)) (get_or xs i d) (filter t (take i xs)) start fail
+    ∙ ap (λ (zs : List X). start ++ map f zs) (sym (filter_more t xs i d within))

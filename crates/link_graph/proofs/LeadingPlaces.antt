@@ -64,7 +64,7 @@ AreCounted core n seats = (seat : Seat) → Contains seats seat → others_in co
 counted_later : (core : Core) (n : ℕ) (s : Seat) (seats : List Seat) → AreCounted core n (s ∷ seats) → AreCounted core n seats
 counted_later core n s seats h = λ seat i. h seat (Contains-later s seats seat i)
 
-in_seat : (core : Core) (n at : ℕ) (seats : List Seat) (i : ℕ) (seat : Seat) (k j : ℕ) → AreSeats core at seats → AreCounted core n seats → slice_get seats i ≡ Some seat → k < others_in core seat.row → seat.first + k ≡ at + j
+pub in_seat : (core : Core) (n at : ℕ) (seats : List Seat) (i : ℕ) (seat : Seat) (k j : ℕ) → AreSeats core at seats → AreCounted core n seats → slice_get seats i ≡ Some seat → k < others_in core seat.row → seat.first + k ≡ at + j
     → slice_get (links_of_seats core n seats) j ≡ slice_get (links_of_row core n seat.row) k
 in_seat core n at [] i seat k j h counts there below e = absurd (let no : None ≡ Some seat = there in cc)
 in_seat core n at (s ∷ seats) zero seat k j h counts there below e =
@@ -111,7 +111,7 @@ last_end core at (s ∷ seats) (suc i) seat h there long =
 pub node_counted : (core : Core) (n : ℕ) → IsSoundCore core → (seat : Seat) → Contains (seats_at core n) seat → others_in core seat.row ≡ length (links_of_row core n seat.row)
 node_counted core n sound seat h = seat_count core n seat sound h
 
-across_long : (core : Core) (n : ℕ) → IsSoundCore core → length (links_of_seats core n (seats_at core n)) ≡ across_count core n
+pub across_long : (core : Core) (n : ℕ) → IsSoundCore core → length (links_of_seats core n (seats_at core n)) ≡ across_count core n
 across_long core n sound = seats_long core n (seats_at core n) (node_counted core n sound)
 
 passages_long : (core : Core) (n : ℕ) → IsSoundCore core → length (passages_out core n) ≡ length (leaving_at core n)

@@ -11,3 +11,4 @@ pub mod LeadingSeats
 pub mod LeadingPlaces
 pub mod LeadingEnds
 pub mod LeadingReads
+pub mod LeadingStretches
