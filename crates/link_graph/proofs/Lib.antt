@@ -10,3 +10,10 @@ pub mod MadeDoors
 pub mod MadeSeats
 pub mod MadeUnits
 pub mod MadeCore
+pub mod LeadingLists
+pub mod LeadingRows
+pub mod LeadingSeats
+pub mod LeadingPlaces
+pub mod LeadingEnds
+pub mod LeadingReads
+pub mod LeadingStretches

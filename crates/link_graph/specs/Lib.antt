@@ -13,3 +13,4 @@ pub mod Graphs
 pub mod Making
 pub mod Grounds
 pub mod Faults
+pub mod Leads

@@ -18,7 +18,7 @@ use crate::graph::Graph;
 use crate::making::core_of;
 use crate::marks::Marks;
 use crate::stretches::Stretch;
-use crate::{asking, leading};
+use crate::{asking, leading, listing, outlook};
 use imdf_access::EndFacts;
 use std::alloc::Global;
 use std::sync::ledger::Ledger;
@@ -153,7 +153,7 @@ impl Graph {
     pub fn listed(&self, alloc: Global) -> Result<List<Link>, OutOfMemory>
         ensures { IfOk result (λ links. links ≡ (network self.now).links) }
     {
-        leading::listed(alloc, &self.core)
+        listing::listed(alloc, &self.core)
     }
 
     /// Into how many stretches the links out of a node fall: one for each unit across which it has links, in file order, then one for
@@ -163,7 +163,7 @@ impl Graph {
         requires { n < length (network self.now).nodes }
         ensures { result ≡ length ((network self.now).stretches n) }
     {
-        leading::stretch_count(&self.core, n)
+        outlook::stretch_count(&self.core, n)
     }
 
     /// One of the stretches of a node, from 0.
@@ -173,7 +173,7 @@ impl Graph {
         requires stretch { k < length ((network self.now).stretches n) }
         ensures { slice_get ((network self.now).stretches n) k ≡ Some result }
     {
-        leading::stretch_at(&self.core, n, k)
+        outlook::stretch_at(&self.core, n, k)
     }
 
     /// What a node asks of who passes it.

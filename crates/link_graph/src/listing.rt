@@ -1,0 +1,69 @@
+//! All links, in their order.
+
+ghost use Rattle.std.specs.Prelude.{◌≡◌, ◌<◌, ◌++◌, IfOk, OnOk, All, filter, length, map, slice_index_or};
+ghost use Rattle.venue_nodes.specs.Rows.{row_list};
+ghost use Rattle.venue_nodes.specs.Views.{node_list};
+ghost use Rattle.link_graph.specs.Cores.{IsSoundCore, link_across, links_across, links_across_from, links_in};
+
+use crate::parts::{Core, Crossing};
+use crate::ways::across_link;
+use std::alloc::Global;
+use venue_types::{Link, List, OutOfMemory};
+
+/// All links, in their order.
+pub(crate) fn listed(alloc: Global, core: &Core) -> Result<List<Link>, OutOfMemory>
+    requires { IsSoundCore core.now }
+    ensures { IfOk result (λ links. links ≡ links_in core.now) }
+{
+    let mut links = Vec::new(alloc);
+    for w in 0..core.rows.len() {
+        add_across(
+            core,
+            core.crossings[w as usize],
+            core.rows.row(w),
+            &mut links,
+        )?;
+    }
+    links.extend_from_slice(&core.passages)?;
+    Ok(List::from_vec(links))
+}
+
+// Adds the links across the unit of a row.
+fn add_across(
+    core: &Core,
+    crossing: Crossing,
+    row: &[u32],
+    links: &mut Vec<Link>,
+) -> Result<(), OutOfMemory>
+    requires sound { IsSoundCore core.now }
+    requires within { All (λ m. m < length (node_list core.now.nodes)) row.now }
+    ensures { OnOk result (links.new.items ≡ links.old.items ++ links_across core.now crossing row.now) }
+{
+    if crossing.walked {
+        for a in row {
+            add_from(core, crossing, row, *a, links)?;
+        }
+    }
+    Ok(())
+}
+
+// Adds the links from a member of a row to its others.
+fn add_from(
+    core: &Core,
+    crossing: Crossing,
+    row: &[u32],
+    a: u32,
+    links: &mut Vec<Link>,
+) -> Result<(), OutOfMemory>
+    requires sound { IsSoundCore core.now }
+    requires from { a < length (node_list core.now.nodes) }
+    requires within { All (λ m. m < length (node_list core.now.nodes)) row.now }
+    ensures { OnOk result (links.new.items ≡ links.old.items ++ links_across_from core.now crossing row.now a) }
+{
+    for b in row {
+        if *b != a {
+            links.push(across_link(core, crossing, a, *b))?;
+        }
+    }
+    Ok(())
+}
