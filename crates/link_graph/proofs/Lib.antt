@@ -5,3 +5,9 @@ pub mod Sorts
 pub mod Ranges
 pub mod Insides
 pub mod Across
+pub mod AskingParts
+pub mod AskingUsable
+pub mod AskingMarks
+pub mod AskingLinks
+pub mod AskingRanges
+pub mod Detouring

@@ -161,6 +161,7 @@ pub record IsSoundCore (core : Core) : Type 0 where
   pub squares : sum_by square_of (row_list core.rows) ≤ 20000000
   pub paired : length core.crossings.items ≡ length (row_list core.rows)
   pub crossings : All (IsCrossing core) core.crossings.items
+  pub units_last : core.first_unit ≤ length (closable_list core.nodes)
   pub apart : IsStrictlyIncreasing (map (λ (crossing : Crossing). crossing.via) core.crossings.items)
   pub passages : All (IsPassage core) core.passages.items
   pub few_passages : length core.passages.items ≤ 12800000
