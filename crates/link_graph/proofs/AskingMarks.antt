@@ -6,6 +6,7 @@ use Rattle.std.proofs.lemmas.Option.{slice_get_within, get_or_from_slice_get, sa
 use Rattle.venue_types.specs.declared.feature_id.FeatureId.{FeatureId}
 use Rattle.report_laws.proofs.Members.{Contains-nil, Contains-first, Contains-later, Contains-cons_cases}
 use Rattle.link_graph.specs.Marking.{chosen}
+use Rattle.link_graph.proofs.AskingItems.{same_place}
 
 -- ---- a mark more
 
@@ -50,24 +51,12 @@ none_chosen (suc n) (id ∷ ids) = none_chosen n ids
 
 -- ---- where each identifier stands once
 
-once_at : (ids : List FeatureId) (j k : ℕ) (x : FeatureId) → AllPairs (λ a b. a ≢ b) ids → j < k → slice_get ids j ≡ Some x → slice_get ids k ≡ Some x → ⊥
-once_at ids j k x once below first second =
-    once j k x below (slice_get_within ids k x second) (get_or_from_slice_get ids j x x first ∙ sym (get_or_from_slice_get ids k x x second))
-
-pub same_number : (ids : List FeatureId) (j k : ℕ) (x : FeatureId) → AllPairs (λ a b. a ≢ b) ids → slice_get ids j ≡ Some x → slice_get ids k ≡ Some x → j ≡ k
-same_number ids j k x once first second = elim (cases_order j k) [
-  | inl same ↦ same
-  | inr other ↦ elim other [
-    | inl below ↦ absurd (once_at ids j k x once below first second)
-    | inr above ↦ absurd (once_at ids k j x once above second first)
-  ]
-]
 -- the identifier at a number is chosen exactly where that number is marked
 pub chosen_exact : (marks : List Bool) (ids : List FeatureId) (k : ℕ) (x : FeatureId) → AllPairs (λ a b. a ≢ b) ids → slice_get ids k ≡ Some x → Contains (chosen marks ids) x ↔ (slice_index_or marks k false ≡ true)
 chosen_exact marks ids k x once there = (
   λ h.
-    let at = from_chosen marks ids x h in
-    let same = same_number ids at.k k x once at.there there in
-    subst (λ (i : ℕ). slice_index_or marks i false ≡ true) same at.closed,
+      let at = from_chosen marks ids x h in
+      let same = same_place ids at.k k x once at.there there in
+      subst (λ (i : ℕ). slice_index_or marks i false ≡ true) same at.closed,
   λ closed. to_chosen marks ids k x there closed,
 )

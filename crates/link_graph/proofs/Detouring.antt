@@ -22,17 +22,14 @@ use Rattle.link_graph.specs.Detours.{HasDetour}
 use Rattle.link_graph.specs.Networks.{IsPassable}
 use Rattle.link_graph.specs.Usable.{IsWayAcross}
 use Rattle.link_graph.proofs.Across.{LengthsLaw}
+use Rattle.link_graph.proofs.AskingItems.{at_place, rising_apart}
+use Rattle.link_graph.proofs.AskingItems.{same_place as place_once}
 use Rattle.link_graph.proofs.AskingLinks.{IsByRow, link_sort, across_there}
 use Rattle.link_graph.proofs.AskingParts.{facts_by_parts}
 use Rattle.link_graph.proofs.AskingRanges.{row_at, member_node, passage_there}
 use Rattle.link_graph.proofs.Lengths.{between_length}
 
 -- ---- ways between nodes
-
-at_place : {X : Type 0} (xs : List X) (n : ℕ) → n < length xs → (x : X) × (slice_get xs n ≡ Some x)
-at_place [] n h = absurd (omega (arith, h))
-at_place (x ∷ xs) zero h = (x, refl)
-at_place (x ∷ xs) (suc n) h = at_place xs n (omega (arith, h))
 
 abbrev spot_at : Option Node → Spot
 spot_at found = elim found [ None ↦ record { x = pos 0; y = pos 0 } | Some node ↦ node.spot ]
@@ -56,23 +53,6 @@ way_across lengths core a b e sound h k l =
 
 -- ---- the row of a link
 
--- numbers that rise stand at one place each
-rising_once : (xs : List ℕ) (j k v : ℕ) → AllPairs (λ x y. x < y) xs → j < k → slice_get xs j ≡ Some v → slice_get xs k ≡ Some v → ⊥
-rising_once xs j k v rise below first second =
-    let less = rise j k v below (slice_get_within xs k v second) in
-    let one = get_or_from_slice_get xs j v v first in
-    let two = get_or_from_slice_get xs k v v second in
-    omega (arith, less, one, two)
-
-rising_place : (xs : List ℕ) (j k v : ℕ) → IsStrictlyIncreasing xs → slice_get xs j ≡ Some v → slice_get xs k ≡ Some v → j ≡ k
-rising_place xs j k v rise first second = elim (cases_order j k) [
-  | inl same ↦ same
-  | inr other ↦ elim other [
-    | inl below ↦ absurd (rising_once xs j k v (AllPairs-from_increasing xs rise) below first second)
-    | inr above ↦ absurd (rising_once xs k j v (AllPairs-from_increasing xs rise) above second first)
-  ]
-]
-
 abbrev InRows : Core → Link → Type 0
 InRows core link = IsByRow core core.crossings.items (row_list core.rows) link
 
@@ -88,7 +68,7 @@ same_place core first second one two sound via =
     let via_of = λ (crossing : Crossing). crossing.via in
     let here = at_map via_of core.crossings.items one.k one.crossing one.unit in
     let there = at_map via_of core.crossings.items two.k two.crossing two.unit in
-    rising_place (map via_of core.crossings.items) two.k one.k first.via sound.apart
+    place_once (map via_of core.crossings.items) two.k one.k first.via (rising_apart (map via_of core.crossings.items) sound.apart)
     (there ∙ ap (λ (v : ℕ). Some v) (two.goes.via ∙ via))
     (here ∙ ap (λ (v : ℕ). Some v) one.goes.via)
 

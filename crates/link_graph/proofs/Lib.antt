@@ -5,9 +5,11 @@ pub mod Sorts
 pub mod Ranges
 pub mod Insides
 pub mod Across
+pub mod AskingItems
 pub mod AskingParts
 pub mod AskingUsable
 pub mod AskingMarks
 pub mod AskingLinks
 pub mod AskingRanges
+pub mod AskingDoors
 pub mod Detouring
