@@ -1,11 +1,11 @@
 -- What is marked, by its number among what can be closed.
-use Rattle.std.proofs.Common.{◌≡◌, ◌≢◌, ℕ, ◌+◌, ◌<◌, ◌↔◌, zero, suc, Bool, true, false, not, IsTrue, List, [], ◌∷◌, replicate, length, get_or, Option, Some, None, refl, sym, ap, ◌∙◌, subst, ◌⊎◌, inl, inr, true≢false, arith}
+use Rattle.std.proofs.Common.{IsTrue, ◌≡◌, ◌≢◌, ℕ, ◌↔◌, zero, suc, Bool, true, false, List, [], ◌∷◌, replicate, Some, None, refl, sym, ap, subst, ◌⊎◌, inl, inr, true≢false}
 use Rattle.std.specs.Prelude.{AllPairs, Contains, slice_get, slice_index_or}
-use Rattle.std.proofs.lemmas.Bool.{cases_order}
-use Rattle.std.proofs.lemmas.Option.{slice_get_within, get_or_from_slice_get, same_Some}
+use Rattle.std.proofs.lemmas.Option.{same_Some}
 use Rattle.venue_types.specs.declared.feature_id.FeatureId.{FeatureId}
 use Rattle.report_laws.proofs.Members.{Contains-nil, Contains-first, Contains-later, Contains-cons_cases}
-use Rattle.link_graph.specs.Marking.{chosen}
+use Rattle.link_graph.specs.Marking.{chosen, marked}
+use Rattle.link_graph.specs.Networks.{Network}
 use Rattle.link_graph.proofs.AskingItems.{same_place}
 
 -- ---- a mark more
@@ -59,4 +59,12 @@ chosen_exact marks ids k x once there = (
       let same = same_place ids at.k k x once at.there there in
       subst (λ (i : ℕ). slice_index_or marks i false ≡ true) same at.closed,
   λ closed. to_chosen marks ids k x there closed,
+)
+
+-- what is marked over a network, by its number there
+pub marked_exact : (given : Network) (marks : List Bool) (id : FeatureId) → Contains (marked given marks) id ↔ (k : ℕ) × (slice_get given.closables k ≡ Some id) × IsTrue (slice_index_or marks k false)
+unfolding marked
+marked_exact given marks id = (
+  λ h. let at = from_chosen marks given.closables id h in (at.k, at.there, at.closed),
+  λ h. to_chosen marks given.closables h.0 id h.1 h.2,
 )

@@ -1,5 +1,5 @@
 -- The ends of a graph's links are nodes, their ways can be closed, their costs are bounded, and they aren't too many.
-use Rattle.std.proofs.Common.{◌≡◌, ℕ, ◌+◌, ◌*◌, ◌<◌, ◌≤◌, Bool, true, false, List, [], ◌∷◌, ◌++◌, length, map, filter, flat_map, sum_by, All, cond, Some, refl, sym, ap, ◌∙◌, subst, ◌⊎◌, inl, inr, arith, length-append}
+use Rattle.std.proofs.Common.{◌≡◌, ℕ, ◌<◌, ◌≤◌, Bool, true, false, List, [], ◌∷◌, length, filter, flat_map, sum_by, cond, Some, subst, inl, inr, arith, length-append}
 use Rattle.std.specs.Prelude.{Contains, slice_get}
 use Rattle.std.proofs.lemmas.List.{length-map}
 use Rattle.std.proofs.lemmas.List.Concat.{length-flat_map}
@@ -14,7 +14,7 @@ use Rattle.link_graph.specs.declared.parts.Core.{Core}
 use Rattle.link_graph.specs.declared.parts.Crossing.{Crossing}
 use Rattle.link_graph.specs.Cores.{IsSoundCore, IsCrossing, IsPassage, IsRow, link_across, links_across_from, links_across, links_across_all, links_in, spot_in}
 use Rattle.link_graph.specs.Links.{are_joined}
-use Rattle.link_graph.proofs.AskingLinks.{GoesAcross, IsByRow, link_sort}
+use Rattle.link_graph.proofs.AskingLinks.{IsByRow, link_sort}
 use Rattle.link_graph.proofs.Lengths.{between_bound}
 use Rattle.link_graph.proofs.Ranges.{IsInRange}
 

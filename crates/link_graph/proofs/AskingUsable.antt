@@ -1,10 +1,9 @@
 -- What can be passed over the network of some features are their usable links.
-use Rattle.std.proofs.Common.{◌≡◌, ◌↔◌, List, sym, subst, subst₂}
+use Rattle.std.proofs.Common.{◌↔◌, List, sym, subst, subst₂}
 use Rattle.std.specs.Prelude.{Contains}
 use Rattle.venue_types.specs.declared.feature_id.FeatureId.{FeatureId}
 use Rattle.venue_types.specs.declared.features.Features.{Features}
 use Rattle.venue_types.specs.declared.link.Link.{Link}
-use Rattle.venue_types.specs.declared.link.LinkFacts.{LinkFacts}
 use Rattle.venue_types.specs.declared.link.Node.{Node}
 use Rattle.venue_types.specs.declared.settings.Profile.{Profile}
 use Rattle.venue_types.specs.declared.settings.Settings.{Settings}

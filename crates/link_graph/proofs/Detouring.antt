@@ -1,10 +1,8 @@
 -- Two links of a graph across one unit, one behind the other, lead back, or a link of the graph leads across.
-use Rattle.std.proofs.Common.{◌≡◌, ◌≢◌, ℕ, zero, suc, ◌+◌, ◌<◌, ◌≤◌, List, [], ◌∷◌, length, map, get_or, Option, Some, None, pos, refl, sym, ap, ◌∙◌, subst, subst₂, ◌⊎◌, inl, inr, arith}
-use Rattle.std.specs.Prelude.{AllPairs, Contains, slice_get}
-use Rattle.std.specs.List.Sorted.{IsStrictlyIncreasing}
-use Rattle.std.proofs.lemmas.Bool.{cases_eq, cases_order}
-use Rattle.std.proofs.lemmas.List.Kept.{AllPairs-from_increasing}
-use Rattle.std.proofs.lemmas.Option.{slice_get_within, get_or_from_slice_get, same_Some}
+use Rattle.std.proofs.Common.{◌≡◌, ◌≢◌, ℕ, ◌+◌, ◌<◌, ◌≤◌, List, length, map, Option, Some, None, pos, refl, sym, ap, ◌∙◌, subst, subst₂, inl, inr, arith}
+use Rattle.std.specs.Prelude.{Contains, slice_get}
+use Rattle.std.proofs.lemmas.Bool.{cases_eq}
+use Rattle.std.proofs.lemmas.Option.{same_Some}
 use Rattle.venue_types.specs.declared.feature_id.FeatureId.{FeatureId}
 use Rattle.venue_types.specs.declared.link.Link.{Link}
 use Rattle.venue_types.specs.declared.link.Node.{Node}
@@ -20,7 +18,6 @@ use Rattle.link_graph.specs.declared.parts.Crossing.{Crossing}
 use Rattle.link_graph.specs.Cores.{IsSoundCore, network_in, links_in, spot_in, way_in}
 use Rattle.link_graph.specs.Detours.{HasDetour}
 use Rattle.link_graph.specs.Networks.{IsPassable}
-use Rattle.link_graph.specs.Usable.{IsWayAcross}
 use Rattle.link_graph.proofs.Across.{LengthsLaw}
 use Rattle.link_graph.proofs.AskingItems.{at_place, rising_apart}
 use Rattle.link_graph.proofs.AskingItems.{same_place as place_once}

@@ -1,4 +1,4 @@
-use Rattle.std.proofs.Common.{Some, sym, ap, arith}
+use Rattle.std.proofs.Common.{sym, ap, arith}
 use Rattle.link_graph.specs.Cores.{network_in, ends_in, asks_of}
 use Rattle.link_graph.proofs.AskingDoors.{door_there}
 use Rattle.link_graph.proofs.asking.ends.Goals as goal
