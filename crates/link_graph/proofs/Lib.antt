@@ -17,3 +17,11 @@ pub mod LeadingPlaces
 pub mod LeadingEnds
 pub mod LeadingReads
 pub mod LeadingStretches
+pub mod AskingItems
+pub mod AskingParts
+pub mod AskingUsable
+pub mod AskingMarks
+pub mod AskingLinks
+pub mod AskingRanges
+pub mod AskingDoors
+pub mod Detouring

@@ -2,14 +2,14 @@
 
 ghost use Rattle.std.specs.Prelude.{◌≡◌, ◌↔◌, ◌<◌, IsTrue, Contains, length};
 ghost use Rattle.link_graph.specs.Cores.{IsSoundCore, network_in};
-ghost use Rattle.link_graph.specs.Facts.{IsNodeClosed};
+ghost use Rattle.link_graph.specs.Facts.{IsNodeClosed, IsWayClosed};
 ghost use Rattle.link_graph.specs.Marking.{AreMarksOf, marked};
-ghost use Rattle.link_graph.specs.Networks.{IsFree, link_facts};
+ghost use Rattle.link_graph.specs.Networks.{IsFree, joined_facts, link_facts};
 
 use crate::marks::Marks;
 use crate::parts::Core;
 use imdf_access::EndFacts;
-use venue_types::{Link, LinkFacts};
+use venue_types::{Kind, Link, LinkFacts};
 
 /// What a node asks of who passes it.
 pub(crate) fn ends(core: &Core, n: u32) -> EndFacts
@@ -26,13 +26,26 @@ pub(crate) fn facts(core: &Core, link: &Link) -> LinkFacts
     requires there { Contains (network_in core.now).links link.now }
     ensures { result ≡ link_facts (network_in core.now) link.now }
 {
+    let barred = core.barred[link.via as usize];
+    joined(
+        link.kind,
+        barred,
+        &ends(core, link.from),
+        &ends(core, link.to),
+    )
+}
+
+// What is asked by a way of the kind, barred or not, and by what stands at both ends.
+fn joined(kind: Kind, barred: bool, from: &EndFacts, to: &EndFacts) -> LinkFacts
+    ensures { result ≡ joined_facts kind barred from.now to.now }
+{
     LinkFacts {
-        kind: link.kind,
-        restricted: false,
-        revolving: false,
-        turnstile: false,
-        unmarked: false,
-        out: core.kx == 0,
+        kind,
+        restricted: barred || (from.restricted || to.restricted),
+        revolving: from.revolving || to.revolving,
+        turnstile: from.turnstile || to.turnstile,
+        unmarked: from.unmarked || to.unmarked,
+        out: from.out || to.out,
     }
 }
 
@@ -43,7 +56,20 @@ pub(crate) fn is_node_free(core: &Core, n: u32, marks: &Marks) -> bool
     requires marks { AreMarksOf (network_in core.now) marks.now }
     ensures { IsTrue result ↔ ¬ IsNodeClosed (network_in core.now).nodes (marked (network_in core.now) marks.now) n }
 {
-    core.kx == n && marks.is_marked(n)
+    match core.doors[n as usize].closable {
+        Some(k) => !marks.is_marked(k),
+        None => true,
+    }
+}
+
+// Whether the unit or the relationship of this number is open.
+fn is_way_free(core: &Core, via: u32, marks: &Marks) -> bool
+    requires sound { IsSoundCore core.now }
+    requires way { via < length (network_in core.now).closables }
+    requires marks { AreMarksOf (network_in core.now) marks.now }
+    ensures { IsTrue result ↔ ¬ IsWayClosed (network_in core.now).closables (marked (network_in core.now) marks.now) via }
+{
+    !marks.is_marked(via)
 }
 
 /// Whether nothing at a link is closed.
@@ -53,5 +79,7 @@ pub(crate) fn is_free(core: &Core, link: &Link, marks: &Marks) -> bool
     requires marks { AreMarksOf (network_in core.now) marks.now }
     ensures { IsTrue result ↔ IsFree (network_in core.now) (marked (network_in core.now) marks.now) link.now }
 {
-    core.kx == link.from && marks.is_marked(link.via)
+    is_way_free(core, link.via, marks)
+        && is_node_free(core, link.from, marks)
+        && is_node_free(core, link.to, marks)
 }

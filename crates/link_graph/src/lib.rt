@@ -29,6 +29,6 @@ mod ways;
 pub use faults::GraphFault;
 pub use graph::Graph;
 pub use laws::{detour_law, inside_law, length_between_law, range_law, whole_law};
-pub use marks::Marks;
+pub use marks::{Marks, marked_law};
 pub use network_laws::{network_parts_law, passable_law};
 pub use stretches::{Stretch, Way};

@@ -1,8 +1,10 @@
 //! What is closed.
 
-ghost use Rattle.std.specs.Prelude.{◌≡◌, [], ◌<◌, length, slice_set, slice_index_or, false};
+ghost use Rattle.std.specs.Prelude.{◌≡◌, ◌↔◌, ℕ, ◌<◌, List, [], Bool, false, IsTrue, Some, Contains, length, slice_get, slice_set, slice_index_or};
+ghost use Rattle.venue_types.specs.declared.feature_id.FeatureId.{FeatureId};
 ghost use Rattle.link_graph.specs.Graphs.{network};
 ghost use Rattle.link_graph.specs.Marking.{AreMarksOf, marked};
+ghost use Rattle.link_graph.specs.Networks.{Network};
 
 use crate::graph::Graph;
 use std::alloc::Global;
@@ -61,3 +63,8 @@ impl Marks {
         self.closed[k as usize]
     }
 }
+
+/// What is marked are the features at whose numbers a mark stands.
+pub fn marked_law()
+    ensures { (given : Network) (marks : List Bool) (id : FeatureId) → Contains (marked given marks) id ↔ (k : ℕ) × (slice_get given.closables k ≡ Some id) × IsTrue (slice_index_or marks k false) }
+{}

@@ -33,7 +33,10 @@ impl Graph {
         ensures closables { length (network self.now).closables ≤ 400000 }
         ensures links { length (network self.now).links < 2 ^ 32 }
         ensures once { AllPairs (λ a b. a ≢ b) (network self.now).closables }
-    {}
+    {
+        self.nodes();
+        self.closables();
+    }
 
     /// The stretches of each node cover the places of its links.
     pub fn stretch_law(&self)
@@ -45,7 +48,9 @@ impl Graph {
     pub fn detour_law(&self)
         ensures { (closed : List FeatureId) (profile : Profile) (first second : Link) → IsPassable (network self.now) closed profile first → IsPassable (network self.now) closed profile second
             → second.from ≡ first.to → second.via ≡ first.via → (network self.now).first_unit ≤ first.via → HasDetour (network self.now) closed profile first second }
-    {}
+    {
+        plane_exact::detour_law();
+    }
 }
 
 /// A link is allowed exactly where its way and what stands at both its ends are passed.

@@ -1,5 +1,5 @@
 -- The links that somebody may use at a version, and how a reply names nodes and ways.
-use Rattle.std.specs.Prelude.{ℕ, List, Option, Some, None, Contains, slice_get}
+use Rattle.std.specs.Prelude.{ℕ, List, Option, Some, None, slice_get}
 use Rattle.std.specs.List.{find}
 use Rattle.std.specs.Str.{bytes_eq}
 use Rattle.venue_types.specs.declared.feature_id.FeatureId.{FeatureId}
@@ -9,21 +9,17 @@ use Rattle.venue_types.specs.declared.reply.Mark.{Mark}
 use Rattle.venue_types.specs.declared.reply.StepRow.{StepRow}
 use Rattle.venue_types.specs.declared.settings.Profile.{Profile}
 use Rattle.venue_types.specs.declared.settings.Settings.{Settings}
-use Rattle.imdf_access.specs.Access.{IsAllowed}
 use Rattle.venue_nodes.specs.Nodes.{nodes, closables}
-use Rattle.link_graph.specs.Links.{links}
-use Rattle.link_graph.specs.Facts.{facts_at, IsOpen}
+use Rattle.link_graph.specs.Usable.{IsUsable}
 use Rattle.venue_history.specs.Closed.{Version, closed_for}
 
 -- the profile of this name, the first if there are several
 unfoldable pub profile_of : Settings → List ℕ → Option Profile
 profile_of settings name = find (λ (p : Profile). bytes_eq p.name name) settings.profiles
 
--- the link is there, the profile allows it, and nothing at it is closed for the profile
-pub record Usable (v : Version) (profile : Profile) (link : Link) : Type 0 where
-  pub there : Contains (links v.features v.settings) link
-  pub allowed : IsAllowed profile (facts_at v.features link)
-  pub free : IsOpen v.features (closed_for v profile) link
+-- the link may be used by somebody with the profile, where what is closed for the profile is
+abbrev pub Usable : Version → Profile → Link → Type 0
+Usable v profile link = IsUsable v.features v.settings (closed_for v profile) profile link
 
 -- the identifier that stands for no feature
 abbrev pub no_name : FeatureId
