@@ -1,13 +1,12 @@
 -- How many links there are, and where they lead.
-use Rattle.std.proofs.Common.{◌≡◌, ◌≢◌, ℕ, ◌+◌, ◌-◌, ◌*◌, ◌<◌, ◌≤◌, zero, suc, Bool, true, false, cond, not, eqb, ltb, List, [], ◌∷◌, ◌++◌, Option, Some, None, length, map, get_or, refl, sym, ap, ◌∙◌, subst, arith, inl, inr, length-append, eq-eqb}
-use Rattle.std.specs.Prelude.{slice_get, filter, All, Contains, sum_by, IsTrue}
+use Rattle.std.proofs.Common.{◌≡◌, ℕ, ◌+◌, ◌-◌, ◌<◌, ◌≤◌, Bool, true, false, cond, not, List, [], ◌∷◌, Some, length, get_or, refl, subst, arith, inl, inr, length-append, eq-eqb}
+use Rattle.std.specs.Prelude.{slice_get, filter, Contains, sum_by, IsTrue}
 use Rattle.std.specs.List.{flat_map}
 use Rattle.std.proofs.lemmas.List.{length-map}
 use Rattle.std.proofs.lemmas.List.Concat.{length-flat_map}
-use Rattle.std.proofs.lemmas.List.Elements.{All-contains, Contains-append_cases, Contains-append_left, Contains-append_right}
+use Rattle.std.proofs.lemmas.List.Elements.{All-contains, Contains-append_cases}
 use Rattle.std.proofs.lemmas.List.Filters.{length-filter_both}
 use Rattle.std.proofs.lemmas.List.Sums.{sum_by-cons, sum_by-le}
-use Rattle.std.proofs.lemmas.Option.{same_Some, slice_get_within, slice_get-get_or}
 use Rattle.report_laws.proofs.Members.{Contains-nil, Contains-first, Contains-later}
 use Rattle.venue_types.specs.declared.link.Link.{Link}
 use Rattle.venue_nodes.specs.Crowds.{square_of}
@@ -17,7 +16,7 @@ use Rattle.venue_nodes.proofs.Items.{member_at, at_member}
 use Rattle.venue_nodes.proofs.Spread.{from_map}
 use Rattle.link_graph.specs.declared.parts.Core.{Core}
 use Rattle.link_graph.specs.declared.parts.Crossing.{Crossing}
-use Rattle.link_graph.specs.Cores.{IsSoundCore, IsRow, IsPassage, network_in, links_in, link_across, links_across_from, links_across, links_across_all, seats_at, leaving_at, across_count}
+use Rattle.link_graph.specs.Cores.{IsSoundCore, IsRow, IsPassage, network_in, links_in, link_across, links_across_from, links_across, links_across_all, leaving_at, across_count}
 use Rattle.link_graph.specs.Links.{are_joined}
 use Rattle.link_graph.specs.Networks.{links_out}
 use Rattle.link_graph.specs.Leads.{starts_at}

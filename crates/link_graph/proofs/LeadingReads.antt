@@ -1,12 +1,11 @@
 -- What the code reads of a graph, and the ways between its nodes.
-use Rattle.std.proofs.Common.{◌≡◌, ◌≢◌, ℕ, ◌+◌, ◌-◌, ◌*◌, ◌^◌, ◌<◌, ◌≤◌, ◌≤ℤ◌, ◌↔◌, ◌⊎◌, pos, zero, suc, Bool, true, false, cond, not, eqb, ltb, List, [], ◌∷◌, ◌++◌, Option, Some, None, length, map, get_or, refl, sym, ap, ◌∙◌, subst, subst₂, arith, inl, inr}
-use Rattle.std.specs.Prelude.{slice_get, filter, All, Contains, IsTrue}
-use Rattle.std.specs.List.Sorted.{IsNonDecreasingBy}
+use Rattle.std.proofs.Common.{◌≡◌, ℕ, ◌+◌, ◌-◌, ◌<◌, ◌≤◌, ◌↔◌, ◌⊎◌, pos, suc, Bool, true, false, cond, List, [], Option, Some, None, length, get_or, refl, sym, ap, ◌∙◌, subst, subst₂, arith, inl, inr}
+use Rattle.std.specs.Prelude.{slice_get, filter}
 use Rattle.std.proofs.Math.Nat.{mul-le-mul}
 use Rattle.std.proofs.lemmas.Bool.{cases_lt, lt-ltb, le-ltb}
 use Rattle.std.proofs.lemmas.Int.{ints}
 use Rattle.std.proofs.lemmas.List.{get_or_read, get_or_past}
-use Rattle.std.proofs.lemmas.Option.{same_Some, slice_get_within, slice_get-get_or, get_or_from_slice_get}
+use Rattle.std.proofs.lemmas.Option.{same_Some, slice_get-get_or, get_or_from_slice_get}
 use Rattle.venue_types.specs.declared.link.Link.{Link}
 use Rattle.venue_types.specs.declared.link.Node.{Node}
 use Rattle.venue_types.specs.declared.point.Spot.{Spot}
@@ -19,7 +18,6 @@ use Rattle.link_graph.specs.declared.parts.Core.{Core}
 use Rattle.link_graph.specs.declared.parts.Crossing.{Crossing}
 use Rattle.link_graph.specs.declared.parts.Seat.{Seat}
 use Rattle.link_graph.specs.Cores.{IsSoundCore, network_in, spot_in, way_in, link_across, links_across_from, others_in, seats_at, leaving_at}
-use Rattle.link_graph.specs.Lengths.{length_between}
 use Rattle.link_graph.specs.Links.{are_joined}
 use Rattle.link_graph.specs.Leads.{links_of_row, passages_out, lower_than}
 use Rattle.link_graph.proofs.Lengths.{between_length, between_bound}

@@ -1,30 +1,23 @@
 -- The links out of a node are those across the units of its seats, then those by relationships.
-use Rattle.std.proofs.Common.{◌≡◌, ◌≢◌, ℕ, ◌+◌, ◌-◌, ◌*◌, ◌<◌, ◌≤◌, zero, suc, Bool, true, false, cond, not, eqb, ltb, List, [], ◌∷◌, ◌++◌, Option, Some, None, length, map, get_or, refl, sym, ap, ◌∙◌, subst, arith, inl, inr}
-use Rattle.std.specs.Prelude.{slice_get, filter, All, Contains}
+use Rattle.std.proofs.Common.{◌≡◌, ℕ, ◌+◌, ◌-◌, suc, Bool, true, false, cond, eqb, List, [], ◌∷◌, ◌++◌, Option, Some, None, length, map, get_or, refl, sym, ap, ◌∙◌, subst, arith}
+use Rattle.std.specs.Prelude.{slice_get, filter}
 use Rattle.std.specs.List.{flat_map}
-use Rattle.std.specs.List.Sorted.{IsStrictlyIncreasing}
-use Rattle.std.proofs.lemmas.Bool.{eqb-true, cases_lt, ltb-true, ltb-false}
-use Rattle.std.proofs.lemmas.List.{append_assoc, length-map}
-use Rattle.std.proofs.lemmas.List.Elements.{filter-append, All-contains}
+use Rattle.std.proofs.lemmas.Bool.{eqb-true}
+use Rattle.std.proofs.lemmas.List.Elements.{filter-append}
 use Rattle.std.proofs.lemmas.List.Folds.{flat_map-map}
 use Rattle.std.proofs.lemmas.List.Concat.{flat_map-append}
-use Rattle.std.proofs.lemmas.Map.Keys.{sorted_from_strictly_increasing}
-use Rattle.std.proofs.lemmas.Option.{same_Some, slice_get_within, get_or_from_slice_get}
+use Rattle.std.proofs.lemmas.Option.{get_or_from_slice_get}
 use Rattle.venue_types.specs.declared.link.Link.{Link}
 use Rattle.venue_nodes.specs.declared.members.Membership.{Membership}
 use Rattle.venue_nodes.specs.Members.{places_where}
 use Rattle.venue_nodes.specs.Rows.{row_list}
 use Rattle.venue_nodes.specs.Standing.{standings}
-use Rattle.venue_nodes.proofs.Items.{member_at, from_map as item_from_map}
-use Rattle.venue_nodes.proofs.Places.{place_at, one_number}
 use Rattle.link_graph.specs.declared.parts.Core.{Core}
 use Rattle.link_graph.specs.declared.parts.Crossing.{Crossing}
-use Rattle.link_graph.specs.declared.parts.Seat.{Seat}
-use Rattle.link_graph.specs.Cores.{IsSoundCore, IsRow, network_in, links_in, link_across, links_across_from, links_across, links_across_all, crossing_at, others_in, seats_from, seats_at}
+use Rattle.link_graph.specs.Cores.{IsSoundCore, link_across, links_across_from, links_across, links_across_all}
 use Rattle.link_graph.specs.Links.{are_joined}
-use Rattle.link_graph.specs.Networks.{links_out}
-use Rattle.link_graph.specs.Leads.{starts_at, links_of_row, links_of_seats, passages_out, AreSeats}
-use Rattle.link_graph.proofs.LeadingLists.{filter-flat_map, filter-map_same, filter-cond, flat_map_same, flat_map_cond, flat_map_places, at_left, at_right, at_place, StandsOnce, one_dropped}
+use Rattle.link_graph.specs.Leads.{starts_at, links_of_row}
+use Rattle.link_graph.proofs.LeadingLists.{filter-flat_map, filter-map_same, filter-cond, flat_map_same, flat_map_cond, flat_map_places}
 
 -- ---- a row
 
@@ -42,9 +35,9 @@ of_row : (core : Core) (crossing : Crossing) (row : List ℕ) (n : ℕ)
 of_row core crossing row n =
     filter-cond (starts_at n) crossing.walked (flat_map (links_across_from core crossing row) row)
     ∙ ap (λ (ls : List Link). cond crossing.walked ls []) (
-      filter-flat_map (starts_at n) (links_across_from core crossing row) row
-      ∙ flat_map_same (λ a. filter (starts_at n) (links_across_from core crossing row a)) (λ a. cond (eqb a n) (links_across_from core crossing row n) []) (of_member core crossing row n) row
-      ∙ flat_map_places n 0 (links_across_from core crossing row n) row
+    filter-flat_map (starts_at n) (links_across_from core crossing row) row
+    ∙ flat_map_same (λ a. filter (starts_at n) (links_across_from core crossing row a)) (λ a. cond (eqb a n) (links_across_from core crossing row n) []) (of_member core crossing row n) row
+    ∙ flat_map_places n 0 (links_across_from core crossing row n) row
     )
 
 -- ---- row by row
@@ -68,7 +61,7 @@ of_rows core n w F (crossing ∷ crossings) [] e h = absurd (omega (arith, e))
 of_rows core n w F (crossing ∷ crossings) (row ∷ rows) e h =
     let here : F w ≡ cond crossing.walked (links_across_from core crossing row n) [] = subst (λ i. F i ≡ cond crossing.walked (links_across_from core crossing row n) []) (let z : w + 0 ≡ w = omega arith in z) (h 0 crossing row refl refl) in
     let later = of_rows core n (w + 1) F crossings rows (omega (arith, e)) (λ k c r i j.
-      subst (λ i. F i ≡ cond c.walked (links_across_from core c r n) []) (let z : w + suc k ≡ w + 1 + k = omega arith in z) (h (suc k) c r i j)) in
+    subst (λ i. F i ≡ cond c.walked (links_across_from core c r n) []) (let z : w + suc k ≡ w + 1 + k = omega arith in z) (h (suc k) c r i j)) in
     filter-append (starts_at n) (links_across core crossing row) (links_across_all core crossings rows)
     ∙ ap (λ (ls : List Link). ls ++ filter (starts_at n) (links_across_all core crossings rows)) (of_row core crossing row n ∙ sym (row_again F w crossing.walked (links_across_from core crossing row n) (places_where (λ m. eqb m n) 0 row) here))
     ∙ ap (λ (ls : List Link). flat_map (λ (m : Membership). F m.unit) (map (seated w) (places_where (λ m. eqb m n) 0 row)) ++ ls) later
@@ -86,4 +79,4 @@ pub across_memberships : (core : Core) (n : ℕ) → IsSoundCore core
     → filter (starts_at n) (links_across_all core core.crossings.items (row_list core.rows)) ≡ flat_map (λ (m : Membership). links_of_row core n m.unit) (standings n 0 (row_list core.rows))
 across_memberships core n sound =
     of_rows core n 0 (links_of_row core n) core.crossings.items (row_list core.rows) sound.paired (λ k crossing row here there.
-      subst (λ i. links_of_row core n i ≡ cond crossing.walked (links_across_from core crossing row n) []) (let z : k ≡ 0 + k = omega arith in z) (row_known core n k crossing row here there))
+    subst (λ i. links_of_row core n i ≡ cond crossing.walked (links_across_from core crossing row n) []) (let z : k ≡ 0 + k = omega arith in z) (row_known core n k crossing row here there))

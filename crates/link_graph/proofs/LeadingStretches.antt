@@ -1,32 +1,30 @@
 -- The stretches of a node cover its links.
-use Rattle.std.proofs.Common.{◌≡◌, ◌≢◌, ℕ, ◌+◌, ◌-◌, ◌*◌, ◌<◌, ◌≤◌, zero, suc, Bool, true, false, cond, not, eqb, ltb, List, [], ◌∷◌, ◌++◌, Option, Some, None, length, map, get_or, refl, sym, ap, ◌∙◌, subst, arith, inl, inr, length-append}
-use Rattle.std.specs.Prelude.{slice_get, filter, All, Contains, sum_by}
+use Rattle.std.proofs.Common.{◌≡◌, ℕ, ◌+◌, ◌-◌, ◌<◌, ◌≤◌, zero, suc, Bool, cond, List, [], ◌∷◌, ◌++◌, Option, Some, None, length, map, refl, sym, ap, ◌∙◌, subst, arith, inl, inr, length-append}
+use Rattle.std.specs.Prelude.{slice_get, filter, Contains, sum_by}
 use Rattle.std.proofs.lemmas.Bool.{cases_lt}
 use Rattle.std.proofs.lemmas.List.{length-map}
 use Rattle.std.proofs.lemmas.List.Elements.{All-contains, Contains-append_cases}
 use Rattle.std.proofs.lemmas.List.Sums.{sum_by-cons}
-use Rattle.std.proofs.lemmas.Option.{same_Some, none-some, slice_get_within, slice_get-get_or, get_or_from_slice_get}
-use Rattle.report_laws.proofs.Members.{Contains-nil, Contains-only, Contains-first, Contains-later, Contains-cons_cases}
-use Rattle.venue_types.specs.declared.kind.Kind.{Kind}
+use Rattle.std.proofs.lemmas.Option.{same_Some, none-some, slice_get_within}
+use Rattle.report_laws.proofs.Members.{Contains-only, Contains-first, Contains-later}
 use Rattle.venue_types.specs.declared.link.Link.{Link}
 use Rattle.venue_nodes.specs.Rows.{row_list}
-use Rattle.venue_nodes.proofs.Items.{member_at, at_member, at_map, from_map as item_from_map}
+use Rattle.venue_nodes.proofs.Items.{member_at, at_member, at_map}
 use Rattle.venue_nodes.proofs.Spread.{from_map}
 use Rattle.link_graph.specs.declared.parts.Core.{Core}
 use Rattle.link_graph.specs.declared.parts.Crossing.{Crossing}
 use Rattle.link_graph.specs.declared.parts.Seat.{Seat}
 use Rattle.link_graph.specs.declared.stretches.Stretch.{Stretch}
-use Rattle.link_graph.specs.declared.stretches.Way.{Way}
 use Rattle.link_graph.specs.declared.stretches.Way.TheVariants.{Inside, Between}
-use Rattle.link_graph.specs.Cores.{IsSoundCore, IsCrossing, IsPassage, network_in, barred_in, crossing_at, link_across, links_across_from, others_in, seats_at, leaving_at, across_count, stretch_of, stretches_in}
+use Rattle.link_graph.specs.Cores.{IsSoundCore, IsCrossing, IsPassage, network_in, barred_in, link_across, links_across_from, others_in, seats_at, leaving_at, across_count, stretch_of, stretches_in}
 use Rattle.link_graph.specs.Links.{are_joined}
 use Rattle.link_graph.specs.Networks.{AreStretches, Follow, GoesBy, IsSome, links_out}
 use Rattle.link_graph.specs.Leads.{starts_at, links_of_row, links_of_seats, passages_out, AreSeats}
 use Rattle.link_graph.proofs.Items.{from_then, from_filter}
 use Rattle.link_graph.proofs.LeadingLists.{at_left, at_right, at_place}
 use Rattle.link_graph.proofs.LeadingRows.{row_known}
-use Rattle.link_graph.proofs.LeadingSeats.{IsSeated, seat_seated, node_seats, links_out_are}
-use Rattle.link_graph.proofs.LeadingPlaces.{in_seat, across_long, node_counted, out_long, leaving_at_place}
+use Rattle.link_graph.proofs.LeadingSeats.{seat_seated, node_seats, links_out_are}
+use Rattle.link_graph.proofs.LeadingPlaces.{in_seat, across_long, node_counted, out_long}
 use Rattle.link_graph.proofs.LeadingEnds.{parts_few}
 
 -- ---- seats as stretches

@@ -1,4 +1,4 @@
-use Rattle.std.proofs.Common.{arith, inl, inr}
+use Rattle.std.proofs.Common.{inl, inr}
 use Rattle.link_graph.proofs.LeadingReads.{IsOther, across_lead}
 use Rattle.link_graph.proofs.LeadingSeats.{seat_seated}
 use Rattle.link_graph.proofs.finding.across.Goals as goal

@@ -1,4 +1,4 @@
-use Rattle.std.proofs.Common.{◌≡◌, ℕ, ◌+◌, ◌-◌, ◌<◌, ◌≤◌, List, Some, length, sym, ap, ◌∙◌, arith, subst}
+use Rattle.std.proofs.Common.{◌-◌, List, sym, arith, subst}
 use Rattle.std.specs.List.Sorted.{IsNonDecreasingBy}
 use Rattle.venue_nodes.proofs.Items.{member_at}
 use Rattle.link_graph.specs.declared.parts.Seat.{Seat}

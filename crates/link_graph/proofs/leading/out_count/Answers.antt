@@ -1,4 +1,4 @@
-use Rattle.std.proofs.Common.{◌≡◌, ℕ, List, length, ap, arith}
+use Rattle.std.proofs.Common.{ℕ, List, length, ap, arith}
 use Rattle.link_graph.proofs.LeadingEnds.{parts_few}
 use Rattle.link_graph.proofs.LeadingPlaces.{out_long}
 use Rattle.link_graph.proofs.LeadingReads.{leaving_read}

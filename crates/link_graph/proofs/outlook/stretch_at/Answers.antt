@@ -3,7 +3,6 @@ use Rattle.std.specs.Prelude.{slice_get}
 use Rattle.venue_nodes.proofs.Items.{member_at}
 use Rattle.link_graph.specs.declared.parts.Seat.{Seat}
 use Rattle.link_graph.specs.declared.stretches.Stretch.{Stretch}
-use Rattle.link_graph.specs.declared.stretches.Way.TheVariants.{Between}
 use Rattle.link_graph.specs.Cores.{seats_at}
 use Rattle.link_graph.proofs.LeadingEnds.{parts_few}
 use Rattle.link_graph.proofs.LeadingReads.{seats_read, leaving_read}

@@ -1,4 +1,4 @@
-use Rattle.std.proofs.Common.{◌≡◌, ℕ, List, length, refl, ap, arith}
+use Rattle.std.proofs.Common.{List, length, refl, ap, arith}
 use Rattle.link_graph.specs.declared.parts.Seat.{Seat}
 use Rattle.link_graph.proofs.LeadingReads.{seats_read}
 use Rattle.link_graph.proofs.LeadingStretches.{node_few, stretches_long}
