@@ -11,5 +11,4 @@ pub mod Lower
 pub mod Detours
 pub mod Graphs
 pub mod Making
-pub mod Grounds
 pub mod Faults

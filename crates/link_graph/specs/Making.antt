@@ -23,6 +23,7 @@ use Rattle.link_graph.specs.declared.parts.Core.{Core}
 use Rattle.link_graph.specs.declared.parts.Crossing.{Crossing}
 use Rattle.link_graph.specs.declared.parts.Door.{Door}
 use Rattle.link_graph.specs.declared.parts.Seat.{Seat}
+use Rattle.link_graph.specs.declared.trails.Ground.{Ground}
 use Rattle.link_graph.specs.Facts.{end_of}
 use Rattle.link_graph.specs.Links.{first_unit, is_moving, relationship_links}
 
@@ -58,6 +59,11 @@ pub record AreClose (nodes : Nodes) : Type 0 where
   pub close : (a b : Node) → Contains (node_list nodes) a → Contains (node_list nodes) b → IsCloseDoubled a.spot b.spot
 
 -- ---- relationships
+
+-- the nodes that passages are made over are those of the features, and close
+pub record IsGround (ground : Ground) : Type 0 where
+  pub nodes : AreNodes ground.features.now ground.nodes.now
+  pub close : AreClose ground.nodes.now
 
 -- the places that these references name
 abbrev pub places_on : (FeatureId → Option ℕ) → List Ref → List ℕ
