@@ -1,6 +1,6 @@
 -- What is made of features is sound, and its network is theirs.
-use Rattle.std.proofs.Common.{◌≡◌, ◌≢◌, ℕ, suc, ◌+◌, ◌*◌, ◌<◌, ◌≤◌, Bool, true, false, List, [], ◌∷◌, ◌++◌, Option, Some, None, All, length, map, flat_map, filter, replicate, get_or, refl, sym, ap, ap₂, ◌∙◌, subst, inl, inr, arith, length-append}
-use Rattle.std.specs.Prelude.{Contains, slice_get, sum_by, AllPairs}
+use Rattle.std.proofs.Common.{◌≡◌, ◌≢◌, ℕ, ◌+◌, ◌<◌, ◌≤◌, Bool, true, false, List, [], ◌++◌, Some, None, All, length, map, replicate, get_or, refl, sym, ap, ap₂, ◌∙◌, subst, inl, inr, arith, length-append}
+use Rattle.std.specs.Prelude.{Contains, slice_get, AllPairs}
 use Rattle.std.specs.List.{enumerate_from}
 use Rattle.std.specs.List.Sorted.{IsStrictlyIncreasing}
 use Rattle.std.specs.Option.{option_map_or}
@@ -38,17 +38,16 @@ use Rattle.venue_nodes.proofs.Once.{closables_once}
 use Rattle.venue_nodes.proofs.Places.{kept_at, places_rise}
 use Rattle.link_graph.specs.declared.parts.Core.{Core}
 use Rattle.link_graph.specs.declared.parts.Crossing.{Crossing}
-use Rattle.link_graph.specs.declared.parts.Seat.{Seat}
-use Rattle.link_graph.specs.Cores.{IsSoundCore, IsCrossing, IsPassage, IsRow, AreDoors, AreSeated, links_in, links_across_all, ends_in, barred_in, seats_at, seats_from, network_in}
+use Rattle.link_graph.specs.Cores.{IsSoundCore, IsCrossing, IsPassage, IsRow, AreDoors, AreSeated, links_in, links_across_all, ends_in, barred_in, seats_from, network_in}
 use Rattle.link_graph.specs.Facts.{facts_at, end_at, unit_by}
 use Rattle.link_graph.specs.Links.{first_unit, links, relationship_links}
-use Rattle.link_graph.specs.Making.{AreClose, AreRoomy, IsMadeOf, crossings_from, passages_from, seats_among}
+use Rattle.link_graph.specs.Making.{AreClose, AreRoomy, IsMadeOf, crossings_from, passages_from}
 use Rattle.link_graph.specs.Networks.{IsNetworkOf, joined_facts, link_facts}
 use Rattle.link_graph.proofs.Items.{from_flat_map, from_enumerate}
 use Rattle.link_graph.proofs.MadeDoors.{asks_are, doors_many, door_own}
 use Rattle.link_graph.proofs.MadeSeats.{seats_same, stands_nowhere}
 use Rattle.link_graph.proofs.MadeTrails.{passages_few}
-use Rattle.link_graph.proofs.MadeUnits.{HasGround, walks, via_of, vias_rise, via_within, crossings_many, barred_is, units_are}
+use Rattle.link_graph.proofs.MadeUnits.{walks, via_of, vias_rise, via_within, crossings_many, barred_is, units_are}
 use Rattle.link_graph.proofs.Passages.{of_relationship}
 use Rattle.link_graph.proofs.Ranges.{member_within, closables_count, passage_range}
 

@@ -11,8 +11,7 @@ use Rattle.venue_types.specs.declared.features.AnchorRow.{AnchorRow}
 use Rattle.venue_types.specs.declared.features.OpeningRow.{OpeningRow}
 use Rattle.venue_types.specs.declared.features.UnitRow.{UnitRow}
 use Rattle.venue_types.specs.declared.link.Node.{Node}
-use Rattle.imdf_access.specs.declared.parts.EndFacts.{EndFacts}
-use Rattle.imdf_access.specs.Access.{End, elsewhere}
+use Rattle.imdf_access.specs.Access.{elsewhere}
 use Rattle.imdf_access.specs.Categories.{is_walkable}
 use Rattle.imdf_access.specs.Parts.{end_facts}
 use Rattle.venue_nodes.specs.Nodes.{NodeRow, amenity, anchor, opening, unit, node_of_row, node_rows, nodes, walkable_units}

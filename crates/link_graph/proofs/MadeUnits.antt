@@ -5,7 +5,7 @@ use Rattle.std.specs.List.{enumerate_from}
 use Rattle.std.specs.List.Sorted.{IsStrictlyIncreasing}
 use Rattle.std.specs.Option.{option_map_or}
 use Rattle.std.proofs.lemmas.Bool.{cases_lt, lt-ltb, le-ltb}
-use Rattle.std.proofs.lemmas.List.{length-replicate, length-map, get_or-replicate, get_or-append-add, get_or_append_left}
+use Rattle.std.proofs.lemmas.List.{length-replicate, get_or-replicate, get_or-append-add, get_or_append_left}
 use Rattle.std.proofs.lemmas.Map.Keys.{IsStrictlyIncreasing-from_sorted}
 use Rattle.std.proofs.lemmas.Option.{slice_get_within}
 use Rattle.venue_types.specs.declared.features.Features.{Features}
@@ -24,7 +24,7 @@ use Rattle.link_graph.specs.declared.parts.Core.{Core}
 use Rattle.link_graph.specs.declared.parts.Crossing.{Crossing}
 use Rattle.link_graph.specs.Cores.{way_in, links_across, links_across_all}
 use Rattle.link_graph.specs.Lengths.{length_between}
-use Rattle.link_graph.specs.Links.{spot_of, are_joined, inside_link, is_moving, has_links, unit_links, way}
+use Rattle.link_graph.specs.Links.{spot_of, are_joined, inside_link, is_moving, unit_links, way}
 use Rattle.link_graph.specs.Making.{crossing_of, crossings_from, barred_from}
 
 abbrev pub walks : UnitRow → Bool

@@ -11,6 +11,5 @@ pub mod Lower
 pub mod Detours
 pub mod Graphs
 pub mod Making
-pub mod Grounds
 pub mod Faults
 pub mod Leads

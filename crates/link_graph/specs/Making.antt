@@ -1,5 +1,5 @@
 -- What a graph keeps, as it is made of the features: the code's own machinery, which no public contract cites.
-use Rattle.std.specs.Prelude.{◌≡◌, ℕ, ◌+◌, ◌-◌, ◌<◌, ◌≤◌, ◌==◌, List, [], ◌∷◌, ◌++◌, map, flat_map, filter, length, replicate, sum_by, slice_get, slice_index_or, All, Contains, Option, Some, None, Bool, false, not, nat_lt, if◌then◌else◌}
+use Rattle.std.specs.Prelude.{◌≡◌, ℕ, ◌+◌, ◌-◌, ◌<◌, ◌≤◌, ◌==◌, List, [], ◌∷◌, ◌++◌, map, flat_map, length, replicate, sum_by, slice_get, slice_index_or, All, Contains, Option, Some, None, Bool, false, not, nat_lt, if◌then◌else◌}
 use Rattle.std.specs.List.{enumerate_from, filter_map}
 use Rattle.venue_types.specs.declared.feature_id.FeatureId.{FeatureId}
 use Rattle.venue_types.specs.declared.features.Features.{Features}
@@ -23,6 +23,7 @@ use Rattle.link_graph.specs.declared.parts.Core.{Core}
 use Rattle.link_graph.specs.declared.parts.Crossing.{Crossing}
 use Rattle.link_graph.specs.declared.parts.Door.{Door}
 use Rattle.link_graph.specs.declared.parts.Seat.{Seat}
+use Rattle.link_graph.specs.declared.trails.Ground.{Ground}
 use Rattle.link_graph.specs.Facts.{end_of}
 use Rattle.link_graph.specs.Links.{first_unit, is_moving, relationship_links}
 
@@ -58,6 +59,11 @@ pub record AreClose (nodes : Nodes) : Type 0 where
   pub close : (a b : Node) → Contains (node_list nodes) a → Contains (node_list nodes) b → IsCloseDoubled a.spot b.spot
 
 -- ---- relationships
+
+-- the nodes that passages are made over are those of the features, and close
+pub record IsGround (ground : Ground) : Type 0 where
+  pub nodes : AreNodes ground.features.now ground.nodes.now
+  pub close : AreClose ground.nodes.now
 
 -- the places that these references name
 abbrev pub places_on : (FeatureId → Option ℕ) → List Ref → List ℕ

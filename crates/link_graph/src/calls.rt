@@ -32,7 +32,7 @@ impl Graph {
     ghost use Rattle.link_graph.specs.Networks.{IsFree, IsNetworkOf, link_facts, links_out};
 
     /// The graph of the features of a folder, over the nodes and the rows of members that were made of them, where units are roomy.
-    /// Takes time and memory in proportion to their number and that of the passages, whatever the number of links.
+    /// Takes n log n time, and memory in proportion to them and to the passages, whatever the number of links.
     #[tactic(auto, unfolding(crate::specs::Graphs::network))]
     pub fn of(
         alloc: Global,

@@ -99,7 +99,11 @@ impl HasDoor for UnitRow {
 }
 
 // Adds those of the nodes of these rows.
-fn add_doors<R: HasDoor>(doors: &mut Vec<Door>, nodes: &Nodes, rows: &[R]) -> Result<(), OutOfMemory>
+fn add_doors<R: HasDoor>(
+    doors: &mut Vec<Door>,
+    nodes: &Nodes,
+    rows: &[R],
+) -> Result<(), OutOfMemory>
     ensures { OnOk result (doors.new.items ≡ doors.old.items ++ map (λ row. door_of (find_closable nodes.now) (R.row_of row)) rows.now) }
 {
     for row in rows {
@@ -109,7 +113,11 @@ fn add_doors<R: HasDoor>(doors: &mut Vec<Door>, nodes: &Nodes, rows: &[R]) -> Re
 }
 
 // Adds those of the nodes of the units that can be walked through.
-fn add_unit_doors(doors: &mut Vec<Door>, nodes: &Nodes, units: &[UnitRow]) -> Result<(), OutOfMemory>
+fn add_unit_doors(
+    doors: &mut Vec<Door>,
+    nodes: &Nodes,
+    units: &[UnitRow],
+) -> Result<(), OutOfMemory>
     ensures { OnOk result (doors.new.items ≡ doors.old.items ++ map (λ row. door_of (find_closable nodes.now) (of_unit row)) (filter (λ (row : AUnit). is_walkable row.category) units.now)) }
 {
     for unit in units {

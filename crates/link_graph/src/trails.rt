@@ -5,9 +5,8 @@ ghost use Rattle.std.specs.Option.{option_to_list};
 ghost use Rattle.venue_nodes.specs.Nodes.{nodes as nodes_of};
 ghost use Rattle.venue_nodes.specs.Unplaced.{one_or_none};
 ghost use Rattle.venue_nodes.specs.Views.{find_place};
-ghost use Rattle.link_graph.specs.Grounds.{IsGround};
 ghost use Rattle.link_graph.specs.Links.{passage_link, pair_links, chain_links, whole_chain_links, relationship_links, chain as chain_of, extra_of};
-ghost use Rattle.link_graph.specs.Making.{places_on, passages_from};
+ghost use Rattle.link_graph.specs.Making.{IsGround, places_on, passages_from};
 
 use crate::laws::length_between_law;
 use plane_exact::{length_cm, length_law};
@@ -100,7 +99,13 @@ impl Ground<'_> {
     }
 
     // Adds the links between two neighbours of a chain: forward, then backward. None leads from a node to itself.
-    fn add_pair(&self, links: &mut Vec<Link>, trail: Trail, a: u32, b: u32) -> Result<(), OutOfMemory>
+    fn add_pair(
+        &self,
+        links: &mut Vec<Link>,
+        trail: Trail,
+        a: u32,
+        b: u32,
+    ) -> Result<(), OutOfMemory>
         requires ground { IsGround self.now }
         requires from { a < length (nodes_of self.now.features.now) }
         requires to { b < length (nodes_of self.now.features.now) }
@@ -138,7 +143,12 @@ impl Ground<'_> {
     }
 
     // Adds the links along a chain.
-    fn add_chain(&self, links: &mut Vec<Link>, trail: Trail, chain: &[u32]) -> Result<(), OutOfMemory>
+    fn add_chain(
+        &self,
+        links: &mut Vec<Link>,
+        trail: Trail,
+        chain: &[u32],
+    ) -> Result<(), OutOfMemory>
         requires ground { IsGround self.now }
         requires within { All (λ n. n < length (nodes_of self.now.features.now)) chain.now }
         ensures { OnOk result (links.new.items ≡ links.old.items ++ whole_chain_links self.now.features.now self.now.settings.now trail.via trail.kind trail.directed chain.now) }

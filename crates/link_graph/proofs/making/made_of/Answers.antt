@@ -1,7 +1,5 @@
-use Rattle.std.proofs.Common.{◌≡◌, length, ap, ◌∙◌, subst, arith}
-use Rattle.venue_types.specs.declared.link.Link.{Link}
+use Rattle.std.proofs.Common.{◌∙◌}
 use Rattle.venue_nodes.specs.Views.{node_list}
-use Rattle.link_graph.specs.Links.{first_unit}
 use Rattle.link_graph.proofs.MadeCore.{nodes_close, rows_roomy, rows_paired, passages_within, few_passages}
 use Rattle.link_graph.proofs.making.made_of.Goals as goal
 

@@ -1,6 +1,4 @@
-use Rattle.std.proofs.Common.{◌≡◌}
 use Rattle.venue_nodes.specs.Views.{find_place}
-use Rattle.link_graph.specs.Links.{chain}
 use Rattle.link_graph.proofs.MadeTrails.{chain_is, chain_all_within}
 use Rattle.link_graph.proofs.trails.Ground.chain.Goals as goal
 
