@@ -18,7 +18,7 @@ use Rattle.venue_build.specs.Built.{IsRejected, IsVenueOf, IsBuilt}
 use Rattle.venue_build.specs.Ground.{IsSoundVenue, IsLaterReport, IsLaterBuilt}
 use Rattle.venue_build.specs.declared.built.Built.{Built}
 use Rattle.venue_build.specs.declared.built.Built.TheVariants as built
-use Rattle.venue_build.specs.declared.venue.Venue.{Venue}
+use Rattle.venue_build.specs.Venues.{SeenVenue as Venue}
 use Rattle.venue_build.proofs.Phases.{nothing, rejected_later}
 use Rattle.venue_build.proofs.Noting.{same_notes}
 

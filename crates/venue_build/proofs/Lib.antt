@@ -5,3 +5,4 @@ mod Planes
 mod Grounds
 mod Noting
 mod Builds
+pub mod Silent

@@ -15,7 +15,7 @@ use Rattle.imdf_rows.specs.Folder.{AreFeatures}
 use Rattle.imdf_read.specs.Broken.{IsBroken}
 use Rattle.venue_build.specs.Report.{IsWrong, IsLaterBroken, IsVenueNoted}
 use Rattle.venue_build.specs.Built.{IsRejected, IsVenueOf}
-use Rattle.venue_build.specs.declared.venue.Venue.{Venue}
+use Rattle.venue_build.specs.Venues.{SeenVenue as Venue}
 use Rattle.venue_build.proofs.Venues.{same_venue}
 
 -- a report that isn't empty has a first finding

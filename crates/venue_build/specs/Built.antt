@@ -8,7 +8,7 @@ use Rattle.venue_types.specs.declared.finding.Report.{Report}
 use Rattle.report_laws.specs.Reports.{IsShortReport, IsNoteList}
 use Rattle.imdf_rows.specs.Folder.{AreFeatures}
 use Rattle.imdf_read.specs.Broken.{IsBroken}
-use Rattle.venue_build.specs.declared.venue.Venue.{Venue}
+use Rattle.venue_build.specs.Venues.{SeenVenue as Venue}
 use Rattle.venue_build.specs.declared.built.Built.{Built}
 use Rattle.venue_build.specs.declared.built.Built.TheVariants as built
 use Rattle.venue_build.specs.Report.{IsWrong, IsVenueNoted, AreValid}

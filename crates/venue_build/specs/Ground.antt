@@ -12,7 +12,7 @@ use Rattle.venue_nodes.specs.Rows.{AreRowsOf}
 use Rattle.venue_nodes.specs.Unplaced.{IsUnplaced}
 use Rattle.venue_build.specs.declared.built.Built.{Built}
 use Rattle.venue_build.specs.declared.built.Built.TheVariants as built
-use Rattle.venue_build.specs.declared.venue.Venue.{Venue}
+use Rattle.venue_build.specs.Venues.{SeenVenue as Venue}
 use Rattle.venue_build.specs.declared.ground.Ground.{Ground}
 use Rattle.venue_build.specs.declared.ground.Judged.{Judged}
 use Rattle.venue_build.specs.declared.ground.Judged.TheVariants as judged

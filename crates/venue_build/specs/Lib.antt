@@ -1,5 +1,8 @@
 pub mod Phases
 pub mod Report
+pub mod Venues
+pub mod Kept
 pub mod Places
 pub mod Built
 pub mod Ground
+pub mod PlaceNumbers

@@ -5,18 +5,22 @@ ghost use Rattle.feature_rows.specs.Sound.{AreSound};
 ghost use Rattle.report_laws.specs.Reports.{IsNoteList};
 ghost use Rattle.venue_nodes.specs.Unplaced.{IsUnplaced};
 ghost use Rattle.venue_build.specs.Ground.{IsGround, IsJudged, IsLaterBuilt};
+ghost use Rattle.link_graph.specs.Graphs.{network};
+ghost use Rattle.link_graph.specs.Networks.{IsNetworkOf};
 ghost use Rattle.venue_build.specs.Built.{IsBuilt};
+ghost use Rattle.venue_build.specs.Report.{AreValid};
 
 use crate::ground::{Ground, Judged, ground_of};
 use crate::plane::plane_findings;
 use crate::{Built, Venue};
 use imdf_read::{ReadOut, read_folder};
 use imdf_refs::{own_ids_law, reference_findings};
+use link_graph::Graph;
 use reading_laws::sound_reading_law;
 use report_laws::{notes_in_order, shortened};
 use ring_rules::no_spread_law;
 use std::alloc::Global;
-use venue_nodes::{limit_findings, place_notes};
+use venue_nodes::{first_crowding, limit_findings, place_notes};
 use venue_types::{Features, Files, List, Note, OutOfMemory, Settings};
 
 // What the phases after the first make of rows.
@@ -58,6 +62,24 @@ fn all_notes(
     Ok(notes_in_order(notes))
 }
 
+// The graph of rows that every phase accepts, over the nodes and the members that the last one made.
+fn graph_of(
+    alloc: Global,
+    features: &Features,
+    settings: &Settings,
+    ground: Ground,
+) -> Result<Graph, OutOfMemory>
+    requires valid { AreValid features.now settings.now }
+    requires ground { IsGround features.now settings.now ground }
+    ensures { IfOk result (λ graph. IsNetworkOf features.now settings.now (network graph)) }
+{
+    own_ids_law();
+    no_spread_law();
+    let _none = first_crowding(&ground.members);
+    let graph = Graph::of(alloc, features, ground.nodes, ground.members, settings)?;
+    Ok(graph)
+}
+
 // The venue of rows in which the first phase finds nothing, or the report of a later one.
 fn built(
     alloc: Global,
@@ -72,8 +94,9 @@ fn built(
         Judged::Broken(findings) => Ok(Built::Rejected(shortened(findings))),
         Judged::Sound(ground) => {
             let notes = all_notes(&features, settings, &ground, noted)?;
+            let graph = graph_of(alloc, &features, settings, ground)?;
             let kept = settings.copy(alloc)?;
-            Ok(Built::Venue(Venue::new(features, kept, notes)))
+            Ok(Built::Venue(Venue::new(features, kept, notes, graph)))
         }
     }
 }

@@ -13,7 +13,7 @@ ghost use Rattle.imdf_refs.specs.Rules.{IsMisnamed};
 ghost use Rattle.ring_rules.specs.Rules.{BreaksSpread};
 ghost use Rattle.venue_nodes.specs.Limits.{BreaksLimit};
 ghost use Rattle.venue_build.specs.Phases.{IsMisplaced};
-ghost use Rattle.venue_build.specs.declared.venue.Venue.{Venue as TheVenue};
+ghost use Rattle.venue_build.specs.Venues.{SeenVenue as TheVenue};
 ghost use Rattle.venue_build.specs.Built.{IsRejected, IsVenueOf};
 ghost use Rattle.venue_build.specs.Report.{IsLaterBroken};
 
@@ -34,7 +34,9 @@ pub fn every_venue(venue: &Venue)
     ensures close { (x : Finding) → ¬ BreaksSpread venue.now.features x }
     ensures placed { (x : Finding) → ¬ IsMisplaced venue.now.features venue.now.settings.contain_tol x }
     ensures roomy { (x : Finding) → ¬ BreaksLimit venue.now.features venue.now.settings.border_tol x }
-{}
+{
+    venue.valid_law();
+}
 
 /// What the features of a venue name is there: the level of each opening and unit, the unit of each anchor, the units of each
 /// amenity and the anchor of each occupant, each the only one of its identifier. And any two of its positions are close.

@@ -5,6 +5,7 @@ mod building;
 mod built;
 mod ground;
 mod law;
+mod places;
 mod plane;
 mod venue;
 

@@ -1,24 +1,41 @@
 //! A venue whose rows every phase of rules accepts.
 
 ghost use Rattle.std.specs.Prelude.{◌≡◌};
-ghost use Rattle.std.proofs.Props.{props};
+ghost use Rattle.link_graph.specs.Graphs.{network};
+ghost use Rattle.link_graph.specs.Networks.{IsNetworkOf};
+ghost use Rattle.venue_build.specs.Kept.{IsKept};
 ghost use Rattle.venue_build.specs.Report.{AreValid};
 
+use link_graph::Graph;
+use std::marker::Model;
 use venue_types::{Features, List, Note, Settings};
 
-/// The rows of a folder that is published, the settings under which it was judged, and what is worth a note in it.
+/// The rows of a folder that is published, the settings under which it was judged, and what is worth a note in it; beside them the
+/// graph of the rows, which contracts see by them alone.
 #[derive(Drop)]
 pub struct Venue {
     features: Features,
     settings: Settings,
     notes: List<Note>,
-    // Every phase accepts the rows.
-    ghost valid: { AreValid features settings } by { Prim.hlevel props },
+    graph: Graph,
+}
+
+impl Model for Venue {
+    ghost use Rattle.std.proofs.Props.{props};
+    ghost use Rattle.link_graph.specs.Graphs.{network};
+    ghost use Rattle.venue_build.specs.Kept.{IsKept};
+    ghost use Rattle.venue_build.specs.Venues.{SeenVenue};
+
+    ghost Value = { SeenVenue };
+
+    ghost view = { λ a. record { features = a.features; settings = a.settings; notes = a.notes } };
+
+    ghost invariant = { λ a. IsKept a.features a.settings (network a.graph) };
 }
 
 impl Venue {
-    pub(crate) fn new(features: Features, settings: Settings, notes: List<Note>) -> Venue
-        requires { AreValid features settings }
+    pub(crate) fn new(features: Features, settings: Settings, notes: List<Note>, graph: Graph) -> Venue
+        requires { IsKept features settings (network graph) }
         ensures features { result.features ≡ features }
         ensures settings { result.settings ≡ settings }
         ensures notes { result.notes ≡ notes }
@@ -27,7 +44,15 @@ impl Venue {
             features,
             settings,
             notes,
+            graph,
         }
+    }
+
+    /// Every phase accepts its rows.
+    pub(crate) fn valid_law(&self)
+        ensures { AreValid self.now.features self.now.settings }
+    {
+        let _ = &self.graph;
     }
 
     /// The rows of its folder.
@@ -49,5 +74,12 @@ impl Venue {
         ensures { result.now ≡ self.now.notes }
     {
         &self.notes
+    }
+
+    /// The graph of its rows.
+    pub fn graph(&self) -> &Graph
+        ensures { IsNetworkOf self.now.features self.now.settings (network result.now) }
+    {
+        &self.graph
     }
 }

@@ -8,7 +8,7 @@ use Rattle.venue_types.specs.declared.features.Features.{Features}
 use Rattle.venue_types.specs.declared.finding.Note.{Note}
 use Rattle.venue_types.specs.declared.finding.Report.{Report}
 use Rattle.feature_rows.specs.Rows.{feature_count}
-use Rattle.venue_build.specs.declared.venue.Venue.{Venue}
+use Rattle.venue_build.specs.Venues.{SeenVenue as Venue}
 use Rattle.venue_build.specs.Built.{IsRejected, IsVenueOf}
 use Rattle.check_text.specs.Text.{rejected_text, accepted_text}
 use Rattle.venue_ports.specs.Files.{StoredFile, file_at}

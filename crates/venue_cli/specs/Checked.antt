@@ -9,7 +9,7 @@ use Rattle.venue_settings.specs.declared.fault.SettingsFault.{SettingsFault}
 use Rattle.venue_settings.specs.declared.fault.SettingsFault.TheVariants as fault
 use Rattle.venue_settings.specs.Settings.{IsSettingsOf}
 use Rattle.feature_rows.specs.Rows.{feature_count}
-use Rattle.venue_build.specs.declared.venue.Venue.{Venue}
+use Rattle.venue_build.specs.Venues.{SeenVenue as Venue}
 use Rattle.venue_build.specs.Built.{IsRejected, IsVenueOf}
 use Rattle.venue_folder.specs.Shelves.{folder_path, folder_files}
 use Rattle.check_text.specs.Text.{rejected_text, accepted_text}

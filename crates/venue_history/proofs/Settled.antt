@@ -5,7 +5,7 @@ use Rattle.std.proofs.Props.{props}
 use Rattle.std.proofs.lemmas.List.Elements.{All-cons, All-contains}
 use Rattle.std.specs.Prelude.{All, Contains}
 use Rattle.std.specs.Arc.{arc_value}
-use Rattle.venue_build.specs.declared.venue.Venue.{Venue}
+use Rattle.venue_build.specs.Venues.{SeenVenue as Venue}
 use Rattle.venue_build.specs.Report.{AreValid}
 use Rattle.venue_types.specs.declared.settings.Settings.{Settings}
 use Rattle.venue_history.specs.declared.entry.Entry.{Entry}

@@ -1,7 +1,7 @@
 -- Histories: lists of entries, the version to which one leads, and which of them are legal.
 use Rattle.std.specs.Prelude.{◌≡◌, List, [], ◌∷◌, Option, Some, None}
 use Rattle.std.specs.Arc.{arc_value}
-use Rattle.venue_build.specs.declared.venue.Venue.{Venue}
+use Rattle.venue_build.specs.Venues.{SeenVenue as Venue}
 use Rattle.venue_build.specs.Report.{AreValid}
 use Rattle.venue_history.specs.declared.entry.Act.{Act}
 use Rattle.venue_history.specs.declared.entry.Act.TheVariants.{Published, Closed, Reopened}

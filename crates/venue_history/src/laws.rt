@@ -12,7 +12,7 @@ ghost use Rattle.venue_types.specs.declared.reply.Reply.{Reply as AReply};
 ghost use Rattle.venue_types.specs.declared.reply.Reply.TheVariants as reply;
 ghost use Rattle.venue_types.specs.declared.settings.Profile.{Profile as AProfile};
 ghost use Rattle.venue_nodes.specs.Nodes.{closables};
-ghost use Rattle.venue_build.specs.declared.venue.Venue.{Venue as AVenue};
+ghost use Rattle.venue_build.specs.Venues.{SeenVenue as AVenue};
 ghost use Rattle.venue_build.specs.Report.{AreValid};
 ghost use Rattle.venue_folder.specs.Shelves.{Shelf};
 ghost use Rattle.venue_history.specs.declared.entry.Entry.{Entry as AnEntry};

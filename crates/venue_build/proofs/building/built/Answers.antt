@@ -5,6 +5,8 @@ use Rattle.venue_types.specs.declared.finding.Note.{Note}
 use Rattle.report_laws.specs.Reports.{IsNoteList}
 use Rattle.venue_nodes.specs.Unplaced.{IsUnplaced}
 use Rattle.venue_build.specs.Ground.{IsJudged}
+use Rattle.link_graph.specs.Graphs.{network}
+use Rattle.venue_build.specs.Kept.{IsKept}
 use Rattle.venue_build.specs.Report.{AreValid}
 use Rattle.venue_build.specs.declared.ground.Judged.{Judged}
 use Rattle.venue_build.proofs.building.built.Goals as goal
@@ -15,7 +17,8 @@ new-requires c =
     let settings = c.args.settings.now in
     let judged = subst (λ (j : Judged). IsJudged features settings j) c.in-Sound.is c.in_ok-findings.ensures in
     let valid : AreValid features settings = record { sound = c.requires; unbroken = judged.0 } in
-    subst (λ (s : Settings). AreValid features s) (sym c.in_ok-kept-in-Sound.ensures) valid
+    let whole : IsKept features settings (network c.in_ok-graph-in-Sound.graph) = record { valid = valid; graph_is = c.in_ok-graph-in-Sound.ensures } in
+    subst (λ (s : Settings). IsKept features s (network c.in_ok-graph-in-Sound.graph)) (sym c.in_ok-kept-in-Sound.ensures) whole
 
 pub returns-in_ok-kept-in-Sound : goal.returns-in_ok-kept-in-Sound
 returns-in_ok-kept-in-Sound c =
@@ -29,3 +32,10 @@ returns-in_ok-kept-in-Sound c =
       notes = subst (λ (ns : List Note). IsNoteList (λ x. Contains c.args.noted x ⊎ IsUnplaced features settings.border_tol x) ns)
           (sym c.new.ensures.notes) c.in_ok-notes-in-Sound.ensures;
     }
+
+pub graph_of-requires-clause-valid : goal.graph_of-requires-clause-valid
+graph_of-requires-clause-valid c =
+    let features = c.args.features in
+    let settings = c.args.settings.now in
+    let judged = subst (λ (j : Judged). IsJudged features settings j) c.in-Sound.is c.in_ok-findings.ensures in
+    record { sound = c.requires; unbroken = judged.0 }

@@ -1,0 +1,6 @@
+//! The table of the links of a venue that a profile may use.
+#![tactic(auto)]
+
+mod tables;
+
+pub use tables::allowed_table;
