@@ -1,6 +1,6 @@
 //! Which link stands at a place among those out of a node.
 
-ghost use Rattle.std.specs.Prelude.{◌≡◌, ◌<◌, ◌+◌, MatchOption, Contains, None, Some, length, slice_get, slice_index_or};
+ghost use Rattle.std.specs.Prelude.{◌≡◌, ◌<◌, MatchOption, Contains, Some, length, slice_get};
 ghost use Rattle.std.specs.List.Sorted.{IsNonDecreasingBy};
 ghost use Rattle.link_graph.specs.declared.parts.Seat.{Seat as ASeat};
 ghost use Rattle.link_graph.specs.Cores.{IsSoundCore, network_in, others_in, seats_at, leaving_at, across_count};
@@ -12,13 +12,14 @@ use venue_types::Link;
 
 /// A link out of a node.
 pub(crate) enum Lead {
-    /// Across a unit to a node, which is as long as the way is.
+    /// Across a unit to a node. Its length is not computed.
     Across { crossing: Crossing, to: u32 },
     /// By a relationship.
     Passage(Link),
 }
 
-/// The link at a place among those that start at a node.
+/// The link at a place among those that start at a node, without its length where it goes across a unit. Takes time logarithmic in the
+/// number of units of the node.
 #[tactic(auto, unfolding(crate::specs::Cores::network_in))]
 pub(crate) fn lead_at(core: &Core, n: u32, place: u32) -> Lead
     requires sound { IsSoundCore core.now }
@@ -51,7 +52,7 @@ pub(crate) fn others(core: &Core, row: u32) -> u32
     }
 }
 
-/// How many links a node has across units.
+/// How many links a node has across units, behind which those by relationships stand.
 #[tactic(auto, unfolding(crate::specs::Cores::network_in))]
 pub(crate) fn across_end(core: &Core, n: u32) -> u32
     requires sound { IsSoundCore core.now }
