@@ -1,9 +1,8 @@
-use Rattle.std.proofs.Common.{◌≡◌, List, ℕ, sym, ◌∙◌, subst}
+use Rattle.std.proofs.Common.{◌≡◌, ◌∙◌, subst}
 use Rattle.std.specs.Io.KnownBytes.{Appends}
 use mathlib.Core.List.{IsPrefix}
 use Rattle.wire_replies.specs.Replies.{reply_text}
-use Rattle.venue_session.specs.Acting.{Acted}
-use Rattle.venue_session.specs.Texts.{bytes_of, Stepped}
+use Rattle.venue_session.specs.Texts.{Stepped}
 use Rattle.venue_session.specs.declared.answering.Step.{Step}
 use Rattle.venue_session.specs.declared.answering.Step.TheVariants.{Replied, Untold}
 use Rattle.venue_session.proofs.Endings.{ends_closed, ends_told_in_part, ends_untold}
