@@ -27,16 +27,19 @@ pub(crate) enum Stop {
 
 // Writes the text for a message, and tells how the session ends by it, if it does.
 fn write_step<L: Stream>(link: &mut L, step: &Step, close: bool) -> Option<End>
-    ensures { (keys : List (List ℕ)) (first : Moment) (before after : Facts) (taken : ℕ) (waiting : List ℕ) (message : Message) (size : ℕ)
+    ensures { (keys : List (List ℕ)) (first : Moment) (before after : Facts) (taken : ℕ) (waiting : List ℕ)
+        → (message : Message) (size : ℕ)
         → IsGoing keys first (moment before (L.left link.old) (L.written link.old) (L.faults link.old)) taken waiting
         → At keys waiting (Taken.Message message size close) → Stepped before message close step.now after
-        → GoesOrEnded keys first (moment after (L.left link.new) (L.written link.new) (L.faults link.new)) taken (drop size waiting) result }
+        → GoesOrEnded keys first (moment after (L.left link.new) (L.written link.new) (L.faults link.new)) taken
+        (drop size waiting) result }
 {
     match step {
         Step::Untold => Some(End::OutOfMemory),
         Step::Replied(text) => match write_whole(link, text.as_slice()) {
+            Ok(()) if close => Some(End::Done),
+            Ok(()) => None,
             Err(_failed) => Some(End::LinkFault),
-            Ok(()) => { if close { Some(End::Done) } else { None } }
         },
     }
 }
@@ -71,7 +74,8 @@ fn pass_message<H: Hall, L: Stream>(
 ) -> Option<Stop>
     requires { size ≤ length input.old }
     ensures stop { (keys : List (List ℕ)) (first : Moment) (taken : ℕ)
-        → IsGoing keys first (moment (H.facts hall.old) (L.left link.old) (L.written link.old) (L.faults link.old)) taken input.old
+        → IsGoing keys first (moment (H.facts hall.old) (L.left link.old) (L.written link.old) (L.faults link.old)) taken
+        input.old
         → At keys input.old (Taken.Message message.now size close)
         → GoesOrStops keys first (moment (H.facts hall.new) (L.left link.new) (L.written link.new) (L.faults link.new)) taken
         input.new result }
@@ -95,7 +99,8 @@ fn step<H: Hall, L: Stream>(
     input: &mut Input,
 ) -> Option<Stop>
     ensures stop { (first : Moment) (taken : ℕ)
-        → IsGoing front.now first (moment (H.facts hall.old) (L.left link.old) (L.written link.old) (L.faults link.old)) taken input.old
+        → IsGoing front.now first (moment (H.facts hall.old) (L.left link.old) (L.written link.old) (L.faults link.old)) taken
+        input.old
         → GoesOrStops front.now first (moment (H.facts hall.new) (L.left link.new) (L.written link.new) (L.faults link.new)) taken
         input.new result }
     ensures shorter { IsNone result → length input.new < length input.old }
@@ -122,7 +127,8 @@ pub(crate) fn run_steps<H: Hall, L: Stream>(
     input: &mut Input,
 ) -> Stop
     ensures { (first : Moment) (taken : ℕ)
-        → IsGoing front.now first (moment (H.facts hall.old) (L.left link.old) (L.written link.old) (L.faults link.old)) taken input.old
+        → IsGoing front.now first (moment (H.facts hall.old) (L.left link.old) (L.written link.old) (L.faults link.old)) taken
+        input.old
         → WaitsOrEnded front.now first (moment (H.facts hall.new) (L.left link.new) (L.written link.new) (L.faults link.new)) taken
         input.new result }
 {
