@@ -1,15 +1,15 @@
 -- A session under way ends.
-use Rattle.std.proofs.Common.{◌≡◌, ℕ, ◌+◌, ◌<◌, ◌≤◌, ◌^◌, inl, inr, true, List, [], ◌∷◌, ◌++◌, length, drop, refl, sym, ap, ◌∙◌, subst, arith, append-nil, Option}
+use Rattle.std.proofs.Common.{◌≡◌, ℕ, ◌<◌, ◌≤◌, ◌^◌, inl, inr, true, List, [], ◌∷◌, ◌++◌, length, drop, refl, sym, ◌∙◌, subst, arith, append-nil, Option}
 use Rattle.std.specs.Io.KnownBytes.{Appends, Consumes, IsAtEnd}
-use Rattle.std.proofs.KnownBytes.{Appends-nil, Appends-trans}
+use Rattle.std.proofs.KnownBytes.{Appends-trans}
 use mathlib.Core.List.{IsPrefix}
 use Rattle.venue_ports.specs.Causes.{Rose}
 use Rattle.version_board.specs.Facts.{Facts}
 use Rattle.wire_frames.specs.Frames.{IsShort, IsRefused}
 use Rattle.wire_frames.specs.declared.refusals.Refusal.{Refusal}
 use Rattle.wire_replies.specs.Heads.{refusal_status}
-use Rattle.venue_session.specs.Acting.{Acted, text_of, IsActed, AreOpen, Acts}
-use Rattle.venue_session.specs.Ends.{Run, Measured, Ended, Wrote, refused_text}
+use Rattle.venue_session.specs.Acting.{Acted, text_of, IsActed}
+use Rattle.venue_session.specs.Ends.{Run, Ended, refused_text}
 use Rattle.venue_session.specs.Going.{Moment, moment, measured, IsGoing, HasEnded}
 use Rattle.venue_session.specs.Steps.{told_by}
 use Rattle.venue_session.specs.declared.ends.End.{End}

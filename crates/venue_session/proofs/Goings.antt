@@ -1,12 +1,12 @@
 -- A session under way begins, takes more bytes, and acts on a message.
-use Rattle.std.proofs.Common.{◌≡◌, inl, lit<, ℕ, ◌+◌, ◌<◌, ◌≤◌, Bool, false, List, [], ◌∷◌, ◌++◌, length, drop, refl, sym, ap, ◌∙◌, subst, arith, length-append, append-nil, append_assoc, Option}
-use Rattle.std.specs.Io.KnownBytes.{Appends, Consumes, IsAtEnd}
+use Rattle.std.proofs.Common.{◌≡◌, inl, lit<, ℕ, ◌+◌, ◌<◌, false, List, [], ◌∷◌, ◌++◌, length, drop, refl, sym, ◌∙◌, subst, arith, length-append, append-nil, append_assoc, Option}
+use Rattle.std.specs.Io.KnownBytes.{Appends, Consumes}
 use Rattle.std.proofs.KnownBytes.{Appends-nil, Appends-trans, Consumes-nil, Consumes-trans}
 use Rattle.std.proofs.lemmas.List.Elements.{All-nil, All-push}
 use Rattle.venue_history.specs.Histories.{IsLegal}
 use Rattle.version_board.specs.Facts.{Facts}
 use Rattle.wire_frames.specs.Frames.{IsShort}
-use Rattle.venue_session.specs.Acting.{Acted, text_of, IsActed, AreOpen, Acts}
+use Rattle.venue_session.specs.Acting.{Acted, text_of, IsActed, Acts}
 use Rattle.venue_session.specs.Going.{Moment, moment, IsGoing, StaysShort, Awaits}
 use Rattle.venue_session.proofs.Joining.{acts_push}
 

@@ -1,5 +1,5 @@
 -- What a session makes of the hall.
-use Rattle.std.proofs.Common.{◌≡◌, ◌⊎◌, ℕ, ◌+◌, ◌-◌, ◌^◌, ◌≤◌, ◌∙◌, inl, inr, List, [], ◌∷◌, drop, sym, ap, subst, arith}
+use Rattle.std.proofs.Common.{◌≡◌, ◌⊎◌, ℕ, ◌∙◌, inl, inr, List, [], ◌∷◌, drop, sym, ap, subst, arith}
 use Rattle.venue_history.specs.Histories.{IsLegal}
 use Rattle.venue_ports.specs.Causes.{Rose}
 use Rattle.version_board.specs.Facts.{Facts}

@@ -32,8 +32,8 @@ measured first now = record {
   faults_after = now.faults;
 }
 
--- since the first moment so many bytes were taken, and all but those that wait were acted on: each text was written whole, none of the
--- messages closes, and the link did not fail
+-- since the first moment so many bytes were taken, and all but those that wait were acted on: each text was written whole, none
+-- of the messages closes, and the link did not fail
 pub record IsGoing (keys : List (List ℕ)) (first now : Moment) (taken : ℕ) (waiting : List ℕ) : Type 0 where
   pub legal : IsLegal first.facts.seen
   pub bytes : List ℕ

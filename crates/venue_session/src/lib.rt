@@ -1,4 +1,4 @@
-//! One session over one stream: what it may be, whatever hall answers and in whatever pieces the bytes come.
+//! One session over one stream: what it may be and how it is served, whatever hall answers and in whatever pieces the bytes come.
 #![tactic(auto)]
 
 mod answering;

@@ -38,7 +38,8 @@ pub(crate) fn read_on<L: Stream>(link: &mut L, input: &mut Input) -> Heard
     ensures { (keys : List (List ℕ)) (first : Moment) (facts : Facts) (taken least : ℕ)
         → IsGoing keys first (moment facts (L.left link.old) (L.written link.old) (L.faults link.old)) taken input.old
         → Awaits input.old least
-        → HeardOrEnded keys first (moment facts (L.left link.new) (L.written link.new) (L.faults link.new)) taken input.new least result }
+        → HeardOrEnded keys first (moment facts (L.left link.new) (L.written link.new) (L.faults link.new)) taken
+        input.new least result }
 {
     acts_more_law();
     match input.read_more(link) {

@@ -1,10 +1,9 @@
 //! A run of steps over the bytes that wait.
 
-ghost use Rattle.std.specs.Prelude.{◌≡◌, ◌<◌, ◌≤◌, ℕ, List, drop, length, length as count, IsNone};
+ghost use Rattle.std.specs.Prelude.{◌≡◌, ◌<◌, ◌≤◌, ℕ, List, drop, length, IsNone};
 ghost use Rattle.version_board.specs.Facts.{Facts};
 ghost use Rattle.venue_wire.specs.Messages.{At};
 ghost use Rattle.venue_wire.specs.declared.messages.Message.{Message};
-ghost use Rattle.venue_wire.specs.declared.messages.Taken.TheVariants as taken_as;
 ghost use Rattle.venue_session.specs.Going.{Moment, moment, IsGoing, GoesOrEnded, WaitsOrEnded, GoesOrStops};
 ghost use Rattle.venue_session.specs.Texts.{Stepped};
 
@@ -28,16 +27,19 @@ pub(crate) enum Stop {
 
 // Writes the text for a message, and tells how the session ends by it, if it does.
 fn write_step<L: Stream>(link: &mut L, step: &Step, close: bool) -> Option<End>
-    ensures { (keys : List (List ℕ)) (first : Moment) (before after : Facts) (taken : ℕ) (waiting : List ℕ) (message : Message) (length : ℕ)
+    ensures { (keys : List (List ℕ)) (first : Moment) (before after : Facts) (taken : ℕ) (waiting : List ℕ)
+        → (message : Message) (size : ℕ)
         → IsGoing keys first (moment before (L.left link.old) (L.written link.old) (L.faults link.old)) taken waiting
-        → At keys waiting (taken_as.Message message length close) → Stepped before message close step.now after
-        → GoesOrEnded keys first (moment after (L.left link.new) (L.written link.new) (L.faults link.new)) taken (drop length waiting) result }
+        → At keys waiting (Taken.Message message size close) → Stepped before message close step.now after
+        → GoesOrEnded keys first (moment after (L.left link.new) (L.written link.new) (L.faults link.new)) taken
+        (drop size waiting) result }
 {
     match step {
         Step::Untold => Some(End::OutOfMemory),
         Step::Replied(text) => match write_whole(link, text.as_slice()) {
+            Ok(()) if close => Some(End::Done),
+            Ok(()) => None,
             Err(_failed) => Some(End::LinkFault),
-            Ok(()) => { if close { Some(End::Done) } else { None } }
         },
     }
 }
@@ -50,38 +52,39 @@ fn answer_front<H: Hall, L: Stream>(
     message: &Message,
     close: bool,
 ) -> Option<End>
-    ensures { (keys : List (List ℕ)) (first : Moment) (taken : ℕ) (waiting : List ℕ) (length : ℕ)
+    ensures { (keys : List (List ℕ)) (first : Moment) (taken : ℕ) (waiting : List ℕ) (size : ℕ)
         → IsGoing keys first (moment (H.facts hall.old) (L.left link.old) (L.written link.old) (L.faults link.old)) taken waiting
-        → At keys waiting (taken_as.Message message.now length close)
+        → At keys waiting (Taken.Message message.now size close)
         → GoesOrEnded keys first (moment (H.facts hall.new) (L.left link.new) (L.written link.new) (L.faults link.new)) taken
-        (drop length waiting) result }
+        (drop size waiting) result }
 {
     let step = answer_message(alloc, hall, message, close);
     write_step(link, &step, close)
 }
 
-// Acts on a message of this length at the front of what waits, and passes it: tells how the run stops there, if it does.
+// Acts on a message of this size at the front of what waits, and passes it: tells how the run stops there, if it does.
 fn pass_message<H: Hall, L: Stream>(
     alloc: Global,
     hall: &mut H,
     link: &mut L,
     input: &mut Input,
     message: &Message,
-    length: usize,
+    size: usize,
     close: bool,
 ) -> Option<Stop>
-    requires { length ≤ count input.old }
+    requires { size ≤ length input.old }
     ensures stop { (keys : List (List ℕ)) (first : Moment) (taken : ℕ)
-        → IsGoing keys first (moment (H.facts hall.old) (L.left link.old) (L.written link.old) (L.faults link.old)) taken input.old
-        → At keys input.old (taken_as.Message message.now length close)
+        → IsGoing keys first (moment (H.facts hall.old) (L.left link.old) (L.written link.old) (L.faults link.old)) taken
+        input.old
+        → At keys input.old (Taken.Message message.now size close)
         → GoesOrStops keys first (moment (H.facts hall.new) (L.left link.new) (L.written link.new) (L.faults link.new)) taken
         input.new result }
-    ensures passed { IsNone result → input.new ≡ drop length input.old }
+    ensures passed { IsNone result → input.new ≡ drop size input.old }
 {
     match answer_front(alloc, hall, link, message, close) {
         Some(end) => Some(Stop::Ended(end)),
         None => {
-            input.pass(length);
+            input.pass(size);
             None
         }
     }
@@ -96,7 +99,8 @@ fn step<H: Hall, L: Stream>(
     input: &mut Input,
 ) -> Option<Stop>
     ensures stop { (first : Moment) (taken : ℕ)
-        → IsGoing front.now first (moment (H.facts hall.old) (L.left link.old) (L.written link.old) (L.faults link.old)) taken input.old
+        → IsGoing front.now first (moment (H.facts hall.old) (L.left link.old) (L.written link.old) (L.faults link.old)) taken
+        input.old
         → GoesOrStops front.now first (moment (H.facts hall.new) (L.left link.new) (L.written link.new) (L.faults link.new)) taken
         input.new result }
     ensures shorter { IsNone result → length input.new < length input.old }
@@ -123,7 +127,8 @@ pub(crate) fn run_steps<H: Hall, L: Stream>(
     input: &mut Input,
 ) -> Stop
     ensures { (first : Moment) (taken : ℕ)
-        → IsGoing front.now first (moment (H.facts hall.old) (L.left link.old) (L.written link.old) (L.faults link.old)) taken input.old
+        → IsGoing front.now first (moment (H.facts hall.old) (L.left link.old) (L.written link.old) (L.faults link.old)) taken
+        input.old
         → WaitsOrEnded front.now first (moment (H.facts hall.new) (L.left link.new) (L.written link.new) (L.faults link.new)) taken
         input.new result }
 {

@@ -27,7 +27,8 @@ fn run_where_due<H: Hall, L: Stream>(
     least: usize,
 ) -> Stop
     ensures { (first : Moment) (taken : ℕ)
-        → IsGoing front.now first (moment (H.facts hall.old) (L.left link.old) (L.written link.old) (L.faults link.old)) taken input.old
+        → IsGoing front.now first (moment (H.facts hall.old) (L.left link.old) (L.written link.old) (L.faults link.old)) taken
+        input.old
         → StaysShort input.old least
         → WaitsOrEnded front.now first (moment (H.facts hall.new) (L.left link.new) (L.written link.new) (L.faults link.new)) taken
         input.new result }
@@ -68,16 +69,18 @@ fn serve<H: Hall, L: Stream>(
     End::Worn
 }
 
-/// Serves one session over a link, and tells how it ended. Messages are acted on in the order in which their bytes come, in whatever
-/// pieces, and the text for each is written whole before the next is acted on.
+/// Serves one session over a link, and tells how it ended. Messages are acted on in the order in which their bytes come, in
+/// whatever pieces, and the text for each is written whole before the next is acted on.
 ///
-/// It ends `Done` where the input ends between two messages, or behind a message that closes; `Cut` with the number of bytes of an
-/// unfinished message; `Refused` with the status of a refused head, which is written and closes; `Worn` behind 2^40 bytes of input;
-/// `LinkFault` where a read or a write failed; `OutOfMemory` where memory ran out so that nothing right could be written. It doesn't
-/// close the link.
+/// It ends `Done` where the input ends between two messages, or behind a message that closes; `Cut` with the number of bytes of
+/// an unfinished message; `Refused` with the status of a refused head, whose text is written and closes; `Worn` behind 2^40 bytes
+/// of input; `LinkFault` where a read or a write failed; `OutOfMemory` where memory ran out for the buffer, a message, the text
+/// of a refused head or that of an accepted change. For want of memory any other reply is 503, and the session goes on. The link
+/// is not closed.
 ///
-/// It takes 81,920 bytes once, and else what a message's values and its reply's text take while it is acted on. Beside the hall's time
-/// a byte is looked at once for each run over its head, and its body once it is whole; what is left of a run is moved once a read.
+/// It takes 81,920 bytes of memory once, and else what a message and its text take while it is acted on. Beside the hall's time
+/// it takes time in proportion to the bytes; those of a head that has no end yet are looked at again at each read, those of a
+/// body are not.
 pub fn serve_session<H: Hall, L: Stream>(
     alloc: Global,
     hall: &mut H,

@@ -1,4 +1,4 @@
-use Rattle.std.proofs.Common.{◌≡◌, ◌<◌, ℕ, List, [], length, refl, arith}
+use Rattle.std.proofs.Common.{◌≡◌, ◌<◌, [], length, refl, arith}
 use Rattle.std.proofs.lemmas.Grind.{common_steps}
 use Rattle.venue_session.proofs.Endings.{ends_cut, ends_done}
 use Rattle.venue_session.proofs.reading.end_of_input.Goals as goal

@@ -1,4 +1,4 @@
-use Rattle.std.proofs.Common.{◌≡◌, ◌<◌, ℕ, List, length, drop, ap, subst, arith, length-drop}
+use Rattle.std.proofs.Common.{ℕ, List, length, ap, subst, arith, length-drop}
 use Rattle.wire_frames.specs.Frames.{IsRefused}
 use Rattle.venue_wire.specs.Messages.{At}
 use Rattle.venue_wire.specs.declared.messages.Taken.TheVariants as taken_as

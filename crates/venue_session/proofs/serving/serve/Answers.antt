@@ -1,4 +1,4 @@
-use Rattle.std.proofs.Common.{◌+◌, ◌-◌, ◌^◌, ◌<◌, ◌≤◌, ℕ, List, [], Fits, w64, sym, subst, arith}
+use Rattle.std.proofs.Common.{◌+◌, ◌-◌, ◌^◌, ◌<◌, ◌≤◌, ℕ, List, [], sym, subst, arith}
 use Rattle.venue_session.specs.Going.{Moment, moment, Awaits}
 use Rattle.venue_session.proofs.Endings.{ends_worn}
 use Rattle.venue_session.proofs.Goings.{going_first, going_renamed, nothing_awaits}
