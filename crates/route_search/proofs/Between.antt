@@ -1,0 +1,344 @@
+-- What is known between two nodes that are settled.
+use Rattle.std.proofs.Common.{◌≡◌, ◌≢◌, ◌⊎◌, inl, inr, ◌↔◌, ℕ, zero, suc, ◌+◌, ◌*◌, ◌<◌, ◌≤◌, Bool, true, false, List, length, Option, Some, None, set, replicate, refl, sym, ap, subst, ◌∙◌, arith}
+use Rattle.std.specs.Prelude.{Contains, slice_get}
+use Rattle.std.proofs.lemmas.List.{get_or-set_same, get_or-set_other, length-set, get_or-replicate, length-replicate, get_or_past}
+use Rattle.std.proofs.lemmas.Option.{slice_get_within}
+use Rattle.std.proofs.lemmas.Bool.{cases_eq, cases_lt, cases_Bool}
+use Rattle.venue_types.specs.declared.link.Link.{Link}
+use Rattle.link_graph.specs.Networks.{Network, links_out}
+use Rattle.route_search.specs.declared.frontier.Frontier.{Frontier}
+use Rattle.route_search.specs.declared.labels.Last.{Last}
+use Rattle.route_search.specs.declared.state.State.{State}
+use Rattle.route_search.specs.Labels.{no_cost, cost_at, last_at, IsLabelled, IsFirst, IsHop, Hops, IsTree, AreOver, IsRelaxed, IsFound, IsSpent}
+use Rattle.route_search.specs.Waiting.{Waits, waiting, IsPushed, IsPopped}
+use Rattle.route_search.specs.States.{settled_at, open_sum, cost_in, last_in, settled_in, IsReached, IsRelaxedFrom, IsStep, IsEmpty, IsFrom, ComesBy, Room, IsEntry, Grows, IsBetween, IsBegun, IsEnded}
+use Rattle.route_search.specs.Scans.{IsQuiet, HangsOn, IsAmid, IsScanned}
+use Rattle.route_search.proofs.Covers.{out_place}
+use Rattle.route_search.proofs.Detours.{HasDetours, detour_relaxed}
+use Rattle.route_search.proofs.Lowered.{cost-set_same, cost-set_other}
+use Rattle.route_search.proofs.Sums.{open_sum-settle, ones_begun}
+
+settled-set_same : (settled : List Bool) (i : ℕ) (y : Bool) → i < length settled → settled_at (set settled i y) i ≡ y
+unfolding settled_at
+settled-set_same settled i y within = get_or-set_same settled i y false within
+
+settled-set_other : (settled : List Bool) (i n : ℕ) (y : Bool) → n ≢ i → settled_at (set settled i y) n ≡ settled_at settled n
+unfolding settled_at
+settled-set_other settled i n y other = get_or-set_other settled i n y false other
+
+-- ---- a node is taken from what waits
+
+module _ (IsLink : Link → Type 0) (nodes from : ℕ) (old new : State) (between : IsBetween IsLink nodes from old) (cost node : ℕ)
+    (popped : IsPopped old.frontier new.frontier cost node) (costs : new.costs.items ≡ old.costs.items) (lasts : new.lasts.items ≡ old.lasts.items) where
+  cost_same : (n : ℕ) → cost_in new n ≡ cost_in old n
+  cost_same n = ap (λ (cs : List ℕ). cost_at cs n) costs
+
+  last_same : (n : ℕ) → last_in new n ≡ last_in old n
+  last_same n = ap (λ (ls : List Last). last_at ls n) lasts
+
+  depth_same : (n : ℕ) → (last_in new n).depth ≡ (last_in old n).depth
+  depth_same n = ap (λ (y : Last). y.depth) (last_same n)
+
+  known : (n : ℕ) → IsReached new n → IsReached old n
+  known n is = subst (λ (k : ℕ). k < no_cost) (cost_same n) is
+
+  relaxed : (n : ℕ) → IsRelaxedFrom IsLink old n → IsRelaxedFrom IsLink new n
+  relaxed n was link is at = subst (λ (cs : List ℕ). IsRelaxed cs link) (sym costs) (was link is at)
+
+  moved : (stays : (m : ℕ) → settled_in old m ≡ true → settled_in new m ≡ true) (n : ℕ) (by : Option Link) → ComesBy IsLink old n by → ComesBy IsLink new n by
+  moved stays n None first = record { cost = cost_same n ∙ first.cost; depth = depth_same n ∙ first.depth }
+  moved stays n (Some link) step = record {
+    is = step.is;
+    to = step.to;
+    done = stays link.from step.done;
+    cost = omega (arith, step.cost, cost_same n, cost_same link.from);
+    depth = omega (arith, step.depth, depth_same n, depth_same link.from);
+  }
+
+  comes : (stays : (m : ℕ) → settled_in old m ≡ true → settled_in new m ≡ true) (n : ℕ) → IsReached new n → ComesBy IsLink new n (last_in new n).by
+  comes stays n is = subst (λ (o : Option Link). ComesBy IsLink new n o) (sym (ap (λ (y : Last). y.by) (last_same n))) (moved stays n (last_in old n).by (between.tree.comes n (known n is)))
+
+  root : IsFrom from new
+  root = record {
+    start = cost_same from ∙ between.root.start;
+    only = λ n is none. between.root.only n (known n is) (sym (ap (λ (y : Last). y.by) (last_same n)) ∙ none);
+  }
+
+  pub node_within : node < nodes
+  node_within = (between.tree.entries cost node popped.waited).node
+
+  -- an entry that is out of date, or of a settled node, is passed over
+  module _ (settled : new.settled.items ≡ old.settled.items) (stale : cost_in old node ≡ cost → settled_in old node ≡ true) where
+    settled_same : (n : ℕ) → settled_in new n ≡ settled_in old n
+    settled_same n = ap (λ (bs : List Bool). settled_at bs n) settled
+
+    progress : (n : ℕ) → IsReached new n → Waits new.frontier (cost_in new n) n ⊎ IsRelaxedFrom IsLink new n
+    progress n is = elim (between.progress n (known n is)) [
+      | inr was ↦ inr (relaxed n was)
+      | inl waits ↦ elim (popped.kept (cost_in old n) n waits) [
+        | inl still ↦ inl (subst (λ (c : ℕ). Waits new.frontier c n) (sym (cost_same n)) still)
+        | inr (c, same) ↦
+            (let fresh : cost_in old node ≡ cost = ap (cost_in old) same ∙ sym c in
+            inr (relaxed n (between.done n (subst (λ (k : ℕ). settled_in old k ≡ true) same (stale fresh)))))
+      ]
+    ]
+
+    pub skipped : IsBetween IsLink nodes from new
+    skipped = record {
+      now = between.now;
+      root = root;
+      tree = record {
+        costs_count = ap length costs ∙ between.tree.costs_count;
+        lasts_count = ap length lasts ∙ between.tree.lasts_count;
+        settled_count = ap length settled ∙ between.tree.settled_count;
+        few = between.tree.few;
+        comes = comes (λ m so. settled_same m ∙ so);
+        entries = λ c n waits. (let e = between.tree.entries c n (popped.only c n waits) in
+            record { node = e.node; late = e.late; known = subst (λ (k : ℕ). k < no_cost) (sym (cost_same n)) e.known; low = omega (arith, e.low, cost_same n) });
+        below = λ n so. omega (arith, between.tree.below n (sym (settled_same n) ∙ so), cost_same n);
+        small = λ n is. (let was = between.tree.small n (known n is) in
+            let opens : open_sum (λ _. 1) 0 new.settled.items ≡ open_sum (λ _. 1) 0 old.settled.items = ap (open_sum (λ _. 1) 0) settled in
+            record { cost_room = omega (arith, was.cost_room, cost_same n, opens); depth_room = omega (arith, was.depth_room, depth_same n, opens) });
+      };
+      done = λ n so. relaxed n (between.done n (sym (settled_same n) ∙ so));
+      progress = progress;
+    }
+
+  -- a node that waits at its cost is settled
+  module _ (given : Network) (settled : new.settled.items ≡ set old.settled.items node true) (fresh : cost_in old node ≡ cost) (free : settled_in old node ≡ false) where
+    here : settled_in new node ≡ true
+    here = ap (λ (bs : List Bool). settled_at bs node) settled ∙ settled-set_same old.settled.items node true (omega (arith, between.tree.settled_count, node_within))
+
+    other_same : (n : ℕ) → n ≢ node → settled_in new n ≡ settled_in old n
+    other_same n other = ap (λ (bs : List Bool). settled_at bs n) settled ∙ settled-set_other old.settled.items node n true other
+
+    stays : (m : ℕ) → settled_in old m ≡ true → settled_in new m ≡ true
+    stays m so = elim (cases_eq m node) [
+      | inl same ↦ subst (λ (k : ℕ). settled_in new k ≡ true) (sym same) here
+      | inr other ↦ other_same m other ∙ so
+    ]
+
+    fewer : open_sum (λ _. 1) 0 new.settled.items + 1 ≡ open_sum (λ _. 1) 0 old.settled.items
+    fewer = subst (λ (bs : List Bool). open_sum (λ _. 1) 0 bs + 1 ≡ open_sum (λ _. 1) 0 old.settled.items) (sym settled)
+        (open_sum-settle (λ _. 1) node old.settled.items (omega (arith, between.tree.settled_count, node_within)) free)
+
+    entry_here : IsEntry nodes old between.now cost node
+    entry_here = between.tree.entries cost node popped.waited
+
+    pub amid : IsAmid given IsLink nodes node new
+    amid = record {
+      tree = record {
+        costs_count = ap length costs ∙ between.tree.costs_count;
+        lasts_count = ap length lasts ∙ between.tree.lasts_count;
+        settled_count = ap length settled ∙ length-set old.settled.items node true ∙ between.tree.settled_count;
+        few = between.tree.few;
+        comes = comes stays;
+        entries = λ c n waits. (let e = between.tree.entries c n (popped.only c n waits) in
+            record { node = e.node; late = omega (arith, popped.least c n (popped.only c n waits), cost_same node, fresh); known = subst (λ (k : ℕ). k < no_cost) (sym (cost_same n)) e.known; low = omega (arith, e.low, cost_same n) });
+        below = λ n so. elim (cases_eq n node) [
+          | inl same ↦ subst (λ (k : ℕ). cost_in new k ≤ cost_in new node) (sym same) (omega arith)
+          | inr other ↦ omega (arith, between.tree.below n (sym (other_same n other) ∙ so), entry_here.late, cost_same n, cost_same node, fresh)
+        ];
+        small = λ n is. (let was = between.tree.small n (known n is) in
+            record { cost_room = omega (arith, was.cost_room, cost_same n, fewer); depth_room = omega (arith, was.depth_room, depth_same n, fewer) });
+      };
+      here = here;
+      known = subst (λ (k : ℕ). k < no_cost) (sym (cost_same node)) entry_here.known;
+      room = (let was = between.tree.small node entry_here.known in
+          record { cost_room = omega (arith, was.cost_room, cost_same node, fewer); depth_room = omega (arith, was.depth_room, depth_same node, fewer) });
+      done = λ n off so. relaxed n (between.done n (sym (other_same n off) ∙ so));
+      progress = λ n off is. elim (between.progress n (known n is)) [
+        | inr was ↦ inr (inl (relaxed n was))
+        | inl waits ↦ elim (popped.kept (cost_in old n) n waits) [
+          | inl still ↦ inl (subst (λ (c : ℕ). Waits new.frontier c n) (sym (cost_same n)) still)
+          | inr (c, same) ↦ absurd (off (sym same))
+        ]
+      ];
+    }
+
+-- ---- the links of a node were regarded
+
+module _ (given : Network) (IsLink : Link → Type 0) (nodes from node : ℕ) (old new : State) (scanned : IsScanned given IsLink nodes node 0 (length (links_out given node)) old new)
+    (member : (link : Link) → Contains given.links link ↔ (link.from < length given.nodes) × (place : ℕ) × (slice_get (links_out given link.from) place ≡ Some link))
+    (there : (link : Link) → IsLink link → Contains given.links link) (detours : HasDetours given IsLink) (start : cost_in old from ≡ 0)
+    (only : (n : ℕ) → IsReached old n → (last_in old n).by ≡ None → n ≡ from) where
+  relaxed_here : IsRelaxedFrom IsLink new node
+  relaxed_here link is at =
+      let (place, here) = out_place given node link (member link) (there link is) at in
+      let within = slice_get_within (links_out given node) place link here in
+      scanned.relaxed place link (omega arith) (omega arith) here is
+
+  relaxed_hung : (n : ℕ) → IsReached new n → HangsOn given new node n → IsRelaxedFrom IsLink new n
+  relaxed_hung n is hangs second is_second at =
+      let step : IsStep IsLink new n hangs.link = subst (λ (o : Option Link). ComesBy IsLink new n o) hangs.by (scanned.amid.tree.comes n is) in
+      let (same, unit) = hangs.quiet second (there second is_second) at in
+      detour_relaxed given IsLink new n hangs.link second detours step (subst (IsRelaxedFrom IsLink new) (sym hangs.from) relaxed_here) is_second at same unit
+
+  pub closed : IsBetween IsLink nodes from new
+  closed = record {
+    now = cost_in new node;
+    root = record {
+      start = omega (arith, scanned.later.lower from, start);
+      only = λ n is none. (let was = scanned.later.roots n is none in only n was.0 was.1);
+    };
+    tree = scanned.amid.tree;
+    done = λ n so. elim (cases_eq n node) [
+      | inl same ↦ subst (IsRelaxedFrom IsLink new) (sym same) relaxed_here
+      | inr off ↦ scanned.amid.done n off so
+    ];
+    progress = λ n is. elim (cases_eq n node) [
+      | inl same ↦ inr (subst (IsRelaxedFrom IsLink new) (sym same) relaxed_here)
+      | inr off ↦ elim (scanned.amid.progress n off is) [
+        | inl waits ↦ inl waits
+        | inr (inl was) ↦ inr was
+        | inr (inr hangs) ↦ inr (relaxed_hung n is hangs)
+      ]
+    ];
+  }
+
+-- ---- the end
+
+hopped : (IsLink : Link → Type 0) (state : State) (from n : ℕ) (by : Option Link) → IsReached state n → (by ≡ None → n ≡ from) → ComesBy IsLink state n by → Hops state.costs.items state.lasts.items from n by
+hopped IsLink state from n None is only empty = record { node = only refl; cost = empty.cost; depth = empty.depth }
+hopped IsLink state from n (Some link) is only step =
+    record { to = step.to; before = (let low : cost_in state n < no_cost = is in let goal : cost_in state link.from < no_cost = omega (arith, step.cost) in goal); cost = step.cost; depth = step.depth }
+
+module _ (IsLink : Link → Type 0) (nodes from to now : ℕ) (state : State) (short : (link : Link) → IsLink link → link.cost ≤ 6700000) (root : IsFrom from state)
+    (tree : Grows IsLink nodes state now) (low : (n : ℕ) → IsReached state n → cost_in state n < cost_in state to → IsRelaxedFrom IsLink state n) where
+  tree_of : IsTree nodes from state.costs.items state.lasts.items
+  tree_of = record {
+    costs_count = tree.costs_count;
+    lasts_count = tree.lasts_count;
+    start = root.start;
+    rooted = λ n is. hopped IsLink state from n (last_in state n).by is (root.only n is) (tree.comes n is);
+    small = λ n is. (let room = (tree.small n is).cost_room in omega (arith, room, tree.few));
+  }
+
+  over : AreOver IsLink state.costs.items state.lasts.items
+  over n link is by = let step : IsStep IsLink state n link = subst (λ (o : Option Link). ComesBy IsLink state n o) by (tree.comes n is) in step.is
+
+  spent_relaxed : ¬ IsReached state to → (link : Link) → IsLink link → IsReached state link.from → IsRelaxed state.costs.items link
+  spent_relaxed not_to link is known_from =
+      let low_from : cost_in state link.from < no_cost = known_from in
+      let less : cost_in state link.from < cost_in state to = elim (cases_lt (cost_in state to) no_cost) [ inl is_to ↦ absurd (not_to is_to) | inr none ↦ omega arith ] in
+      low link.from known_from less link is refl
+
+  spent_closed : ¬ IsReached state to → (link : Link) → IsLink link → IsReached state link.from → IsReached state link.to
+  spent_closed not_to link is known_from =
+      let relaxed : cost_in state link.to ≤ cost_in state link.from + link.cost = spent_relaxed not_to link is known_from in
+      let room = (tree.small link.from known_from).cost_room in
+      let goal : cost_in state link.to < no_cost = omega (arith, relaxed, room, tree.few, short link is) in
+      goal
+
+  pub ended : IsEnded IsLink nodes from to state
+  ended = record {
+    tree = tree_of;
+    found = λ is_to. record {
+      over = over;
+      relaxed = λ link is less. (let known_to : cost_in state to < no_cost = is_to in let known_from : cost_in state link.from < no_cost = omega (arith, less) in low link.from known_from less link is refl);
+    };
+    spent = λ not_to. record { over = over; relaxed = spent_relaxed not_to; closed = spent_closed not_to };
+  }
+
+ended_moved : (IsLink : Link → Type 0) (nodes from to : ℕ) (old new : State) → new.costs.items ≡ old.costs.items → new.lasts.items ≡ old.lasts.items → IsEnded IsLink nodes from to old
+    → IsEnded IsLink nodes from to new
+ended_moved IsLink nodes from to old new costs lasts was =
+    let parts : List ℕ → List Last → Type 0 = λ cs ls. IsTree nodes from cs ls × (IsLabelled cs to → IsFound IsLink to cs ls) × (¬ IsLabelled cs to → IsSpent IsLink cs ls) in
+    let moved : parts new.costs.items new.lasts.items = subst (λ (cs : List ℕ). parts cs new.lasts.items) (sym costs) (subst (λ (ls : List Last). parts old.costs.items ls) (sym lasts) (was.tree, was.found, was.spent)) in
+    record { tree = moved.0; found = moved.1; spent = moved.2 }
+
+-- nothing waits
+pub ended_spent : (IsLink : Link → Type 0) (nodes from to : ℕ) (old new : State) → ((link : Link) → IsLink link → link.cost ≤ 6700000) → IsBetween IsLink nodes from old
+    → ((c n : ℕ) → Waits old.frontier c n → ⊥) → new.costs.items ≡ old.costs.items → new.lasts.items ≡ old.lasts.items → IsEnded IsLink nodes from to new
+ended_spent IsLink nodes from to old new short between none costs lasts =
+    ended_moved IsLink nodes from to old new costs lasts (ended IsLink nodes from to between.now old short between.root between.tree (λ n is less. elim (between.progress n is) [ inl waits ↦ absurd (none _ n waits) | inr was ↦ was ]))
+
+-- the end is the next of what waits
+pub ended_found : (IsLink : Link → Type 0) (nodes from to cost node : ℕ) (old new : State) → ((link : Link) → IsLink link → link.cost ≤ 6700000) → IsBetween IsLink nodes from old
+    → IsPopped old.frontier new.frontier cost node → cost_in old node ≡ cost → node ≡ to → new.costs.items ≡ old.costs.items → new.lasts.items ≡ old.lasts.items → IsEnded IsLink nodes from to new
+ended_found IsLink nodes from to cost node old new short between popped fresh same costs lasts =
+    let cost_to : cost_in old to ≡ cost = subst (λ (k : ℕ). cost_in old k ≡ cost) same fresh in
+    ended_moved IsLink nodes from to old new costs lasts (ended IsLink nodes from to between.now old short between.root between.tree (λ n is less. elim (between.progress n is) [
+      | inl waits ↦ absurd (omega (arith, popped.least _ n waits, cost_to, less))
+      | inr was ↦ was
+    ]))
+
+-- ---- the start
+
+module _ (IsLink : Link → Type 0) (nodes from : ℕ) (state : State) (begun : IsBegun nodes from state) (within : from < nodes) (few : nodes ≤ 400000) where
+  free_cost : (n : ℕ) → cost_at (replicate nodes no_cost) n ≡ no_cost
+  unfolding cost_at
+  free_cost n = elim (cases_lt n nodes) [
+    | inl here ↦ get_or-replicate nodes n no_cost no_cost here
+    | inr past ↦ get_or_past (replicate nodes no_cost) n no_cost (omega (arith, length-replicate nodes no_cost))
+  ]
+
+  free_last : (n : ℕ) → last_at (replicate nodes (record { by = None; depth = 0 })) n ≡ record { by = None; depth = 0 }
+  unfolding last_at
+  free_last n = elim (cases_lt n nodes) [
+    | inl here ↦ get_or-replicate nodes n _ _ here
+    | inr past ↦ get_or_past (replicate nodes (record { by = None; depth = 0 })) n _ (omega (arith, length-replicate {A = Last} nodes (record { by = None; depth = 0 })))
+  ]
+
+  free_settled : (n : ℕ) → settled_at (replicate nodes false) n ≡ false
+  unfolding settled_at
+  free_settled n = elim (cases_lt n nodes) [
+    | inl here ↦ get_or-replicate nodes n false false here
+    | inr past ↦ get_or_past (replicate nodes false) n false (omega (arith, length-replicate nodes false))
+  ]
+
+  cost_start : cost_in state from ≡ 0
+  cost_start = ap (λ (cs : List ℕ). cost_at cs from) begun.costs ∙ cost-set_same (replicate nodes no_cost) from 0 (omega (arith, length-replicate nodes no_cost))
+
+  only_start : (n : ℕ) → IsReached state n → n ≡ from
+  only_start n is = elim (cases_eq n from) [
+    | inl same ↦ same
+    | inr other ↦
+        (let none : cost_in state n ≡ no_cost = ap (λ (cs : List ℕ). cost_at cs n) begun.costs ∙ cost-set_other (replicate nodes no_cost) from n 0 other ∙ free_cost n in
+        let low : cost_in state n < no_cost = is in
+        absurd (omega arith))
+  ]
+
+  last_none : (n : ℕ) → last_in state n ≡ record { by = None; depth = 0 }
+  last_none n = ap (λ (ls : List Last). last_at ls n) begun.lasts ∙ free_last n
+
+  settled_none : (n : ℕ) → settled_in state n ≡ false
+  settled_none n = ap (λ (bs : List Bool). settled_at bs n) begun.settled ∙ free_settled n
+
+  never : (n : ℕ) → settled_in state n ≡ true → ⊥
+  never n so = let not_so : settled_in state n ≡ false = settled_none n in let no : true ≡ false = sym so ∙ not_so in absurd cc
+
+  comes_start : (n : ℕ) → IsReached state n → ComesBy IsLink state n (last_in state n).by
+  comes_start n is =
+      let same = only_start n is in
+      subst (λ (o : Option Link). ComesBy IsLink state n o) (sym (ap (λ (y : Last). y.by) (last_none n)))
+      (record { cost = subst (λ (k : ℕ). cost_in state k ≡ 0) (sym same) cost_start; depth = ap (λ (y : Last). y.depth) (last_none n) })
+
+  opens_all : open_sum (λ _. 1) 0 state.settled.items ≡ nodes
+  opens_all = ap (open_sum (λ _. 1) 0) begun.settled ∙ ones_begun nodes
+
+  pub begun_between : IsBetween IsLink nodes from state
+  begun_between = record {
+    now = 0;
+    root = record { start = cost_start; only = λ n is none. only_start n is };
+    tree = record {
+      costs_count = ap length begun.costs ∙ length-set (replicate nodes no_cost) from 0 ∙ length-replicate nodes no_cost;
+      lasts_count = ap length begun.lasts ∙ length-replicate {A = Last} nodes (record { by = None; depth = 0 });
+      settled_count = ap length begun.settled ∙ length-replicate nodes false;
+      few = few;
+      comes = comes_start;
+      entries = λ cost n waits.
+          (let (c, same) = begun.only cost n waits in
+          let cost_n : cost_in state n ≡ 0 = subst (λ (k : ℕ). cost_in state k ≡ 0) same cost_start in
+          record { node = subst (λ (k : ℕ). k < nodes) same within; late = omega arith; known = omega (arith, cost_n); low = omega (arith, cost_n) });
+      below = λ n so. absurd (never n so);
+      small = λ n is.
+          (let cost_n : cost_in state n ≡ 0 = subst (λ (k : ℕ). cost_in state k ≡ 0) (sym (only_start n is)) cost_start in
+          let depth_n : (last_in state n).depth ≡ 0 = ap (λ (y : Last). y.depth) (last_none n) in
+          record { cost_room = omega (arith, cost_n, opens_all); depth_room = omega (arith, depth_n, opens_all) });
+    };
+    done = λ n so. absurd (never n so);
+    progress = λ n is. inl (let same = only_start n is in
+        let cost_n : cost_in state n ≡ 0 = subst (λ (k : ℕ). cost_in state k ≡ 0) (sym same) cost_start in
+        subst (λ (c : ℕ). Waits state.frontier c n) (sym cost_n) (subst (λ (k : ℕ). Waits state.frontier 0 k) (sym same) begun.waits));
+  }

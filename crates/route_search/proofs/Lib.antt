@@ -1,0 +1,14 @@
+pub mod Items
+pub mod Heaps
+pub mod Covers
+pub mod PassedOver
+pub mod Lowered
+pub mod Scanned
+pub mod Detours
+pub mod Looked
+pub mod Walked
+pub mod Sums
+pub mod Between
+pub mod TrailLists
+pub mod TrailWalks
+pub mod TrailAnswers

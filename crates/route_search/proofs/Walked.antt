@@ -1,0 +1,86 @@
+-- The stretches of a node, one by one.
+use Rattle.std.proofs.Common.{◌≡◌, ℕ, zero, suc, ◌+◌, ◌<◌, ◌≤◌, List, [], ◌∷◌, length, drop, Some, refl, sym, ap, subst, ◌∙◌, arith}
+use Rattle.std.specs.Prelude.{Contains, slice_get}
+use Rattle.venue_types.specs.declared.link.Link.{Link}
+use Rattle.link_graph.specs.declared.stretches.Stretch.{Stretch}
+use Rattle.link_graph.specs.declared.stretches.Way.{Way}
+use Rattle.link_graph.specs.declared.stretches.Way.TheVariants.{Inside, Between}
+use Rattle.link_graph.specs.Networks.{Network, Follow, AreStretches, GoesBy, IsSome, links_out}
+use Rattle.route_search.specs.declared.state.State.{State}
+use Rattle.route_search.specs.Scans.{IsAmid, IsScanned, IsStretchOf, IsMarkable}
+use Rattle.route_search.proofs.Items.{member_at, drop_at}
+use Rattle.route_search.proofs.Covers.{follow_end, out_from, out_member}
+use Rattle.route_search.proofs.Looked.{get_some}
+use Rattle.route_search.proofs.Scanned.{no_more, some_more}
+
+-- the first stretches were regarded, which cover the places below `at`
+pub record IsWalked (given : Network) (IsLink : Link → Type 0) (nodes node k old_steps new_steps : ℕ) (old new : State) : Type 0 where
+  pub at : ℕ
+  pub follow : Follow at (length (links_out given node)) (drop k (given.stretches node))
+  pub scanned : IsScanned given IsLink nodes node 0 at old new
+  pub steps : new_steps ≤ old_steps + at
+
+pub walked_none : (given : Network) (IsLink : Link → Type 0) (nodes node steps : ℕ) (state : State) → AreStretches given node → IsAmid given IsLink nodes node state
+    → IsWalked given IsLink nodes node 0 steps steps state state
+walked_none given IsLink nodes node steps state are amid =
+    record { at = 0; follow = are.cover; scanned = no_more given IsLink nodes node 0 state amid; steps = omega arith }
+
+module _ (given : Network) (IsLink : Link → Type 0) (nodes node k old_steps steps : ℕ) (old state : State) (stretch : Stretch)
+    (walked : IsWalked given IsLink nodes node k old_steps steps old state) (is : slice_get (given.stretches node) k ≡ Some stretch) where
+  next : (stretch.first ≡ walked.at) × Follow (walked.at + stretch.count) (length (links_out given node)) (drop (suc k) (given.stretches node))
+  next = subst (λ (ss : List Stretch). Follow walked.at (length (links_out given node)) ss) (drop_at (given.stretches node) k stretch is) walked.follow
+
+  pub walked_stretch : IsStretchOf given node stretch
+  walked_stretch =
+      let (first, rest) = next in
+      record { one = member_at (given.stretches node) k stretch is; within = omega (arith, first, follow_end _ _ _ rest) }
+
+  pub walked_more : (new_steps : ℕ) (new : State) → IsScanned given IsLink nodes node stretch.first stretch.count state new → new_steps ≤ steps + stretch.count
+      → IsWalked given IsLink nodes node (k + 1) old_steps new_steps old new
+  walked_more new_steps new scanned low =
+      let (first, rest) = next in
+      let one_more : suc k ≡ k + 1 = omega arith in
+      record {
+        at = walked.at + stretch.count;
+        follow = subst (λ (i : ℕ). Follow (walked.at + stretch.count) (length (links_out given node)) (drop i (given.stretches node))) one_more rest;
+        scanned = some_more given IsLink nodes node 0 walked.at stretch.first stretch.count old state new (out_from given node) (omega (arith, first)) walked.scanned scanned;
+        steps = omega (arith, low, walked.steps);
+      }
+
+drop_all : (stretches : List Stretch) (k : ℕ) → length stretches ≤ k → drop k stretches ≡ []
+drop_all [] zero past = refl
+drop_all [] (suc k) past = refl
+drop_all (s ∷ ss) zero past = absurd (omega arith)
+drop_all (s ∷ ss) (suc k) past = drop_all ss k (omega arith)
+
+pub walked_at : (given : Network) (IsLink : Link → Type 0) (nodes node k old_steps steps : ℕ) (old new : State) (walked : IsWalked given IsLink nodes node k old_steps steps old new)
+    → length (given.stretches node) ≤ k → walked.at ≡ length (links_out given node)
+walked_at given IsLink nodes node k old_steps steps old new walked all =
+    subst (λ (ss : List Stretch). Follow walked.at (length (links_out given node)) ss) (drop_all (given.stretches node) k all) walked.follow
+
+pub walked_all : (given : Network) (IsLink : Link → Type 0) (nodes node k old_steps steps : ℕ) (old new : State) → IsWalked given IsLink nodes node k old_steps steps old new
+    → length (given.stretches node) ≤ k → IsScanned given IsLink nodes node 0 (length (links_out given node)) old new × (steps ≤ old_steps + length (links_out given node))
+walked_all given IsLink nodes node k old_steps steps old new walked all =
+    let end = walked_at given IsLink nodes node k old_steps steps old new walked all in
+    (subst (λ (i : ℕ). IsScanned given IsLink nodes node 0 i old new) end walked.scanned, omega (arith, walked.steps, end))
+
+pub walked_steps : (given : Network) (IsLink : Link → Type 0) (nodes node k old_steps steps : ℕ) (old new : State) (stretch : Stretch) → IsWalked given IsLink nodes node k old_steps steps old new
+    → slice_get (given.stretches node) k ≡ Some stretch → steps + stretch.count ≤ old_steps + length (links_out given node)
+walked_steps given IsLink nodes node k old_steps steps old new stretch walked is =
+    let one = walked_stretch given IsLink nodes node k old_steps steps old new stretch walked is in
+    let first = (next given IsLink nodes node k old_steps steps old new stretch walked is).0 in
+    omega (arith, one.within, walked.steps, first)
+
+-- ---- the number of a unit that has links
+
+markable_way : (given : Network) (way : Way) (count : ℕ) → IsSome way count → (0 < count → (link : Link) × GoesBy given way link × (link.via < length given.closables)) → IsMarkable given way
+markable_way given (Inside via kind restricted) count some has =
+    let (link, goes, low) = has some in subst (λ (k : ℕ). k < length given.closables) goes.0 low
+markable_way given Between count some has = tt
+
+pub markable : (given : Network) (node : ℕ) (stretch : Stretch) → AreStretches given node → IsStretchOf given node stretch
+    → ((link : Link) → Contains given.links link → link.via < length given.closables) → IsMarkable given stretch.way
+markable given node stretch are one low =
+    markable_way given stretch.way stretch.count (are.some stretch one.one) (λ some.
+    (let (link, here) = get_some (links_out given node) stretch.first (omega (arith, one.within)) in
+    (link, are.of_way stretch stretch.first link one.one (omega arith) (omega arith) here, low link (out_member given node stretch.first link here).0)))

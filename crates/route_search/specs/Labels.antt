@@ -1,0 +1,68 @@
+-- What a search knows of nodes: the least costs of walks that it found, and how these end. The code's own machinery.
+use Rattle.std.specs.Prelude.{◌≡◌, ℕ, ◌+◌, ◌-◌, ◌^◌, ◌<◌, ◌≤◌, List, length, Option, Some, None, slice_index_or}
+use Rattle.venue_types.specs.declared.link.Link.{Link}
+use Rattle.walk_laws.specs.Walks.{IsWalk, walk_cost}
+use Rattle.link_graph.specs.Views.{link_view}
+use Rattle.route_search.specs.declared.labels.Last.{Last}
+
+-- the cost of a node to which no walk is known
+abbrev pub no_cost : ℕ
+no_cost = 2 ^ 64 - 1
+
+unfoldable pub cost_at : List ℕ → ℕ → ℕ
+cost_at costs n = slice_index_or costs n no_cost
+
+unfoldable pub last_at : List Last → ℕ → Last
+last_at lasts n = slice_index_or lasts n (record { by = None; depth = 0 })
+
+-- a walk to the node is known
+abbrev pub IsLabelled : List ℕ → ℕ → Type 0
+IsLabelled costs n = cost_at costs n < no_cost
+
+-- the node is the start
+pub record IsFirst (costs : List ℕ) (lasts : List Last) (from n : ℕ) : Type 0 where
+  pub node : n ≡ from
+  pub cost : cost_at costs n ≡ 0
+  pub depth : (last_at lasts n).depth ≡ 0
+
+-- the walk to the node is one to where the link starts, and the link
+pub record IsHop (costs : List ℕ) (lasts : List Last) (n : ℕ) (link : Link) : Type 0 where
+  pub to : link.to ≡ n
+  pub before : IsLabelled costs link.from
+  pub cost : cost_at costs n ≡ cost_at costs link.from + link.cost
+  pub depth : (last_at lasts n).depth ≡ (last_at lasts link.from).depth + 1
+
+abbrev pub Hops : List ℕ → List Last → ℕ → ℕ → Option Link → Type 0
+Hops costs lasts from n None = IsFirst costs lasts from n
+Hops costs lasts from n (Some link) = IsHop costs lasts n link
+
+-- each known walk leads back to the start
+abbrev pub Rooted : List ℕ → List Last → ℕ → Type 0
+Rooted costs lasts from = (n : ℕ) → IsLabelled costs n → Hops costs lasts from n (last_at lasts n).by
+
+-- every known walk leads back to the start and costs little
+pub record IsTree (nodes from : ℕ) (costs : List ℕ) (lasts : List Last) : Type 0 where
+  pub costs_count : length costs ≡ nodes
+  pub lasts_count : length lasts ≡ nodes
+  pub start : cost_at costs from ≡ 0
+  pub rooted : Rooted costs lasts from
+  pub small : (n : ℕ) → IsLabelled costs n → cost_at costs n < 2 ^ 42
+
+-- the last links of all known walks are of a family
+abbrev pub AreOver : (Link → Type 0) → List ℕ → List Last → Type 0
+AreOver IsLink costs lasts = (n : ℕ) (link : Link) → IsLabelled costs n → (last_at lasts n).by ≡ Some link → IsLink link
+
+-- a link leads to its end at no more than is known there
+abbrev pub IsRelaxed : List ℕ → Link → Type 0
+IsRelaxed costs link = cost_at costs link.to ≤ cost_at costs link.from + link.cost
+
+-- the known walk to the end is a least one over the family: every link out of a node that costs less was regarded
+pub record IsFound (IsLink : Link → Type 0) (to : ℕ) (costs : List ℕ) (lasts : List Last) : Type 0 where
+  pub over : AreOver IsLink costs lasts
+  pub relaxed : (link : Link) → IsLink link → cost_at costs link.from < cost_at costs to → IsRelaxed costs link
+
+-- there is none over the family: every link out of a known node was regarded, and its end is known
+pub record IsSpent (IsLink : Link → Type 0) (costs : List ℕ) (lasts : List Last) : Type 0 where
+  pub over : AreOver IsLink costs lasts
+  pub relaxed : (link : Link) → IsLink link → IsLabelled costs link.from → IsRelaxed costs link
+  pub closed : (link : Link) → IsLink link → IsLabelled costs link.from → IsLabelled costs link.to

@@ -1,0 +1,97 @@
+-- What a search knows among the links of one node. The code's own machinery.
+use Rattle.std.specs.Prelude.{◌≡◌, ◌≢◌, ◌⊎◌, ℕ, ◌+◌, ◌<◌, ◌≤◌, Bool, true, List, length, Option, Some, None, Contains, slice_get}
+use Rattle.venue_types.specs.declared.link.Link.{Link}
+use Rattle.venue_types.specs.declared.settings.Profile.{Profile}
+use Rattle.link_graph.specs.declared.graph.Graph.{Graph}
+use Rattle.link_graph.specs.declared.stretches.Stretch.{Stretch}
+use Rattle.link_graph.specs.declared.stretches.Way.{Way}
+use Rattle.link_graph.specs.declared.stretches.Way.TheVariants.{Inside, Between}
+use Rattle.link_graph.specs.Graphs.{network}
+use Rattle.link_graph.specs.Marking.{marked}
+use Rattle.link_graph.specs.Networks.{Network, GoesBy, IsPassable, links_out}
+use Rattle.route_search.specs.declared.state.State.{State}
+use Rattle.route_search.specs.Labels.{IsRelaxed}
+use Rattle.route_search.specs.States.{cost_in, last_in, settled_in, IsReached, IsRelaxedFrom, Room, Grows}
+use Rattle.route_search.specs.Waiting.{Waits, waiting}
+
+-- a link of the graph that the profile may pass and nothing marked closes
+abbrev pub CanPass : Graph → List Bool → Profile → Link → Type 0
+CanPass graph marks profile link = IsPassable (network graph) (marked (network graph) marks) profile link
+
+abbrev pub node_count : Graph → ℕ
+node_count graph = length (network graph).nodes
+
+-- how many links start at a node
+abbrev pub out_count_of : Graph → ℕ → ℕ
+out_count_of graph n = length (links_out (network graph) n)
+
+-- all links out of the node, if any, go across the unit of this number
+abbrev pub IsQuiet : Network → ℕ → ℕ → Type 0
+IsQuiet given via n = (link : Link) → Contains given.links link → link.from ≡ n → (link.via ≡ via) × (given.first_unit ≤ via)
+
+-- the node is known by a link out of another, and leads nowhere else
+pub record HangsOn (given : Network) (state : State) (node n : ℕ) : Type 0 where
+  pub link : Link
+  pub by : (last_in state n).by ≡ Some link
+  pub from : link.from ≡ node
+  pub quiet : IsQuiet given link.via n
+
+-- among the links of a node that is being settled
+pub record IsAmid (given : Network) (IsLink : Link → Type 0) (nodes node : ℕ) (state : State) : Type 0 where
+  pub tree : Grows IsLink nodes state (cost_in state node)
+  pub here : settled_in state node ≡ true
+  pub known : IsReached state node
+  pub room : Room nodes state.settled.items (cost_in state node) (last_in state node).depth 1
+  pub done : (n : ℕ) → n ≢ node → settled_in state n ≡ true → IsRelaxedFrom IsLink state n
+  pub progress : (n : ℕ) → n ≢ node → IsReached state n → Waits state.frontier (cost_in state n) n ⊎ IsRelaxedFrom IsLink state n ⊎ HangsOn given state node n
+
+-- from one moment to a later one while a node is being settled: costs only fall, its own stays, no further walk is without links, and so many
+-- entries were added at most
+pub record IsLater (node more : ℕ) (old new : State) : Type 0 where
+  pub settled : new.settled.items ≡ old.settled.items
+  pub cost : cost_in new node ≡ cost_in old node
+  pub last : last_in new node ≡ last_in old node
+  pub lower : (n : ℕ) → cost_in new n ≤ cost_in old n
+  pub roots : (n : ℕ) → IsReached new n → (last_in new n).by ≡ None → IsReached old n × ((last_in old n).by ≡ None)
+  pub entries : waiting new.frontier ≤ waiting old.frontier + more
+
+-- the links at these places out of the node are relaxed
+abbrev pub AreRelaxed : Network → (Link → Type 0) → State → ℕ → ℕ → ℕ → Type 0
+AreRelaxed given IsLink state node first count =
+    (place : ℕ) (link : Link) → first ≤ place → place < first + count → slice_get (links_out given node) place ≡ Some link → IsLink link → IsRelaxed state.costs.items link
+
+-- the links at these places were regarded
+pub record IsScanned (given : Network) (IsLink : Link → Type 0) (nodes node first count : ℕ) (old new : State) : Type 0 where
+  pub amid : IsAmid given IsLink nodes node new
+  pub later : IsLater node count old new
+  pub relaxed : AreRelaxed given IsLink new node first count
+
+-- the link was followed, if it can be
+pub record IsFollowed (given : Network) (IsLink : Link → Type 0) (nodes : ℕ) (link : Link) (old new : State) : Type 0 where
+  pub amid : IsAmid given IsLink nodes link.from new
+  pub later : IsLater link.from 1 old new
+  pub relaxed : IsLink link → IsRelaxed new.costs.items link
+
+-- a stretch of the node
+pub record IsStretchOf (given : Network) (node : ℕ) (stretch : Stretch) : Type 0 where
+  pub one : Contains (given.stretches node) stretch
+  pub within : stretch.first + stretch.count ≤ length (links_out given node)
+
+-- the last link goes by this number
+abbrev pub IsVia : Option Link → ℕ → Type 0
+IsVia None via = ⊥
+IsVia (Some last) via = last.via ≡ via
+
+-- the links that go this way can't be passed, or are of the unit by which the node was reached
+abbrev pub IsPassedOver : Network → (Link → Type 0) → Option Link → Way → Type 0
+IsPassedOver given IsLink last way = (link : Link) → GoesBy given way link → IsLink link → IsVia last link.via × (given.first_unit ≤ link.via)
+
+-- the number of a unit is one of what can be closed
+abbrev pub IsMarkable : Network → Way → Type 0
+IsMarkable given (Inside via kind restricted) = via < length given.closables
+IsMarkable given Between = Unit {0}
+
+-- links that go this way go across the unit of this number, or there are none
+abbrev pub IsOwn : ℕ → Way → ℕ → Type 0
+IsOwn via (Inside own kind restricted) count = own ≡ via
+IsOwn via Between count = count ≡ 0
