@@ -7,6 +7,7 @@ mod fault;
 mod folder;
 mod notation;
 mod numbers;
+mod settings;
 mod station;
 #[cfg(test)]
 mod tests;
@@ -18,3 +19,4 @@ pub use numbers::{
     ADDRESS, AMENITY, ANCHOR, BUILDING, DETAIL, EVERY, FIXTURE, FOOTPRINT, GEOFENCE, KIOSK, LEVEL,
     MANIFEST, OCCUPANT, OPENING, RELATIONSHIP, SECTION, SETTINGS, UNIT, VENUE,
 };
+pub use settings::station_settings;
