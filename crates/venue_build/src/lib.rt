@@ -3,6 +3,8 @@
 
 mod building;
 mod built;
+#[cfg(test)]
+mod graph_tests;
 mod ground;
 mod law;
 mod places;

@@ -4,24 +4,19 @@ mod accepted_rows;
 mod bulk_rows;
 mod figure_rows;
 mod file_rows;
-mod files;
-mod folder;
 mod holding_rows;
 mod item_rows;
-mod notation;
 mod place_rows;
 mod program;
 mod property_rows;
 mod reference_rows;
 mod ring_rows;
-mod station;
 mod stop_rows;
 
 use accepted_rows::{HIGH, SOUND};
 use bulk_rows::{BYTES, BulkRow, COUNTS, LONG, LongRow, POSITIONS};
 use figure_rows::FIGURES;
 use file_rows::FILES;
-use folder::{Change, Edit, Row, files_of};
 use holding_rows::HOLDING;
 use item_rows::FEATURES;
 use place_rows::{MEMBERS, PLACES};
@@ -29,6 +24,7 @@ use program::ending;
 use property_rows::{REFERENCE_FORMS, VALUE_FORMS};
 use reference_rows::{IDENTIFIERS, REFERENCES, Reference};
 use ring_rows::RINGS;
+use station_folder::{Change, Edit, station_files};
 use std::alloc::{AllocError, Global};
 use std::process::Abort;
 use std::test::Fail;
@@ -36,14 +32,8 @@ use stop_rows::{STOPS, StopRow, WORDS};
 
 const CHECK: [&str; 3] = ["check", "base", "station"];
 
-fn plain_change(edits: &'static [Edit]) -> Change {
-    Change {
-        edits,
-        piece: "",
-        times: 1,
-        third: "",
-    }
-}
+/// A name, the edits of the station, and what is printed.
+type Row = (&'static str, &'static [Edit], &'static str);
 
 // The status that goes with a printed text.
 fn status_of(text: &str) -> u8 {
@@ -67,7 +57,7 @@ fn judge(
     failing: u64,
     text: &str,
 ) -> Result<(), Fail> {
-    let files = files_of(alloc, change)?;
+    let files = station_files(alloc, "base", "station", change)?;
     let printed = ending(rt, alloc, files, failing, &CHECK)?;
     let written = printed.text.as_slice();
     if text.len() < 500 {
@@ -80,7 +70,7 @@ fn judge(
 
 fn judge_rows(rt: &impl Abort, alloc: Global, table: &[Row]) -> Result<(), Fail> {
     for (name, edits, text) in table {
-        judge(rt, alloc, name, plain_change(edits), 0, text)?;
+        judge(rt, alloc, name, Change::of(edits), 0, text)?;
     }
     Ok(())
 }
@@ -91,7 +81,7 @@ fn judge_bulk(rt: &impl Abort, alloc: Global, table: &[BulkRow]) -> Result<(), F
         let change = Change {
             piece: *piece,
             times: *times,
-            ..plain_change(edits)
+            ..Change::of(edits)
         };
         judge(rt, alloc, name, change, 0, text)?;
     }
@@ -120,7 +110,7 @@ fn judge_long(rt: &impl Abort, alloc: Global, table: &[LongRow]) -> Result<(), F
         let change = Change {
             piece: *piece,
             times: *times,
-            ..plain_change(edits)
+            ..Change::of(edits)
         };
         judge(rt, alloc, name, change, 0, text.as_str())?;
     }
@@ -138,7 +128,7 @@ fn judge_reference(
     let (edits, _, _, _, place) = row;
     let change = Change {
         piece,
-        ..plain_change(edits)
+        ..Change::of(edits)
     };
     judge(rt, alloc, place, change, 0, text)
 }
@@ -158,14 +148,14 @@ fn judge_references(rt: &impl Abort, alloc: Global, table: &[Reference]) -> Resu
 
 fn judge_stops(rt: &impl Abort, alloc: Global, table: &[StopRow]) -> Result<(), Fail> {
     for (name, edits, failing, text) in table {
-        judge(rt, alloc, name, plain_change(edits), *failing, text)?;
+        judge(rt, alloc, name, Change::of(edits), *failing, text)?;
     }
     Ok(())
 }
 
 // The station as it is, under other words.
 fn judge_words(rt: &impl Abort, alloc: Global, words: &[&str], text: &str) -> Result<(), Fail> {
-    let files = files_of(alloc, plain_change(&[]))?;
+    let files = station_files(alloc, "base", "station", Change::of(&[]))?;
     let printed = ending(rt, alloc, files, 0, words)?;
     assert_eq!(rt; printed.text.as_slice(), text.as_bytes());
     assert_eq!(rt; printed.status, status_of(text));
@@ -178,7 +168,7 @@ fn sound_folders(rt: HostRuntime) -> Result<(), Fail> {
     let (name, edits, text) = HIGH;
     let change = Change {
         third: ",3.5",
-        ..plain_change(edits)
+        ..Change::of(edits)
     };
     judge(&rt, rt.alloc(), name, change, 0, text)
 }

@@ -1,9 +1,9 @@
 //! Folders that are accepted, and their notes.
 
-use super::files::{
-    ADDRESS, AMENITY, ANCHOR, DETAIL, KIOSK, LEVEL, MANIFEST, OPENING, RELATIONSHIP, UNIT,
+use super::Row;
+use station_folder::{
+    ADDRESS, AMENITY, ANCHOR, DETAIL, GONE, KIOSK, LEVEL, MANIFEST, OPENING, RELATIONSHIP, UNIT,
 };
-use super::folder::{GONE, Row};
 
 pub(super) static SOUND: [Row; 34] = [
     ("station", &[], "accepted 44\nnotes 0\n"),

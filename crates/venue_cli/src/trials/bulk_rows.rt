@@ -1,9 +1,8 @@
 //! Folders near the limits, and reports that are longer than what is printed of them.
 
-use super::files::{
-    ADDRESS, ANCHOR, MANIFEST, OPENING, RELATIONSHIP, SECTION, SETTINGS, UNIT, VENUE,
+use station_folder::{
+    ADDRESS, ANCHOR, Edit, MANIFEST, OPENING, RELATIONSHIP, SECTION, SETTINGS, UNIT, VENUE,
 };
-use super::folder::Edit;
 
 /// A name, edits with the sign `+`, the piece that stands for it, how often, and what is printed.
 pub(super) type BulkRow = (

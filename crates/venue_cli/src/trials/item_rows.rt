@@ -1,10 +1,10 @@
 //! Broken folders: rules on features.
 
-use super::files::{
+use super::Row;
+use station_folder::{
     ADDRESS, AMENITY, ANCHOR, BUILDING, FIXTURE, FOOTPRINT, LEVEL, OCCUPANT, OPENING, RELATIONSHIP,
     UNIT, VENUE,
 };
-use super::folder::Row;
 
 pub(super) static FEATURES: [Row; 29] = [
     (

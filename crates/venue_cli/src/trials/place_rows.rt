@@ -1,8 +1,8 @@
 //! Folders with openings and passages that lead nowhere, and with units of many members.
 
+use super::Row;
 use super::bulk_rows::BulkRow;
-use super::files::{AMENITY, OPENING, RELATIONSHIP, SETTINGS, UNIT};
-use super::folder::Row;
+use station_folder::{AMENITY, OPENING, RELATIONSHIP, SETTINGS, UNIT};
 
 pub(super) static PLACES: [Row; 8] = [
     (

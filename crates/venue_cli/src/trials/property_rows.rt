@@ -1,10 +1,10 @@
 //! Broken folders: properties that are not of their form.
 
-use super::files::{
+use super::Row;
+use station_folder::{
     AMENITY, ANCHOR, BUILDING, DETAIL, FIXTURE, FOOTPRINT, KIOSK, LEVEL, OCCUPANT, OPENING,
     RELATIONSHIP, UNIT, VENUE,
 };
-use super::folder::Row;
 
 // References: properties 1 to 9, and one of a category that is missing.
 pub(super) static REFERENCE_FORMS: [Row; 28] = [

@@ -1,10 +1,10 @@
 //! Identifiers that stand twice, and references.
 
-use super::files::{
-    ADDRESS, AMENITY, ANCHOR, BUILDING, DETAIL, FIXTURE, FOOTPRINT, KIOSK, LEVEL, MANIFEST,
+use super::Row;
+use station_folder::{
+    ADDRESS, AMENITY, ANCHOR, BUILDING, DETAIL, Edit, FIXTURE, FOOTPRINT, KIOSK, LEVEL, MANIFEST,
     OCCUPANT, OPENING, RELATIONSHIP, UNIT, VENUE,
 };
-use super::folder::{Edit, Row};
 
 pub(super) static IDENTIFIERS: [Row; 14] = [
     (

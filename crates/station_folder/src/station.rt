@@ -1,6 +1,6 @@
 //! The station: a venue of two levels with a lift, stairs, an escalator and a ramp.
 
-use super::files::{
+use crate::numbers::{
     ADDRESS, AMENITY, ANCHOR, BUILDING, FOOTPRINT, LEVEL, MANIFEST, OCCUPANT, OPENING,
     RELATIONSHIP, SETTINGS, UNIT, VENUE, type_name,
 };
@@ -214,7 +214,7 @@ fn collection(alloc: Global, file: usize) -> Result<Option<String>, AllocError> 
 }
 
 /// What stands in a file of the station, in the short notation; no file where no feature is of its type.
-pub(super) fn station_text(alloc: Global, file: usize) -> Result<Option<String>, AllocError> {
+pub(crate) fn station_text(alloc: Global, file: usize) -> Result<Option<String>, AllocError> {
     match file {
         MANIFEST => Ok(Some(String::from_str(alloc, MANIFEST_TEXT)?)),
         SETTINGS => Ok(Some(String::from_str(alloc, SETTINGS_TEXT)?)),

@@ -1,31 +1,40 @@
-//! The station with changes, as files in memory.
+//! What may be changed in the station.
 
-use super::files::{EVERY, SETTINGS, file_name, folder_of};
-use super::notation::plain;
-use super::station::station_text;
+use crate::fault::EditFault;
+use crate::notation::plain;
+use crate::numbers::{EVERY, SETTINGS};
+use crate::station::station_text;
 use std::alloc::{AllocError, Global};
-use std::test::Fail;
-use venue_ports::MemoryFile;
 
-/// A file, and what is changed there: behind the first of this text, the first of this one becomes that one. Where the first
-/// two are empty, the last is the whole file.
-pub(super) type Edit = (usize, &'static str, &'static str, &'static str);
-
-/// A name, the edits of the station, and what is printed.
-pub(super) type Row = (&'static str, &'static [Edit], &'static str);
+/// The number of a file, and what is changed there: behind the first of this text, the first of this one becomes that one. Where
+/// the first two are empty, the last is the whole file. Texts are in a short notation: `'` is a quotation mark, `@0301` the
+/// identifier that ends in 0301, `(60,20)` the position 60 metres east and 20 metres north of 10 degrees east and 50 degrees north.
+pub type Edit = (usize, &'static str, &'static str, &'static str);
 
 /// In place of a whole file's text: there is no such file.
-pub(super) const GONE: &str = "gone";
+pub const GONE: &str = "gone";
 
-/// What becomes of the station: its edits, and a piece that stands as often for the sign `+` in them, `%` in it being the
-/// number of the copy, from 5000.
+/// What becomes of the station: its edits, one after the other, and a piece that stands as often for the sign `+` in them, `%` in
+/// it being the number of the copy, from 5000.
 #[derive(Clone, Copy)]
-pub(super) struct Change {
+pub struct Change {
     pub edits: &'static [Edit],
     pub piece: &'static str,
     pub times: u32,
     /// What stands behind the second number of each position.
     pub third: &'static str,
+}
+
+impl Change {
+    /// These edits alone.
+    pub fn of(edits: &'static [Edit]) -> Change {
+        Change {
+            edits,
+            piece: "",
+            times: 1,
+            third: "",
+        }
+    }
 }
 
 // The text with the piece in place of its sign.
@@ -51,7 +60,7 @@ fn filled(alloc: Global, text: &str, change: Change) -> Result<String, AllocErro
 }
 
 // The text of a file after an edit of it.
-fn edited(alloc: Global, text: Option<String>, edit: &Edit) -> Result<Option<String>, Fail> {
+fn edited(alloc: Global, text: Option<String>, edit: &Edit) -> Result<Option<String>, EditFault> {
     let (_, at, old, new) = edit;
     if at.is_empty() && old.is_empty() {
         return if *new == GONE {
@@ -61,20 +70,20 @@ fn edited(alloc: Global, text: Option<String>, edit: &Edit) -> Result<Option<Str
         };
     }
     let Some(text) = text else {
-        return Err(Fail::from("there is no such file to change"));
+        return Err(EditFault::NoFile);
     };
     let mut out = String::new(alloc);
     let mut rest = text.as_str();
     if !at.is_empty() {
         let Some((front, back)) = rest.split_once(*at) else {
-            return Err(Fail::from("the place of a change is not there"));
+            return Err(EditFault::NoPlace(*at));
         };
         out.push_str(front)?;
         out.push_str(at)?;
         rest = back;
     }
     let Some((front, back)) = rest.split_once(*old) else {
-        return Err(Fail::from("what is to be changed is not there"));
+        return Err(EditFault::NoText(*old));
     };
     out.push_str(front)?;
     out.push_str(new)?;
@@ -82,8 +91,12 @@ fn edited(alloc: Global, text: Option<String>, edit: &Edit) -> Result<Option<Str
     Ok(Some(out))
 }
 
-// What stands in a file of the changed station.
-fn file_text(alloc: Global, file: usize, change: Change) -> Result<Option<String>, Fail> {
+/// What stands in a file of the changed station, if there is one.
+pub(crate) fn file_text(
+    alloc: Global,
+    file: usize,
+    change: Change,
+) -> Result<Option<String>, EditFault> {
     let mut text = station_text(alloc, file)?;
     for edit in change.edits {
         if edit.0 == file || edit.0 == EVERY && file != SETTINGS {
@@ -97,19 +110,4 @@ fn file_text(alloc: Global, file: usize, change: Change) -> Result<Option<String
             Ok(Some(filled(alloc, text.as_str(), change)?))
         }
     }
-}
-
-/// The files of the changed station.
-pub(super) fn files_of(alloc: Global, change: Change) -> Result<Vec<MemoryFile>, Fail> {
-    let mut files = Vec::new(alloc);
-    for file in 0..EVERY {
-        if let Some(text) = file_text(alloc, file, change)? {
-            files.push(MemoryFile {
-                folder: String::from_str(alloc, folder_of(file))?,
-                file: file_name(alloc, file)?,
-                bytes: text.into_bytes(),
-            })?;
-        }
-    }
-    Ok(files)
 }

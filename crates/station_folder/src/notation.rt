@@ -43,7 +43,7 @@ fn placed(alloc: Global, short: &str, third: &str) -> Result<String, AllocError>
 }
 
 /// The text that a short one stands for, with this behind the second number of each position.
-pub(super) fn plain(alloc: Global, short: &str, third: &str) -> Result<String, AllocError> {
+pub(crate) fn plain(alloc: Global, short: &str, third: &str) -> Result<String, AllocError> {
     let quoted = short.replace(alloc, '\'', "\"")?;
     let named = quoted.as_str().replace(alloc, '@', IDENTIFIER)?;
     placed(alloc, named.as_str(), third)
