@@ -1,5 +1,5 @@
 -- How many places there are at most.
-use Rattle.std.proofs.Common.{◌≡◌, ℕ, ◌+◌, ◌≤◌, ◌<◌, length, filter, Some, arith, sym, ◌∙◌}
+use Rattle.std.proofs.Common.{◌≡◌, ℕ, ◌+◌, ◌≤◌, ◌<◌, length, Some, arith, sym, ◌∙◌}
 use Rattle.std.proofs.lemmas.List.{length-map}
 use Rattle.venue_types.specs.declared.feature_id.FeatureId.{FeatureId}
 use Rattle.venue_types.specs.declared.features.Features.{Features}
@@ -16,7 +16,7 @@ use Rattle.venue_nodes.proofs.Places.{places_few}
 use Rattle.venue_nodes.proofs.Finding.{position_within}
 use Rattle.venue_build.specs.Places.{places}
 use Rattle.venue_build.specs.declared.placing.Places.{Places}
-use Rattle.venue_build.specs.Placing.{ArePlaces, can_walk, place_id, walkable_indexes}
+use Rattle.venue_build.specs.Placing.{ArePlaces, can_walk, place_id}
 use Rattle.venue_build.proofs.PlaceRanges.{places_long, as_many}
 
 some_features : (features : Features) → AreSound features → length features.amenities + length features.anchors + length features.occupants + length features.openings + length features.units ≤ 100000

@@ -1,5 +1,5 @@
 -- Which feature the place of a number is.
-use Rattle.std.proofs.Common.{◌≡◌, ℕ, zero, suc, ◌+◌, ◌-◌, ◌<◌, ◌≤◌, List, [], ◌∷◌, ◌++◌, Some, None, length, map, filter, take, get_or, refl, sym, ap, ◌∙◌, ◌⊎◌, inl, inr, arith, append_assoc, zero-add, length-append}
+use Rattle.std.proofs.Common.{◌≡◌, ℕ, zero, suc, ◌+◌, ◌-◌, ◌<◌, ◌≤◌, List, [], ◌∷◌, ◌++◌, Some, None, length, map, filter, take, get_or, sym, ap, ◌∙◌, inl, inr, arith, append_assoc, zero-add, length-append}
 use Rattle.std.specs.Prelude.{slice_get}
 use Rattle.std.proofs.lemmas.List.{take_more, map-append, length-map}
 use Rattle.std.proofs.lemmas.Option.{same_Some, slice_get_within, slice_get-map, slice_get_cases, slice_get-get_or, get_or_from_slice_get}
@@ -10,7 +10,6 @@ use Rattle.venue_types.specs.declared.features.AnchorRow.{AnchorRow}
 use Rattle.venue_types.specs.declared.features.OccupantRow.{OccupantRow}
 use Rattle.venue_types.specs.declared.features.OpeningRow.{OpeningRow}
 use Rattle.venue_types.specs.declared.features.UnitRow.{UnitRow}
-use Rattle.feature_rows.specs.Sound.{AreSound}
 use Rattle.venue_nodes.specs.Nodes.{walkable_units}
 use Rattle.venue_nodes.proofs.Places.{places_count, kept_at}
 use Rattle.venue_build.specs.Places.{places, amenity_place, anchor_place, occupant_place, opening_place, unit_place}

@@ -1,5 +1,5 @@
 -- Rows found by their identifiers: the code's own machinery, which no public contract cites.
-use Rattle.std.specs.Prelude.{◌≡◌, ℕ, List}
+use Rattle.std.specs.Prelude.{◌≡◌, List}
 use Rattle.std.specs.List.{position_from}
 use Rattle.venue_types.specs.declared.feature_id.FeatureId.{FeatureId}
 use Rattle.venue_types.specs.declared.features.Features.{Features}

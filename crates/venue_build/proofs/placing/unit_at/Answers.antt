@@ -1,8 +1,7 @@
-use Rattle.std.proofs.Common.{◌≡◌, ◌<◌, List, ℕ, Some, length, get_or, arith, ap, sym, refl, ◌∙◌}
-use Rattle.std.specs.Prelude.{slice_get}
-use Rattle.std.proofs.lemmas.Option.{slice_get-get_or, slice_get_read}
+use Rattle.std.proofs.Common.{length, get_or, arith, ap, refl, ◌∙◌}
+use Rattle.std.proofs.lemmas.Option.{slice_get_read}
 use Rattle.venue_nodes.proofs.Places.{places_within}
-use Rattle.venue_build.specs.Placing.{can_walk, walkable_indexes}
+use Rattle.venue_build.specs.Placing.{can_walk}
 use Rattle.venue_build.proofs.PlaceRanges.{as_many, unit_there, index_there}
 use Rattle.venue_build.proofs.placing.unit_at.Goals as goal
 

@@ -2,7 +2,7 @@ use Rattle.std.proofs.Common.{ap, ◌∙◌}
 use Rattle.venue_build.specs.Places.{places}
 use Rattle.venue_build.specs.Placing.{place_id, walkable_indexes}
 use Rattle.venue_build.proofs.FirstRows.{ids_find}
-use Rattle.venue_build.proofs.FewPlaces.{few_places, few_units}
+use Rattle.venue_build.proofs.FewPlaces.{few_places}
 use Rattle.venue_build.proofs.placing.Places.of.Goals as goal
 
 pub ids_of-requires-clause-few : goal.ids_of-requires-clause-few

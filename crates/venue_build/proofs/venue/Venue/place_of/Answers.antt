@@ -1,4 +1,4 @@
-use Rattle.std.proofs.Common.{◌<◌, arith, sym, ap, ◌∙◌, Some}
+use Rattle.std.proofs.Common.{◌<◌, arith, sym, ◌∙◌}
 use Rattle.venue_build.specs.PlaceNumbers.{place_number}
 use Rattle.venue_build.proofs.FewPlaces.{number_small}
 use Rattle.venue_build.proofs.venue.Venue.place_of.Goals as goal
