@@ -1,0 +1,4 @@
+pub mod Judging
+pub mod Gathering
+pub mod Choosing
+pub mod Venues
