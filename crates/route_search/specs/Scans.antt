@@ -1,22 +1,22 @@
 -- What a search knows among the links of one node. The code's own machinery.
 use Rattle.std.specs.Prelude.{◌≡◌, ◌≢◌, ◌⊎◌, ℕ, ◌+◌, ◌<◌, ◌≤◌, Bool, true, List, length, Option, Some, None, Contains, slice_get}
 use Rattle.venue_types.specs.declared.link.Link.{Link}
-use Rattle.venue_types.specs.declared.settings.Profile.{Profile}
 use Rattle.link_graph.specs.declared.graph.Graph.{Graph}
 use Rattle.link_graph.specs.declared.stretches.Stretch.{Stretch}
 use Rattle.link_graph.specs.declared.stretches.Way.{Way}
 use Rattle.link_graph.specs.declared.stretches.Way.TheVariants.{Inside, Between}
 use Rattle.link_graph.specs.Graphs.{network}
-use Rattle.link_graph.specs.Marking.{marked}
+use Rattle.link_graph.specs.Marking.{AreMarksOf, marked}
 use Rattle.link_graph.specs.Networks.{Network, GoesBy, IsPassable, links_out}
 use Rattle.route_search.specs.declared.state.State.{State}
+use Rattle.route_search.specs.declared.ways.Ways.{Ways}
 use Rattle.route_search.specs.Labels.{IsRelaxed}
 use Rattle.route_search.specs.States.{cost_in, last_in, settled_in, IsReached, IsRelaxedFrom, Room, Grows}
 use Rattle.route_search.specs.Waiting.{Waits, waiting}
 
 -- a link of the graph that the profile may pass and nothing marked closes
-abbrev pub CanPass : Graph → List Bool → Profile → Link → Type 0
-CanPass graph marks profile link = IsPassable (network graph) (marked (network graph) marks) profile link
+abbrev pub CanPass : Ways → Link → Type 0
+CanPass ways link = IsPassable (network ways.graph.now) (marked (network ways.graph.now) ways.marks.now) ways.profile.now link
 
 abbrev pub node_count : Graph → ℕ
 node_count graph = length (network graph).nodes
@@ -71,6 +71,23 @@ pub record IsFollowed (given : Network) (IsLink : Link → Type 0) (nodes : ℕ)
   pub amid : IsAmid given IsLink nodes link.from new
   pub later : IsLater link.from 1 old new
   pub relaxed : IsLink link → IsRelaxed new.costs.items link
+
+-- ---- the same over the links of a graph that may be passed
+
+-- one mark for each feature that can be closed
+abbrev pub AreMarked : Ways → Type 0
+AreMarked ways = AreMarksOf (network ways.graph.now) ways.marks.now
+
+abbrev pub Regards : Ways → ℕ → State → Type 0
+Regards ways node state = IsAmid (network ways.graph.now) (CanPass ways) (node_count ways.graph.now) node state
+
+abbrev pub Regarded : Ways → ℕ → ℕ → ℕ → State → State → Type 0
+Regarded ways node first count old new = IsScanned (network ways.graph.now) (CanPass ways) (node_count ways.graph.now) node first count old new
+
+abbrev pub Followed : Ways → Link → State → State → Type 0
+Followed ways link old new = IsFollowed (network ways.graph.now) (CanPass ways) (node_count ways.graph.now) link old new
+
+-- ---- stretches
 
 -- a stretch of the node
 pub record IsStretchOf (given : Network) (node : ℕ) (stretch : Stretch) : Type 0 where

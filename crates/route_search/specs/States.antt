@@ -81,9 +81,8 @@ pub record IsFrom (from : ℕ) (state : State) : Type 0 where
   pub only : (n : ℕ) → IsReached state n → (last_in state n).by ≡ None → n ≡ from
 
 -- between two nodes: a node to which a walk is known waits at its cost, or is relaxed, as settled ones are
-pub record IsBetween (IsLink : Link → Type 0) (nodes from : ℕ) (state : State) : Type 0 where
+pub record IsBetween (IsLink : Link → Type 0) (nodes : ℕ) (state : State) : Type 0 where
   pub now : ℕ
-  pub root : IsFrom from state
   pub tree : Grows IsLink nodes state now
   pub done : (n : ℕ) → settled_in state n ≡ true → IsRelaxedFrom IsLink state n
   pub progress : (n : ℕ) → IsReached state n → Waits state.frontier (cost_in state n) n ⊎ IsRelaxedFrom IsLink state n
