@@ -1,5 +1,5 @@
 -- The links of a graph are those across its areas, and those by relationships.
-use Rattle.std.proofs.Common.{◌≡◌, ℕ, zero, suc, ◌<◌, Bool, true, false, List, [], ◌∷◌, ◌++◌, length, map, filter, flat_map, cond, Some, None, refl, sym, ap, ◌∙◌, get_or, arith}
+use Rattle.std.proofs.Common.{◌≡◌, ℕ, zero, suc, ◌<◌, Bool, true, false, List, [], ◌∷◌, ◌++◌, length, flat_map, cond, Some, None, refl, sym, ap, ◌∙◌, get_or, arith}
 use Rattle.std.specs.Prelude.{slice_get}
 use Rattle.std.proofs.lemmas.Option.{same_Some, slice_get_read}
 use Rattle.venue_types.specs.declared.link.Link.{Link}
@@ -8,17 +8,16 @@ use Rattle.link_graph.specs.declared.areas.Area.{Area}
 use Rattle.link_graph.specs.declared.graph.Graph.{Graph}
 use Rattle.link_graph.specs.declared.parts.Core.{Core}
 use Rattle.link_graph.specs.declared.parts.Crossing.{Crossing}
-use Rattle.link_graph.specs.Areas.{IsArea, unit_of, walked_of, area_of, areas_in, areas, area_links, inside_area, passages, straight}
-use Rattle.link_graph.specs.Cores.{IsSoundCore, IsRow, barred_in, links_across, links_across_from, links_across_all, links_in, network_in}
+use Rattle.link_graph.specs.Areas.{IsArea, unit_of, walked_of, area_of, areas_in, areas, area_links, passages, straight}
+use Rattle.link_graph.specs.Cores.{IsRow, barred_in, links_across_from, links_across_all, links_in, network_in}
 use Rattle.link_graph.specs.Graphs.{network}
-use Rattle.link_graph.specs.Links.{are_joined}
 use Rattle.link_graph.proofs.AskingRanges.{row_at, crossing_there}
 
 -- ---- the links across one area
 
 across_one : (graph : Graph) (crossing : Crossing) (row : List ℕ) (walked : Bool)
     → cond walked (flat_map (links_across_from graph.core crossing row) row) []
-      ≡ area_links graph (record { via = crossing.via; kind = crossing.kind; restricted = barred_in graph.core crossing.via }, cond walked row [])
+    ≡ area_links graph (record { via = crossing.via; kind = crossing.kind; restricted = barred_in graph.core crossing.via }, cond walked row [])
 unfolding straight
 across_one graph crossing row true = refl
 across_one graph crossing row false = refl

@@ -81,7 +81,7 @@ across_test law graph profile area barred way from a crossed start b =
 
 pub crossed_rows : PartsLaw → (graph : Graph) (profile : Profile) (area : Area) (members : List ℕ) → (network graph).barred area.via ≡ area.restricted → passes_by profile area.kind area.restricted ≡ true
     → rows_of (network graph) profile (area_links graph (area, members))
-      ≡ flat_map (rows_from graph area (filter (passes_node (network graph) profile) members)) (filter (passes_node (network graph) profile) members)
+    ≡ flat_map (rows_from graph area (filter (passes_node (network graph) profile) members)) (filter (passes_node (network graph) profile) members)
 unfolding rows_of rows_from
 crossed_rows law graph profile area members barred crossed =
     let r = link_row (network graph) in

@@ -1,5 +1,6 @@
 -- Rows that are added behind others.
-use Rattle.std.proofs.Common.{◌≡◌, ℕ, ◌+◌, ◌<◌, ◌≤◌, Bool, true, false, cond, List, [], ◌∷◌, ◌++◌, length, get_or, take, map, filter, flat_map, refl, sym, ap, ◌∙◌, subst, append_assoc}
+use Rattle.std.proofs.Common.{◌≡◌, ℕ, zero, suc, ◌+◌, ◌<◌, ◌≤◌, Bool, true, false, cond, List, [], ◌∷◌, ◌++◌, length, get_or, take, map, filter, flat_map, refl, sym, ap, ◌∙◌, subst, append_assoc, arith, Some}
+use Rattle.std.specs.Prelude.{slice_get}
 use Rattle.std.specs.List.{AllByRecursion}
 use Rattle.std.proofs.lemmas.List.{take_more, append-nil, map-append}
 use Rattle.std.proofs.lemmas.List.Concat.{flat_map-append}
@@ -58,6 +59,11 @@ left_more f t xs i d count start old new within before fail same =
     subst (Adds count start new) (sym (left_rows f t xs i d within fail)) (adds_same count start old new (map f (filter t (take i xs))) same before)
 
 -- ---- a loop over items with rows for each
+
+pub at_place : {X : Type 0} (xs : List X) (n : ℕ) → n < length xs → (x : X) × (slice_get xs n ≡ Some x)
+at_place [] n h = absurd (omega (arith, h))
+at_place (x ∷ xs) zero h = (x, refl)
+at_place (x ∷ xs) (suc n) h = at_place xs n (omega (arith, h))
 
 pub joined_more : {X Y : Type 0} (g : X → List Y) (xs : List X) (i : ℕ) (d : X) → i < length xs → flat_map g (take (i + 1) xs) ≡ flat_map g (take i xs) ++ g (get_or xs i d)
 joined_more {X} {Y} g xs i d within =

@@ -1,5 +1,5 @@
 -- The tests of what a profile passes say what is meant by it.
-use Rattle.std.proofs.Common.{◌≡◌, ◌↔◌, Bool, true, false, not, ◌&&◌, ◌||◌, IsTrue, refl, sym, ap, ◌∙◌}
+use Rattle.std.proofs.Common.{◌≡◌, ◌↔◌, Bool, true, false, not, ◌&&◌, ◌||◌, IsTrue, refl, sym}
 use Rattle.venue_types.specs.declared.kind.Kind.{Kind}
 use Rattle.venue_types.specs.declared.link.Link.{Link}
 use Rattle.venue_types.specs.declared.link.LinkFacts.{LinkFacts}
@@ -51,19 +51,19 @@ pub allowed_is : (profile : Profile) (facts : LinkFacts) → IsTrue (is_allowed 
 unfolding is_allowed
 allowed_is profile facts = (
   λ h. let five = first_of_both _ (not facts.unmarked || not profile.marked) h in
-    let four = first_of_both _ (not facts.turnstile || profile.turnstile) five in
-    let three = first_of_both _ (not facts.revolving || profile.revolving) four in
-    let two = first_of_both _ (not facts.restricted || profile.restricted) three in
-    record {
-      in_service = is_false facts.out (first_of_both (not facts.out) (passes profile facts.kind) two);
-      kind = second_of_both (not facts.out) (passes profile facts.kind) two;
-      restricted = granted facts.restricted profile.restricted (second_of_both _ (not facts.restricted || profile.restricted) three);
-      revolving = granted facts.revolving profile.revolving (second_of_both _ (not facts.revolving || profile.revolving) four);
-      turnstile = granted facts.turnstile profile.turnstile (second_of_both _ (not facts.turnstile || profile.turnstile) five);
-      marked = λ asked. is_false profile.marked (granted facts.unmarked (not profile.marked) (second_of_both _ (not facts.unmarked || not profile.marked) h) asked);
-    },
+      let four = first_of_both _ (not facts.turnstile || profile.turnstile) five in
+      let three = first_of_both _ (not facts.revolving || profile.revolving) four in
+      let two = first_of_both _ (not facts.restricted || profile.restricted) three in
+      record {
+        in_service = is_false facts.out (first_of_both (not facts.out) (passes profile facts.kind) two);
+        kind = second_of_both (not facts.out) (passes profile facts.kind) two;
+        restricted = granted facts.restricted profile.restricted (second_of_both _ (not facts.restricted || profile.restricted) three);
+        revolving = granted facts.revolving profile.revolving (second_of_both _ (not facts.revolving || profile.revolving) four);
+        turnstile = granted facts.turnstile profile.turnstile (second_of_both _ (not facts.turnstile || profile.turnstile) five);
+        marked = λ asked. is_false profile.marked (granted facts.unmarked (not profile.marked) (second_of_both _ (not facts.unmarked || not profile.marked) h) asked);
+      },
   λ h. both _ _ (both _ _ (both _ _ (both _ _ (both _ _ (not_false facts.out h.in_service) h.kind) (grants facts.restricted profile.restricted h.restricted)) (grants facts.revolving profile.revolving h.revolving)) (grants facts.turnstile profile.turnstile h.turnstile))
-    (grants facts.unmarked (not profile.marked) (λ asked. not_false profile.marked (h.marked asked))),
+      (grants facts.unmarked (not profile.marked) (λ asked. not_false profile.marked (h.marked asked))),
 )
 
 pub by_is : (profile : Profile) (kind : Kind) (restricted : Bool) → IsTrue (passes_by profile kind restricted) ↔ MayGo profile kind restricted
@@ -80,17 +80,17 @@ pub facts_are : (profile : Profile) (facts : EndFacts) → IsTrue (passes_facts 
 unfolding passes_facts
 facts_are profile facts = (
   λ h. let four = first_of_both _ (not facts.unmarked || not profile.marked) h in
-    let three = first_of_both _ (not facts.turnstile || profile.turnstile) four in
-    let two = first_of_both _ (not facts.revolving || profile.revolving) three in
-    record {
-      in_service = is_false facts.out (first_of_both (not facts.out) (not facts.restricted || profile.restricted) two);
-      restricted = granted facts.restricted profile.restricted (second_of_both (not facts.out) (not facts.restricted || profile.restricted) two);
-      revolving = granted facts.revolving profile.revolving (second_of_both _ (not facts.revolving || profile.revolving) three);
-      turnstile = granted facts.turnstile profile.turnstile (second_of_both _ (not facts.turnstile || profile.turnstile) four);
-      marked = λ asked. is_false profile.marked (granted facts.unmarked (not profile.marked) (second_of_both _ (not facts.unmarked || not profile.marked) h) asked);
-    },
+      let three = first_of_both _ (not facts.turnstile || profile.turnstile) four in
+      let two = first_of_both _ (not facts.revolving || profile.revolving) three in
+      record {
+        in_service = is_false facts.out (first_of_both (not facts.out) (not facts.restricted || profile.restricted) two);
+        restricted = granted facts.restricted profile.restricted (second_of_both (not facts.out) (not facts.restricted || profile.restricted) two);
+        revolving = granted facts.revolving profile.revolving (second_of_both _ (not facts.revolving || profile.revolving) three);
+        turnstile = granted facts.turnstile profile.turnstile (second_of_both _ (not facts.turnstile || profile.turnstile) four);
+        marked = λ asked. is_false profile.marked (granted facts.unmarked (not profile.marked) (second_of_both _ (not facts.unmarked || not profile.marked) h) asked);
+      },
   λ h. both _ _ (both _ _ (both _ _ (both _ _ (not_false facts.out h.in_service) (grants facts.restricted profile.restricted h.restricted)) (grants facts.revolving profile.revolving h.revolving)) (grants facts.turnstile profile.turnstile h.turnstile))
-    (grants facts.unmarked (not profile.marked) (λ asked. not_false profile.marked (h.marked asked))),
+      (grants facts.unmarked (not profile.marked) (λ asked. not_false profile.marked (h.marked asked))),
 )
 
 -- ---- a link by its parts
@@ -108,11 +108,11 @@ link_passes law given profile link =
     let facts = link_facts given link in
     same_test (is_allowed profile facts) (way && (from && to))
     (λ h. let parts = (law given profile link).0 ((allowed_is profile facts).0 h) in
-      both way (from && to) ((by_is profile link.kind (given.barred link.via)).1 parts.0)
-      (both from to ((facts_are profile (given.ends link.from)).1 parts.1) ((facts_are profile (given.ends link.to)).1 parts.2)))
+    both way (from && to) ((by_is profile link.kind (given.barred link.via)).1 parts.0)
+    (both from to ((facts_are profile (given.ends link.from)).1 parts.1) ((facts_are profile (given.ends link.to)).1 parts.2)))
     (λ h. let ends = second_of_both way (from && to) h in
-      (allowed_is profile facts).1 ((law given profile link).1 (
-        (by_is profile link.kind (given.barred link.via)).0 (first_of_both way (from && to) h),
-        (facts_are profile (given.ends link.from)).0 (first_of_both from to ends),
-        (facts_are profile (given.ends link.to)).0 (second_of_both from to ends),
-      )))
+    (allowed_is profile facts).1 ((law given profile link).1 (
+      (by_is profile link.kind (given.barred link.via)).0 (first_of_both way (from && to) h),
+      (facts_are profile (given.ends link.from)).0 (first_of_both from to ends),
+      (facts_are profile (given.ends link.to)).0 (second_of_both from to ends),
+    )))

@@ -1,5 +1,5 @@
 -- Over the network of some features the table is that of the features.
-use Rattle.std.proofs.Common.{◌≡◌, ℕ, Bool, List, [], ◌∷◌, map, filter, cond, refl, sym, ap, ◌∙◌}
+use Rattle.std.proofs.Common.{◌≡◌, Bool, List, [], ◌∷◌, map, filter, cond, refl, ap, ◌∙◌}
 use Rattle.std.specs.Prelude.{Contains}
 use Rattle.venue_types.specs.declared.features.Features.{Features}
 use Rattle.venue_types.specs.declared.feature_id.FeatureId.{FeatureId}
@@ -9,10 +9,9 @@ use Rattle.venue_types.specs.declared.settings.Profile.{Profile}
 use Rattle.venue_types.specs.declared.settings.Settings.{Settings}
 use Rattle.imdf_access.specs.Access.{is_allowed}
 use Rattle.report_laws.proofs.Members.{Contains-first, Contains-later}
-use Rattle.venue_nodes.specs.Nodes.{closables}
 use Rattle.link_graph.specs.Facts.{facts_at}
 use Rattle.link_graph.specs.Links.{links}
-use Rattle.link_graph.specs.Networks.{Network, IsNetworkOf, link_facts}
+use Rattle.link_graph.specs.Networks.{Network, IsNetworkOf}
 use Rattle.route_certificate.specs.declared.table.TableLink.{TableLink}
 use Rattle.link_tables.specs.Passing.{id_at, link_row, passes_link, rows_of}
 use Rattle.link_tables.specs.Tables.{allowed_links, row_of, way_id}
@@ -37,5 +36,5 @@ unfolding rows_of passes_link
 rows_are features settings given profile is =
     ap (λ (all : List Link). map (link_row given) (filter (passes_link given profile) all)) is.links_are
     ∙ ap (λ (some : List Link). map (link_row given) some) (chosen_same (passes_link given profile) (λ (link : Link). is_allowed profile (facts_at features link)) (links features settings)
-      (λ link there. ap (λ (facts : LinkFacts). is_allowed profile facts) (is.facts_are link there)))
+    (λ link there. ap (λ (facts : LinkFacts). is_allowed profile facts) (is.facts_are link there)))
     ∙ mapped_same (link_row given) (row_of features) (allowed_links features settings profile) (λ link. row_same features settings given link is)

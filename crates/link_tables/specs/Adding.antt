@@ -1,7 +1,6 @@
 -- What is added to the rows of a table: the code's own machinery, which no public contract cites.
 use Rattle.std.specs.Prelude.{◌≡◌, ℕ, List, ◌++◌, map, filter}
 use Rattle.std.specs.List.{AllByRecursion}
-use Rattle.venue_types.specs.declared.link.Link.{Link}
 use Rattle.link_graph.specs.declared.areas.Area.{Area}
 use Rattle.link_graph.specs.declared.graph.Graph.{Graph}
 use Rattle.link_graph.specs.Areas.{inside_area}

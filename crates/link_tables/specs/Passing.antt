@@ -1,5 +1,5 @@
 -- What a profile passes of a network, as tests: the code's own machinery, which no public contract cites.
-use Rattle.std.specs.Prelude.{ℕ, List, map, filter, Bool, not, ◌&&◌, ◌||◌, Option, Some, None, slice_get}
+use Rattle.std.specs.Prelude.{ℕ, List, map, filter, Bool, not, ◌&&◌, ◌||◌, Some, None, slice_get}
 use Rattle.venue_types.specs.declared.feature_id.FeatureId.{FeatureId}
 use Rattle.venue_types.specs.declared.kind.Kind.{Kind}
 use Rattle.venue_types.specs.declared.link.Link.{Link}

@@ -1,6 +1,7 @@
 //! The table of the links of a venue that a profile may use.
 #![tactic(auto)]
 
+mod counts;
 mod ids;
 mod passing;
 mod rows;

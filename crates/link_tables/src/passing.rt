@@ -25,8 +25,8 @@ pub(crate) fn may_use(graph: &Graph, profile: &Profile, link: &Link) -> bool
     allows(profile, &graph.facts(link))
 }
 
-// Whether somebody with the profile may pass the node.
-fn may_pass(graph: &Graph, profile: &Profile, n: u32) -> bool
+/// Whether somebody with the profile may pass the node.
+pub(crate) fn may_pass(graph: &Graph, profile: &Profile, n: u32) -> bool
     requires { n < length (network graph.now).nodes }
     ensures { result ≡ passes_node (network graph.now) profile.now n }
 {

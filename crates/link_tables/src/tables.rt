@@ -10,6 +10,7 @@ ghost use Rattle.link_tables.specs.Passing.{rows_of};
 ghost use Rattle.link_tables.specs.Tables.{table_of};
 ghost use Rattle.route_certificate.specs.Forms.{FitsLink, FitsTable};
 
+use crate::counts::row_count;
 use crate::ids::node_ids;
 use crate::rows::{add_areas, add_passages};
 use link_graph::Graph;
@@ -42,7 +43,7 @@ fn allowed_rows(
     ensures fits { IfOk result (λ rows. AllByRecursion (FitsLink (length (network graph.now).nodes)) rows.items) }
 {
     graph.areas_law();
-    let mut rows = Vec::new(alloc);
+    let mut rows = Vec::with_capacity(alloc, row_count(graph, profile))?;
     add_areas(alloc, graph, profile, &mut rows)?;
     add_passages(graph, profile, &mut rows)?;
     Ok(rows)

@@ -1,4 +1,4 @@
-use Rattle.std.proofs.Common.{◌≡◌, ℕ, zero, suc, ◌+◌, ◌<◌, List, [], ◌∷◌, ◌++◌, length, take, flat_map, Some, sym, ap, ◌∙◌, subst, refl, arith}
+use Rattle.std.proofs.Common.{◌≡◌, ℕ, ◌+◌, List, ◌++◌, length, take, flat_map, Some, sym, ap, ◌∙◌, subst, arith}
 use Rattle.std.specs.Prelude.{slice_get}
 use Rattle.std.proofs.lemmas.Option.{slice_get_within, get_or_from_slice_get}
 use Rattle.venue_types.specs.declared.link.Link.{Link}
@@ -11,13 +11,8 @@ use Rattle.route_certificate.specs.declared.table.TableLink.{TableLink}
 use Rattle.link_tables.specs.Adding.{Adds}
 use Rattle.link_tables.specs.Passing.{rows_of}
 use Rattle.link_tables.proofs.Choosing.{rows_joined}
-use Rattle.link_tables.proofs.Gathering.{adds_none, adds_both, joined_more}
+use Rattle.link_tables.proofs.Gathering.{at_place, adds_none, adds_both, joined_more}
 use Rattle.link_tables.proofs.rows.add_areas.Goals as goal
-
-at_place : {X : Type 0} (xs : List X) (n : ℕ) → n < length xs → (x : X) × (slice_get xs n ≡ Some x)
-at_place [] n h = absurd (omega (arith, h))
-at_place (x ∷ xs) zero h = (x, refl)
-at_place (x ∷ xs) (suc n) h = at_place xs n (omega (arith, h))
 
 areas_more : (graph : Graph) (profile : Profile) (w : ℕ) (area : Area × List ℕ) (count : ℕ) (start old new : List TableLink) → slice_get (areas graph) w ≡ Some area
     → Adds count start old (rows_of (network graph) profile (flat_map (area_links graph) (take w (areas graph)))) → Adds count old new (rows_of (network graph) profile (area_links graph area))
@@ -27,8 +22,8 @@ areas_more graph profile w area count start old new there before added =
     let f : Area × List ℕ → List Link = area_links graph in
     let front : List Link = flat_map f (take w (areas graph)) in
     let joined : flat_map f (take (w + 1) (areas graph)) ≡ front ++ f area =
-        joined_more f (areas graph) w area (slice_get_within (areas graph) w area there)
-        ∙ ap (λ (x : Area × List ℕ). front ++ f x) (get_or_from_slice_get (areas graph) w area area there) in
+    joined_more f (areas graph) w area (slice_get_within (areas graph) w area there)
+    ∙ ap (λ (x : Area × List ℕ). front ++ f x) (get_or_from_slice_get (areas graph) w area area there) in
     subst (Adds count start new) (sym (ap (rows_of given profile) joined ∙ rows_joined given profile front (f area)))
     (adds_both count start old new (rows_of given profile front) (rows_of given profile (f area)) before added)
 

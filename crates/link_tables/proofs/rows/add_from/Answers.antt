@@ -1,4 +1,4 @@
-use Rattle.std.proofs.Common.{ℕ, List, ◌∷◌, [], ◌++◌, length, filter, map, get_or, Vec, Global, not, sym, ◌∙◌, ap, subst, eq-eqb, refl, arith}
+use Rattle.std.proofs.Common.{ℕ, List, ◌∷◌, [], ◌++◌, length, filter, map, get_or, Vec, Global, not, sym, ◌∙◌, ap, subst, eq-eqb, arith}
 use Rattle.std.proofs.lemmas.Bool.{ne_eqb}
 use Rattle.std.proofs.lemmas.List.{take_all}
 use Rattle.link_graph.specs.Areas.{inside_area}
@@ -25,7 +25,7 @@ loop-b-preserved c =
           kept_more (pair_row graph area a) (are_joined a) members i 0 count c.args.rows.now.items c.loop-b.rows.items c.if-b-a.rows.items c.loop-b-test.true c.loop-b.invariant
           (ap not (ne_eqb a b (λ e. w.if-b-a.true (sym e))))
           (ap (λ (v : Vec TableLink Global). v.items) w.rows-is ∙ w.in_ok-push.ensures.items
-            ∙ ap (λ (row : TableLink). c.loop-b.rows.items ++ row ∷ []) (row_is given w.across.result (inside_area graph area a b) c.args.via w.row.result w.row.ensures w.across.ensures.link c.requires.via))
+          ∙ ap (λ (row : TableLink). c.loop-b.rows.items ++ row ∷ []) (row_is given w.across.result (inside_area graph area a b) c.args.via w.row.result w.row.ensures w.across.ensures.link c.requires.via))
           (row_fits given count w.across.result (inside_area graph area a b) c.args.via w.across.ensures.link c.requires.via c.requires.fits c.requires.from (c.requires.within i 0 c.loop-b-test.true) (let most = w.across.ensures.cost in omega (arith, most)))
       | else-b-a w ↦
           left_more (pair_row graph area a) (are_joined a) members i 0 count c.args.rows.now.items c.loop-b.rows.items c.if-b-a.rows.items c.loop-b-test.true c.loop-b.invariant

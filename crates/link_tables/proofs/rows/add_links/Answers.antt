@@ -35,7 +35,7 @@ loop-link-preserved c =
           kept_more (link_row given) (passes_link given profile) links i nothing count c.args.rows.now.items c.loop-link.rows.items c.if-may_use.rows.items c.loop-link-test.true c.loop-link.invariant
           (sym c.may_use.ensures ∙ w.if-may_use.true)
           (ap (λ (v : Vec TableLink Global). v.items) w.rows-is ∙ w.in_ok-push.ensures.items
-            ∙ ap (λ (row : TableLink). c.loop-link.rows.items ++ row ∷ []) (row_is given link link w.way_id.result w.row.result w.row.ensures refl w.way_id.ensures.id))
+          ∙ ap (λ (row : TableLink). c.loop-link.rows.items ++ row ∷ []) (row_is given link link w.way_id.result w.row.result w.row.ensures refl w.way_id.ensures.id))
           (row_fits given count link link w.way_id.result refl w.way_id.ensures.id w.way_id.ensures.fits (law.from link there) (law.to link there) (law.cost link there))
       | else-may_use w ↦
           left_more (link_row given) (passes_link given profile) links i nothing count c.args.rows.now.items c.loop-link.rows.items c.if-may_use.rows.items c.loop-link-test.true c.loop-link.invariant

@@ -22,5 +22,5 @@ whole given profile count across between start middle end none one two law =
 pub returns-clause-rows : goal.returns-clause-rows
 returns-clause-rows c =
     let graph = c.args.graph.now in
-    whole (network graph) c.args.profile.now (length (network graph).nodes) (flat_map (area_links graph) (areas graph)) (passages graph) c.new-rows.result.items c.add_areas.new.rows.items c.add_passages.new.rows.items
-    c.new-rows.ensures.items c.in_ok-add_areas.ensures c.in_ok-add_passages.ensures c.areas_law.ensures
+    whole (network graph) c.args.profile.now (length (network graph).nodes) (flat_map (area_links graph) (areas graph)) (passages graph) c.in_ok-rows.rows.items c.add_areas.new.rows.items c.add_passages.new.rows.items
+    c.in_ok-rows.ensures.items c.in_ok-add_areas.ensures c.in_ok-add_passages.ensures c.areas_law.ensures

@@ -1,5 +1,5 @@
 use Rattle.std.proofs.Common.{◌<◌, length, sym, subst₂, arith, rules}
-use Rattle.std.specs.Prelude.{◌≡◌, List, ℕ}
+use Rattle.std.specs.Prelude.{List, ℕ}
 use Rattle.venue_nodes.specs.Rows.{row_list}
 use Rattle.link_graph.specs.declared.areas.Area.{Area}
 use Rattle.link_graph.specs.declared.graph.Graph.{Graph}
