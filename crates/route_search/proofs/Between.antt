@@ -1,18 +1,17 @@
 -- What is known between two nodes that are settled.
-use Rattle.std.proofs.Common.{◌≡◌, ◌≢◌, ◌⊎◌, inl, inr, ◌↔◌, ℕ, zero, suc, ◌+◌, ◌*◌, ◌<◌, ◌≤◌, Bool, true, false, List, length, Option, Some, None, set, replicate, refl, sym, ap, subst, ◌∙◌, arith}
+use Rattle.std.proofs.Common.{◌≡◌, ◌≢◌, ◌⊎◌, inl, inr, ◌↔◌, ℕ, ◌+◌, ◌<◌, ◌≤◌, Bool, true, false, List, length, Option, Some, None, set, replicate, refl, sym, ap, subst, ◌∙◌, arith}
 use Rattle.std.specs.Prelude.{Contains, slice_get}
 use Rattle.std.proofs.lemmas.List.{get_or-set_same, get_or-set_other, length-set, get_or-replicate, length-replicate, get_or_past}
 use Rattle.std.proofs.lemmas.Option.{slice_get_within}
-use Rattle.std.proofs.lemmas.Bool.{cases_eq, cases_lt, cases_Bool}
+use Rattle.std.proofs.lemmas.Bool.{cases_eq, cases_lt}
 use Rattle.venue_types.specs.declared.link.Link.{Link}
 use Rattle.link_graph.specs.Networks.{Network, links_out}
-use Rattle.route_search.specs.declared.frontier.Frontier.{Frontier}
 use Rattle.route_search.specs.declared.labels.Last.{Last}
 use Rattle.route_search.specs.declared.state.State.{State}
-use Rattle.route_search.specs.Labels.{no_cost, cost_at, last_at, IsLabelled, IsFirst, IsHop, Hops, IsTree, AreOver, IsRelaxed, IsFound, IsSpent}
-use Rattle.route_search.specs.Waiting.{Waits, waiting, IsPushed, IsPopped}
-use Rattle.route_search.specs.States.{settled_at, open_sum, cost_in, last_in, settled_in, IsReached, IsRelaxedFrom, IsStep, IsEmpty, IsFrom, ComesBy, Room, IsEntry, Grows, IsBetween, IsBegun, IsEnded}
-use Rattle.route_search.specs.Scans.{IsQuiet, HangsOn, IsAmid, IsLater, IsScanned}
+use Rattle.route_search.specs.Labels.{no_cost, cost_at, last_at, IsLabelled, Hops, IsTree, AreOver, IsRelaxed, IsFound, IsSpent}
+use Rattle.route_search.specs.Waiting.{Waits, IsPopped}
+use Rattle.route_search.specs.States.{settled_at, open_sum, cost_in, last_in, settled_in, IsReached, IsRelaxedFrom, IsStep, IsFrom, ComesBy, IsEntry, Grows, IsBetween, IsBegun, IsEnded}
+use Rattle.route_search.specs.Scans.{HangsOn, IsAmid, IsLater, IsScanned}
 use Rattle.route_search.proofs.Covers.{out_place}
 use Rattle.route_search.proofs.Detours.{HasDetours, detour_relaxed}
 use Rattle.route_search.proofs.Lowered.{cost-set_same, cost-set_other}

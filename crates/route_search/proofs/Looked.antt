@@ -1,5 +1,5 @@
 -- The link at one place.
-use Rattle.std.proofs.Common.{◌≡◌, ℕ, zero, suc, ◌+◌, ◌<◌, ◌≤◌, Bool, true, false, cond, nat_lt, List, [], ◌∷◌, length, Option, Some, None, Result, Ok, Err, OnOk, IfOk, get_or, refl, sym, ap, subst, ◌∙◌, arith}
+use Rattle.std.proofs.Common.{◌≡◌, ℕ, zero, suc, ◌+◌, ◌<◌, ◌≤◌, Bool, true, false, cond, nat_lt, List, [], ◌∷◌, length, Some, None, Result, Ok, Err, OnOk, IfOk, get_or, refl, ap, subst, ◌∙◌, arith}
 use Rattle.std.specs.Prelude.{Contains, slice_get, slice_index_or}
 use Rattle.std.proofs.lemmas.Bool.Decides.{nat_tests}
 use Rattle.venue_types.specs.declared.link.Link.{Link}
@@ -7,7 +7,7 @@ use Rattle.link_graph.specs.Lower.{lower_of}
 use Rattle.link_graph.specs.Networks.{Network, links_out}
 use Rattle.route_search.specs.declared.labels.Last.{Last}
 use Rattle.route_search.specs.declared.state.State.{State}
-use Rattle.route_search.specs.Labels.{no_cost, cost_at, last_at, IsRelaxed}
+use Rattle.route_search.specs.Labels.{no_cost, cost_at, last_at}
 use Rattle.route_search.specs.States.{settled_at, cost_in}
 use Rattle.route_search.specs.Scans.{IsAmid, IsScanned}
 use Rattle.route_search.proofs.Covers.{out_member, out_from}

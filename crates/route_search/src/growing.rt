@@ -11,7 +11,7 @@ use std::sync::ledger::Ledger;
 use step_count::Steps;
 use venue_types::OutOfMemory;
 
-/// Takes from what waits until the end is next, or nothing waits.
+/// Takes from what waits until the end is next, or nothing waits. Takes n log n time for n links that are looked at.
 pub(crate) fn grow<L: Ledger>(
     ways: &Ways,
     to: u32,
@@ -25,6 +25,7 @@ pub(crate) fn grow<L: Ledger>(
 {
     ways.graph.range_law();
     'nodes: while let Some((cost, node)) = state.frontier.pop() {
+        // Where its cost fell, the node waits at that, or leads nowhere else and needs no turn.
         if state.costs[node as usize] != cost || state.settled[node as usize] {
             continue;
         }

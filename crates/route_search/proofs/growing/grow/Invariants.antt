@@ -1,5 +1,4 @@
 use Rattle.std.proofs.Common.{ℕ, ◌+◌, ◌≤◌}
-use Rattle.link_graph.specs.Graphs.{network}
 use Rattle.route_search.specs.Scans.{CanPass, node_count, out_count_of}
 use Rattle.route_search.specs.States.{IsBetween, IsFrom, open_sum}
 use Rattle.route_search.specs.Waiting.{waiting}

@@ -1,7 +1,7 @@
-use Rattle.std.proofs.Common.{rules, ◌≡◌, true, sym, ◌∙◌, subst, arith, Bool, IsTrue}
+use Rattle.std.proofs.Common.{sym, ◌∙◌, subst}
 use Rattle.link_graph.specs.Graphs.{network}
 use Rattle.link_graph.specs.declared.stretches.Way.{Way}
-use Rattle.route_search.specs.Scans.{CanPass, IsMarkable, IsVia}
+use Rattle.route_search.specs.Scans.{CanPass, IsMarkable}
 use Rattle.route_search.proofs.PassedOver.{over_again, over_marked}
 use Rattle.route_search.proofs.passing.is_passed_over.Goals.{then-is_again, else-is_again}
 use Rattle.route_search.proofs.passing.is_passed_over.Goals as goal

@@ -1,10 +1,8 @@
-use Rattle.std.proofs.Common.{◌≡◌, ◌<◌, ◌+◌, ℕ, length, sym, ap, subst, ◌∙◌, arith}
-use Rattle.std.specs.Prelude.{Contains}
-use Rattle.venue_types.specs.declared.link.Link.{Link}
+use Rattle.std.proofs.Common.{◌≡◌, ◌<◌, ◌+◌, ℕ, length, sym, subst, arith}
 use Rattle.link_graph.specs.Graphs.{network}
 use Rattle.route_search.specs.States.{cost_in}
 use Rattle.route_search.specs.Scans.{CanPass, IsAmid, node_count}
-use Rattle.route_search.proofs.Looked.{IsCheap, cost_read, cheap_link, nothing_cheap, on_ok}
+use Rattle.route_search.proofs.Looked.{cost_read, cheap_link, nothing_cheap, on_ok}
 use Rattle.route_search.proofs.Scanned.{followed_one}
 use Rattle.route_search.proofs.scanning.look.Goals as goal
 

@@ -1,4 +1,4 @@
-use Rattle.std.proofs.Common.{◌≡◌, refl, arith}
+use Rattle.std.proofs.Common.{refl, arith}
 use Rattle.link_graph.specs.Graphs.{network}
 use Rattle.route_search.specs.Scans.{CanPass, node_count}
 use Rattle.route_search.proofs.Covers.{out_few, out_from}

@@ -1,4 +1,4 @@
-use Rattle.std.proofs.Common.{◌≡◌, true, false, arith}
+use Rattle.std.proofs.Common.{◌≡◌, true, false}
 use Rattle.link_graph.specs.Graphs.{network}
 use Rattle.route_search.specs.Scans.{CanPass, node_count, out_count_of}
 use Rattle.route_search.proofs.Covers.{out_from}

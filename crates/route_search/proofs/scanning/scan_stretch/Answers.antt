@@ -1,5 +1,4 @@
 use Rattle.std.proofs.Common.{◌≡◌, ◌<◌, length, ap, arith}
-use Rattle.venue_types.specs.declared.link.Link.{Link}
 use Rattle.route_search.specs.declared.labels.Last.{Last}
 use Rattle.link_graph.specs.Graphs.{network}
 use Rattle.link_graph.specs.Marking.{marked}

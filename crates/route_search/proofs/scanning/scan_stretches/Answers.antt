@@ -1,7 +1,7 @@
-use Rattle.std.proofs.Common.{◌≡◌, ◌≤◌, length, arith}
+use Rattle.std.proofs.Common.{arith}
 use Rattle.link_graph.specs.Graphs.{network}
 use Rattle.route_search.specs.Scans.{CanPass, node_count}
-use Rattle.route_search.proofs.Walked.{walked_stretch, walked_more, walked_steps, walked_all}
+use Rattle.route_search.proofs.Walked.{walked_stretch, walked_more, walked_steps}
 use Rattle.route_search.proofs.scanning.scan_stretches.Goals as goal
 
 pub scan_stretch-requires-clause-stretch : goal.scan_stretch-requires-clause-stretch

@@ -1,11 +1,11 @@
-use Rattle.std.proofs.Common.{◌≡◌, ◌<◌, ◌≤◌, ℕ, ◌+◌, List, length, refl, sym, ap, subst, ◌∙◌, arith}
+use Rattle.std.proofs.Common.{◌≡◌, ◌<◌, ℕ, List, sym, subst, arith}
 use Rattle.link_graph.specs.Graphs.{network}
 use Rattle.link_graph.specs.Marking.{marked}
 use Rattle.link_graph.specs.Networks.{IsPassable}
 use Rattle.route_search.specs.declared.labels.Last.{Last}
-use Rattle.route_search.specs.Labels.{no_cost, cost_at, IsLabelled, IsFound, IsSpent}
-use Rattle.route_search.specs.Scans.{node_count, out_count_of}
-use Rattle.route_search.specs.States.{cost_in, open_sum, IsBegun}
+use Rattle.route_search.specs.Labels.{no_cost, IsLabelled, IsFound, IsSpent}
+use Rattle.route_search.specs.Scans.{node_count}
+use Rattle.route_search.specs.States.{cost_in, IsBegun}
 use Rattle.route_search.proofs.Between.{begun_between, begun_from, tree_as, few_as}
 use Rattle.route_search.proofs.Looked.{cost_read, if_ok}
 use Rattle.route_search.proofs.Sums.{out_sum}
