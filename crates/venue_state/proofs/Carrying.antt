@@ -34,10 +34,6 @@ kept_exactly p xs x c = elim (tested (p x)) [
 
 -- ---- one identifier more at the end
 
-one_of_empty : (x : FeatureId) → is_one_of [] x ≡ false
-unfolding is_one_of
-one_of_empty x = refl
-
 one_of_end_same : (front : List FeatureId) (x : FeatureId) → is_one_of (front ++ x ∷ []) x ≡ true
 one_of_end_same [] x = one_of_head x []
 one_of_end_same (y ∷ ys) x = one_of_later y (ys ++ x ∷ []) x (one_of_end_same ys x) where

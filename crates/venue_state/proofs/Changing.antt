@@ -1,6 +1,6 @@
--- What a closure and a reopening make of what is closed.
+-- What a reopening leaves of what is closed.
 use Rattle.std.proofs.Common.{◌≡◌, ◌∙◌, List, refl, sym, ap, Bool, true, false, not}
-use Rattle.std.specs.Prelude.{◌||◌, ◌&&◌, if◌then◌else◌}
+use Rattle.std.specs.Prelude.{◌&&◌, if◌then◌else◌}
 use Rattle.std.specs.List.{filter}
 use Rattle.std.proofs.lemmas.List.Elements.{filter_agree}
 use Rattle.venue_types.specs.declared.feature_id.FeatureId.{FeatureId}
@@ -9,22 +9,11 @@ use Rattle.venue_history.specs.Closed.{is_one_of}
 use Rattle.venue_history.proofs.Identities.{filter_filter}
 use Rattle.venue_state.specs.Tallies.{remarked}
 
-or_told : (s b : Bool) → (if s then true else b) ≡ (b || s)
-or_told true true = refl
-or_told true false = refl
-or_told false true = refl
-or_told false false = refl
-
 and_told : (s b : Bool) → (if s then false else b) ≡ (b && not s)
 and_told true true = refl
 and_told true false = refl
 and_told false true = refl
 and_told false false = refl
-
-pub closed_so : (ids closed : List FeatureId) (id : FeatureId) → remarked ids closed id true ≡ filter (λ other. is_one_of closed other || is_same other id) ids
-closed_so ids closed id =
-    filter_agree (λ other. if is_same other id then true else is_one_of closed other) (λ other. is_one_of closed other || is_same other id)
-    (λ other. or_told (is_same other id) (is_one_of closed other)) ids
 
 pub reopened_so : (ids closed : List FeatureId) (id : FeatureId) → closed ≡ filter (is_one_of closed) ids
     → remarked ids closed id false ≡ filter (λ other. not (is_same other id)) closed

@@ -1,7 +1,7 @@
--- Names by numbers, and lists of them made one by one.
-use Rattle.std.proofs.Common.{◌≡◌, ◌∙◌, ℕ, ◌+◌, ◌<◌, ◌≤◌, List, [], ◌∷◌, ◌++◌, map, length, take, refl, sym, ap, Some, None, subst}
-use Rattle.std.specs.Prelude.{slice_index_or, slice_get}
-use Rattle.std.proofs.lemmas.List.{take_more, map-append}
+-- Names by numbers, and a list that is copied by number.
+use Rattle.std.proofs.Common.{◌≡◌, ◌∙◌, ℕ, ◌+◌, ◌<◌, ◌≤◌, List, [], ◌∷◌, ◌++◌, length, take, refl, sym, ap, Some, None, subst}
+use Rattle.std.specs.Prelude.{slice_get}
+use Rattle.std.proofs.lemmas.List.{take_more}
 use Rattle.std.proofs.lemmas.Option.{slice_get_past, get_or_from_slice_get}
 use Rattle.venue_types.specs.declared.feature_id.FeatureId.{FeatureId}
 use Rattle.venue_types.specs.declared.link.Node.{Node}
@@ -32,15 +32,6 @@ unfolding way_name
 way_nameless v ids k same past =
     let none : slice_get (closables v.features) k ≡ None = subst (λ (xs : List FeatureId). slice_get xs k ≡ None) same (slice_get_past ids k past) in
     rw (none, way_name) refl
-
--- one item more of a list that is made item by item
-pub made_more : {X Y : Type 0} (f : X → Y) (xs : List X) (i : ℕ) (d : X) (done : List Y) (y : Y) → i < length xs → done ≡ map f (take i xs) → y ≡ f (slice_index_or xs i d)
-    → done ++ y ∷ [] ≡ map f (take (i + 1) xs)
-made_more {X} {Y} f xs i d done y within so is =
-    ap (λ (ys : List Y). ys ++ y ∷ []) so
-    ∙ ap (λ (z : Y). map f (take i xs) ++ z ∷ []) is
-    ∙ sym (map-append f (take i xs) (slice_index_or xs i d ∷ []))
-    ∙ ap (map f) (sym (take_more xs i d within))
 
 -- one item more of a list that is copied by number
 pub copied_more : {X : Type 0} (xs : List X) (i : ℕ) (x : X) (done : List X) → i < length xs → done ≡ take i xs → slice_get xs i ≡ Some x

@@ -2,9 +2,6 @@
 use Rattle.std.proofs.Common.{◌≡◌, ◌∙◌, ◌↔◌, ℕ, List, [], ◌∷◌, map, sym, ap, Bool, true, false, Option, Some, None, subst}
 use Rattle.venue_types.specs.declared.feature_id.FeatureId.{FeatureId}
 use Rattle.venue_types.specs.declared.link.Link.{Link}
-use Rattle.venue_types.specs.declared.link.Potential.{Potential}
-use Rattle.venue_types.specs.declared.reply.Mark.{Mark}
-use Rattle.venue_types.specs.declared.reply.StepRow.{StepRow}
 use Rattle.venue_types.specs.declared.settings.Profile.{Profile}
 use Rattle.walk_laws.specs.Walks.{IsWalk, HasWalk}
 use Rattle.venue_types.specs.declared.features.Features.{Features}
@@ -19,8 +16,8 @@ use Rattle.route_search.specs.declared.found.Found.TheVariants.{Route, Cut}
 use Rattle.route_search.specs.Answers.{IsAnswer}
 use Rattle.route_search.specs.Answers as search
 use Rattle.venue_history.specs.Closed.{Version}
-use Rattle.venue_history.specs.Ways.{Usable, name_of, step_of, mark_of}
-use Rattle.venue_history.specs.Answers.{IfAsked, IsTrip, AreShown, AreReached, IsRoute, IsNoRoute}
+use Rattle.venue_history.specs.Ways.{Usable, name_of}
+use Rattle.venue_history.specs.Answers.{IfAsked, IsTrip, AreReached, IsNoRoute}
 
 walk_over : (P Q : Link → Type 0) → ((link : Link) → P link → Q link) → (walk : List Link) (a b : ℕ) → IsWalk link_view P a b walk → IsWalk link_view Q a b walk
 walk_over P Q over [] a b w = w
@@ -79,25 +76,6 @@ asked_so true (Some x) P Q so p = so x p
 asked_so true None P Q so p = absurd p
 asked_so false None P Q so p = p
 asked_so false (Some x) P Q so p = absurd p
-
--- what is told of a walk
-pub route_told : (v : Version) (from to : FeatureId) (name : List ℕ) (certificate : Bool) (a : ℕ) (walk : List Link) (cost : ℕ) (listed : List Potential)
-    (start : FeatureId) (steps : List StepRow) (marks : Option (List Mark)) → start ≡ name_of v a → steps ≡ map (step_of v) walk
-    → IfAsked certificate (λ told. told ≡ map (mark_of v) listed) marks
-    → (profile : Profile) (b : ℕ) → IsTrip v from to name profile a b → search.IsRoute (Usable v profile) a b walk cost listed
-    → IsRoute v from to name certificate start cost steps marks
-route_told v from to name certificate a walk cost listed start steps marks started stepped told profile b trip r = record {
-  profile = profile;
-  a = a;
-  b = b;
-  trip = trip;
-  walk = walk;
-  least = r.least;
-  stepped = stepped;
-  started = started;
-  shown = asked_so certificate marks (λ told. told ≡ map (mark_of v) listed) (AreShown v profile a b cost)
-      (λ told is. record { listed = listed; told = is; rising = r.rising; below = r.below; certificate = r.certificate }) told;
-}
 
 -- what is told where there is none
 pub cut_told : (v : Version) (from to : FeatureId) (name : List ℕ) (certificate : Bool) (a : ℕ) (nodes : List ℕ) (names : Option (List FeatureId))
