@@ -1,13 +1,13 @@
 //! The rows of a table, by the units and the relationships that links go by.
 
 ghost use Rattle.std.specs.Prelude.{◌≡◌, ◌<◌, ◌≤◌, ℕ, List, OnOk, All, Contains, Some, length, slice_get};
+ghost use Rattle.std.specs.List.{flat_map};
 ghost use Rattle.link_graph.specs.declared.areas.Area.{Area as AnArea};
 ghost use Rattle.link_graph.specs.Areas.{area_links, areas, passages};
 ghost use Rattle.link_graph.specs.Graphs.{network};
 ghost use Rattle.link_tables.specs.Adding.{Adds, rows_from};
 ghost use Rattle.link_tables.specs.Passing.{id_at, link_row, rows_of};
 ghost use Rattle.route_certificate.specs.Forms.{FitsId};
-ghost use Rattle.std.specs.List.{flat_map};
 
 use crate::ids::way_id;
 use crate::passing::{may_cross, may_use, passing};
