@@ -12,9 +12,9 @@ use venue_build::{Venue, every_name};
 use venue_types::{Ask, FeatureId, List, OutOfMemory, PlaceRow, Query, Reply, Which};
 
 impl Board {
-    /// Answers a question at this version. The version is told in no time, a place in that of two searches in an index, what is closed
-    /// and all places in one pass, and a way by a search over the links. Takes memory for the answer, and for a way besides 32 bytes
-    /// or so a node.
+    /// Answers a question at this version. The version is told in no time, a place by its number in an index, what is closed and all
+    /// places in one pass, and a way by a search over the links and a pass over what it finds. Takes memory for the answer, and for a
+    /// way besides that of the search.
     pub fn ask(&self, alloc: Global, query: &Query) -> Reply
         ensures { Answers self.now query.now result }
     {
@@ -30,7 +30,7 @@ impl Board {
         }
     }
 
-    /// The version that is asked for, if it isn't there yet.
+    // The version that is asked for, if it isn't there yet.
     fn too_late(&self, since: Option<u32>) -> Option<u32>
         ensures some { IfSome result (λ number. (since ≡ Some number) × (self.now.number < number)) }
         ensures none { IfNone result (¬ IsTooEarly self.now since) }
@@ -47,7 +47,7 @@ impl Board {
         }
     }
 
-    /// Answers what is asked.
+    // Answers what is asked.
     fn answer(&self, alloc: Global, what: &Ask) -> Result<Reply, OutOfMemory>
         ensures { IfOk result (AnswersAsk self.now what.now) }
     {
@@ -75,7 +75,7 @@ impl Board {
         }
     }
 
-    /// Answers a question for a place.
+    // Answers a question for a place.
     fn place(&self, alloc: Global, id: FeatureId) -> Result<Reply, OutOfMemory>
         ensures { IfOk result (AnswersAsk self.now (ask.Place id)) }
     {
@@ -94,7 +94,7 @@ impl Board {
         }
     }
 
-    /// Whether a feature is closed; what can't be closed never is.
+    // Whether a feature is closed; what can't be closed never is.
     fn is_closed(&self, id: FeatureId) -> bool
         ensures { result ≡ is_closed self.now id }
     {
@@ -106,7 +106,7 @@ impl Board {
     }
 }
 
-/// All places of a venue.
+// All places of a venue.
 fn place_rows(alloc: Global, venue: &Venue) -> Result<List<PlaceRow>, OutOfMemory>
     ensures { IfOk result (λ rows. rows ≡ places venue.now.features) }
 {

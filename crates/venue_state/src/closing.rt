@@ -56,7 +56,7 @@ impl Board {
     }
 }
 
-/// The features that are marked, in their order.
+// The features that are marked, in their order.
 fn marked_ids(alloc: Global, graph: &Graph, marks: &Marks) -> Result<List<FeatureId>, OutOfMemory>
     requires { AreMarksOf (network graph.now) marks.now }
     ensures { IfOk result (λ ids. ids ≡ chosen marks.now (network graph.now).closables) }

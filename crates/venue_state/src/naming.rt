@@ -7,7 +7,7 @@ use crate::board::Board;
 use std::alloc::Global;
 use venue_types::{FeatureId, Link, List, Mark, OutOfMemory, Potential, StepRow};
 
-/// It stands for no feature.
+// It stands for no feature.
 const NO_NAME: FeatureId = FeatureId(0);
 
 impl Board {
@@ -23,7 +23,7 @@ impl Board {
         }
     }
 
-    /// The identifier of what a link goes by.
+    // The identifier of what a link goes by.
     fn way_name(&self, k: u32) -> FeatureId
         ensures { result ≡ way_name self.now k }
     {

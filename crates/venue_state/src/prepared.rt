@@ -72,7 +72,7 @@ impl Prepared {
         (entry, next)
     }
 
-    /// The board after it, if it is still to be had.
+    // The board after it, if it is still to be had.
     fn give(&mut self) -> Option<Board>
         ensures { IsGiven self.old self.new result }
     {

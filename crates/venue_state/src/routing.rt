@@ -19,7 +19,7 @@ use std::sync::ledger::{Blank, Ledger};
 use step_count::Steps;
 use venue_types::{FeatureId, List, Mark, OutOfMemory, Potential, Profile, Reply, Text, Which};
 
-/// Between which places a way is asked for, and for whom, as the reply repeats it.
+// Between which places a way is asked for, and for whom, as the reply repeats it.
 #[derive(Drop)]
 struct Trip {
     from: FeatureId,
@@ -28,7 +28,7 @@ struct Trip {
 }
 
 impl Board {
-    /// The profile of a name, the first if there are several.
+    // The profile of a name, the first if there are several.
     #[tactic(auto, unfolding(venue_history::specs::Ways::profile_of))]
     fn profile(&self, name: &Text) -> Option<&Profile>
         ensures { option_copied result ≡ profile_of self.now.settings name.now }
@@ -40,7 +40,7 @@ impl Board {
             .find(|profile| profile.name.as_str() == name)
     }
 
-    /// The node at which a place is.
+    // The node at which a place is.
     fn node_of(&self, id: FeatureId) -> Option<u32>
         ensures node { result ≡ place_of self.now.features id }
         ensures within { IfSome result (λ n. n < length (nodes self.now.features)) }
@@ -79,7 +79,7 @@ impl Board {
         }
     }
 
-    /// The answer of the search from node to node.
+    // The answer of the search from node to node.
     fn found(&self, alloc: Global, profile: &Profile, a: u32, b: u32) -> Result<Found, OutOfMemory>
         requires a_node { a < length (nodes self.now.features) }
         requires b_node { b < length (nodes self.now.features) }
@@ -88,7 +88,7 @@ impl Board {
         searched::<Brand>(alloc, Blank::new(1), self, profile, a, b)
     }
 
-    /// What was found as a reply.
+    // What was found as a reply.
     fn told(
         &self,
         alloc: Global,
@@ -126,7 +126,7 @@ impl Board {
         }
     }
 
-    /// Potentials as marks, where they were asked for.
+    // Potentials as marks, where they were asked for.
     fn shown(
         &self,
         alloc: Global,
@@ -143,7 +143,7 @@ impl Board {
         }
     }
 
-    /// The names of nodes, where they were asked for.
+    // The names of nodes, where they were asked for.
     fn reached(
         &self,
         alloc: Global,

@@ -180,7 +180,6 @@ impl<F: Folders> Hall for Alone<F> {
         ensures counts { CountsFault (F.faults (folders_of self.old)) (F.faults (folders_of self.new)) result }
     {
         change_law();
-        number_law();
         self.looks = self.looks.saturating_add(1);
         self.make(change)
     }
