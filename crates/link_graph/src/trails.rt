@@ -11,7 +11,7 @@ ghost use Rattle.link_graph.specs.Making.{IsGround, places_on, passages_from};
 use crate::laws::length_between_law;
 use plane_exact::{length_cm, length_law};
 use std::alloc::Global;
-use venue_nodes::{Nodes, number_law};
+use venue_nodes::Nodes;
 use venue_types::{Extras, Features, Kind, Link, OutOfMemory, Ref, RelationshipRow, Settings};
 
 /// What passages are made of.
@@ -165,7 +165,6 @@ impl Ground<'_> {
         ensures chain { IfOk result (λ chain. chain.items ≡ chain_of self.now.features.now row.now) }
         ensures within { IfOk result (λ chain. All (λ n. n < length (nodes_of self.now.features.now)) chain.items) }
     {
-        number_law();
         let mut chain = Vec::new(alloc);
         add_end(&mut chain, self.nodes, row.origin)?;
         add_places(&mut chain, self.nodes, row.between.as_slice())?;

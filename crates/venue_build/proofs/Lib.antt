@@ -5,4 +5,7 @@ mod Planes
 mod Grounds
 mod Noting
 mod Builds
+mod FirstRows
+mod PlaceRanges
+mod FewPlaces
 pub mod Silent

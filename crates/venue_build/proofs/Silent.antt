@@ -1,5 +1,5 @@
 -- Where no later phase finds anything, none of them does.
-use Rattle.std.proofs.Common.{ℕ, List, [], Option, Some, None, refl}
+use Rattle.std.proofs.Common.{ℕ, [], Option, Some, None, refl}
 use Rattle.venue_types.specs.declared.features.Features.{Features}
 use Rattle.venue_types.specs.declared.settings.Settings.{Settings}
 use Rattle.venue_types.specs.declared.finding.Finding.{Finding}

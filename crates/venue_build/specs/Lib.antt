@@ -6,3 +6,6 @@ pub mod Places
 pub mod Built
 pub mod Ground
 pub mod PlaceNumbers
+pub mod FirstRows
+pub mod PlaceFeatures
+pub mod Placing

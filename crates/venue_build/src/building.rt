@@ -11,6 +11,7 @@ ghost use Rattle.venue_build.specs.Built.{IsBuilt};
 ghost use Rattle.venue_build.specs.Report.{AreValid};
 
 use crate::ground::{Ground, Judged, ground_of};
+use crate::placing::Places;
 use crate::plane::plane_findings;
 use crate::{Built, Venue};
 use imdf_read::{ReadOut, read_folder};
@@ -95,8 +96,9 @@ fn built(
         Judged::Sound(ground) => {
             let notes = all_notes(&features, settings, &ground, noted)?;
             let graph = graph_of(alloc, &features, settings, ground)?;
+            let places = Places::of(alloc, &features)?;
             let kept = settings.copy(alloc)?;
-            Ok(Built::Venue(Venue::new(features, kept, notes, graph)))
+            Ok(Built::Venue(Venue::new(features, kept, notes, graph, places)))
         }
     }
 }

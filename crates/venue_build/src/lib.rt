@@ -7,7 +7,10 @@ mod built;
 mod graph_tests;
 mod ground;
 mod law;
+mod ordinals;
+mod place_feature;
 mod places;
+mod placing;
 mod plane;
 mod venue;
 

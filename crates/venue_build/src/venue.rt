@@ -4,20 +4,23 @@ ghost use Rattle.std.specs.Prelude.{◌≡◌};
 ghost use Rattle.link_graph.specs.Graphs.{network};
 ghost use Rattle.link_graph.specs.Networks.{IsNetworkOf};
 ghost use Rattle.venue_build.specs.Kept.{IsKept};
+ghost use Rattle.venue_build.specs.Placing.{ArePlaces};
 ghost use Rattle.venue_build.specs.Report.{AreValid};
 
+use crate::placing::Places;
 use link_graph::Graph;
 use std::marker::Model;
 use venue_types::{Features, List, Note, Settings};
 
 /// The rows of a folder that is published, the settings under which it was judged, and what is worth a note in it; beside them the
-/// graph of the rows, which contracts see by them alone.
+/// graph of the rows and what is kept of their places, which contracts see by them alone.
 #[derive(Drop)]
 pub struct Venue {
     features: Features,
     settings: Settings,
     notes: List<Note>,
     graph: Graph,
+    places: Places,
 }
 
 impl Model for Venue {
@@ -30,12 +33,18 @@ impl Model for Venue {
 
     ghost view = { λ a. record { features = a.features; settings = a.settings; notes = a.notes } };
 
-    ghost invariant = { λ a. IsKept a.features a.settings (network a.graph) };
+    ghost invariant = { λ a. IsKept a.features a.settings (network a.graph) a.places };
 }
 
 impl Venue {
-    pub(crate) fn new(features: Features, settings: Settings, notes: List<Note>, graph: Graph) -> Venue
-        requires { IsKept features settings (network graph) }
+    pub(crate) fn new(
+        features: Features,
+        settings: Settings,
+        notes: List<Note>,
+        graph: Graph,
+        places: Places,
+    ) -> Venue
+        requires { IsKept features settings (network graph) places }
         ensures features { result.features ≡ features }
         ensures settings { result.settings ≡ settings }
         ensures notes { result.notes ≡ notes }
@@ -45,6 +54,7 @@ impl Venue {
             settings,
             notes,
             graph,
+            places,
         }
     }
 
@@ -53,6 +63,13 @@ impl Venue {
         ensures { AreValid self.now.features self.now.settings }
     {
         let _ = &self.graph;
+    }
+
+    /// What it keeps of its places.
+    pub(crate) fn kept_places(&self) -> &Places
+        ensures { ArePlaces self.now.features result.now }
+    {
+        &self.places
     }
 
     /// The rows of its folder.

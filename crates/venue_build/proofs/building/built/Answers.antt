@@ -17,8 +17,10 @@ new-requires c =
     let settings = c.args.settings.now in
     let judged = subst (λ (j : Judged). IsJudged features settings j) c.in-Sound.is c.in_ok-findings.ensures in
     let valid : AreValid features settings = record { sound = c.requires; unbroken = judged.0 } in
-    let whole : IsKept features settings (network c.in_ok-graph-in-Sound.graph) = record { valid = valid; graph_is = c.in_ok-graph-in-Sound.ensures } in
-    subst (λ (s : Settings). IsKept features s (network c.in_ok-graph-in-Sound.graph)) (sym c.in_ok-kept-in-Sound.ensures) whole
+    let graph = network c.in_ok-graph-in-Sound.graph in
+    let places = c.in_ok-places-in-Sound.places in
+    let whole : IsKept features settings graph places = record { valid = valid; graph_is = c.in_ok-graph-in-Sound.ensures; places_are = c.in_ok-places-in-Sound.ensures } in
+    subst (λ (s : Settings). IsKept features s graph places) (sym c.in_ok-kept-in-Sound.ensures) whole
 
 pub returns-in_ok-kept-in-Sound : goal.returns-in_ok-kept-in-Sound
 returns-in_ok-kept-in-Sound c =

@@ -14,4 +14,4 @@ of-requires-clause-roomy c =
     let features = c.args.features.now in
     let settings = c.args.settings.now in
     none_crowds features settings.border_tol c.first_crowding-none.result (roomy features settings c.requires.valid.unbroken)
-        (c.first_crowding-none.ensures features settings.border_tol c.requires.ground.members)
+    (c.first_crowding-none.ensures features settings.border_tol c.requires.ground.members)
