@@ -14,10 +14,10 @@ use Rattle.venue_cli.specs.declared.answer.Answer.{Answer}
 use Rattle.venue_cli.specs.declared.making.Made.{Made}
 use Rattle.venue_cli.specs.declared.making.Made.TheVariants as made
 use Rattle.venue_cli.specs.declared.status.Status.TheVariants.{Done, Wrong}
-use Rattle.venue_cli.specs.Steps.{IsMade, IsLinked}
+use Rattle.venue_cli.specs.Steps.{IsMade, IsLinkedFor, IsLinked}
 use Rattle.venue_cli.specs.Checked.{NoVenue, HasVenue, CheckOutput, no_venue, accepted}
 use Rattle.venue_cli.specs.Linked.{profile_named, LinksOutput, no_venue as no_links, no_profile, linked}
-use Rattle.venue_cli.proofs.Making.{printed_as}
+use Rattle.venue_cli.proofs.VenueMaking.{printed_as}
 
 -- there is no venue, and this answer was given
 stopped_as : (fs : List StoredFile) (base folder : List ℕ) (m : Made) (answer : Answer) → IsMade fs base folder m → m ≡ made.Stopped answer → NoVenue fs base folder answer.text answer.status
@@ -45,9 +45,7 @@ links_stopped (Some fs) base folder name m answer told is = no_links (stopped_as
 
 -- what is printed for the profile that was found, or for none
 linked_for : (fs : List StoredFile) (base folder name : List ℕ) (venue : Venue) (answer : Answer) (found : Option Profile) → HasVenue fs base folder venue → profile_named venue.settings name ≡ found
-    → (elim found [
-         None ↦ (answer.text ≡ line (codes "profile")) × (answer.status ≡ Wrong)
-       | Some profile ↦ (answer.text ≡ table_text (table_of venue.features venue.settings profile)) × (answer.status ≡ Done) ])
+    → IsLinkedFor venue answer found
     → LinksOutput fs base folder name answer.text answer.status
 linked_for fs base folder name venue answer None has is printed =
     printed_as (LinksOutput fs base folder name) (line (codes "profile")) Wrong answer printed.0 printed.1 (no_profile venue has is)

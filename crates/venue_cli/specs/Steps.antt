@@ -3,6 +3,7 @@ use Rattle.std.specs.Prelude.{◌≡◌, ℕ, ◌<◌, ◌≤◌, List, length, 
 use Rattle.std.specs.declared.alloc.Global.{Global}
 use Rattle.venue_types.specs.declared.files.Files.{Files}
 use Rattle.venue_types.specs.declared.finding.Report.{Report}
+use Rattle.venue_types.specs.declared.settings.Profile.{Profile}
 use Rattle.venue_types.specs.declared.settings.Settings.{Settings}
 use Rattle.venue_ports.specs.Files.{StoredFile}
 use Rattle.line_forms.specs.Lines.{line}
@@ -73,8 +74,11 @@ abbrev pub IsMadeOf : Files → Settings → Made → Type 0
 IsMadeOf files settings (made.Stopped answer) = (report : Report) × IsRejected files settings report × (answer.text ≡ rejected_text report) × (answer.status ≡ Negative)
 IsMadeOf files settings (made.Venue venue) = IsVenueOf files settings venue
 
--- what is printed of a venue for the name of a profile: that there is none, or the table of the links that the profile may use
+-- what is printed of a venue where this profile has the name, or none: the table of the links that it may use, or that there is none
+abbrev pub IsLinkedFor : Venue → Answer → Option Profile → Type 0
+IsLinkedFor venue answer None = (answer.text ≡ line (codes "profile")) × (answer.status ≡ Wrong)
+IsLinkedFor venue answer (Some profile) = (answer.text ≡ table_text (table_of venue.features venue.settings profile)) × (answer.status ≡ Done)
+
+-- what is printed of a venue for the name of a profile
 abbrev pub IsLinked : Venue → List ℕ → Answer → Type 0
-IsLinked venue name answer = elim (profile_named venue.settings name) [
-  None ↦ (answer.text ≡ line (codes "profile")) × (answer.status ≡ Wrong)
-| Some profile ↦ (answer.text ≡ table_text (table_of venue.features venue.settings profile)) × (answer.status ≡ Done) ]
+IsLinked venue name answer = IsLinkedFor venue answer (profile_named venue.settings name)
