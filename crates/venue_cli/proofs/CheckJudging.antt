@@ -32,11 +32,13 @@ pub check_stopped : (files : Option (List StoredFile)) (base folder : List ℕ) 
 check_stopped None base folder m answer told is = tt
 check_stopped (Some fs) base folder m answer told is = no_venue (stopped_as fs base folder m answer told is)
 
-pub check_accepted : (files : Option (List StoredFile)) (base folder : List ℕ) (m : Made) (venue : Venue) (answer : Answer) → IfSome files (λ fs. IsMade fs base folder m) → m ≡ made.Venue venue
-    → answer.text ≡ accepted_text (feature_count venue.features) venue.notes → answer.status ≡ Done → IfSome files (λ fs. CheckOutput fs base folder answer.text answer.status)
-check_accepted None base folder m venue answer told is printed done = tt
-check_accepted (Some fs) base folder m venue answer told is printed done =
-    printed_as (CheckOutput fs base folder) (accepted_text (feature_count venue.features) venue.notes) Done answer printed done (accepted venue (venue_as fs base folder m venue told is))
+pub check_accepted : (files : Option (List StoredFile)) (base folder : List ℕ) (m : Made) (venue : Venue) (r : Result Answer ReadFault) → IfSome files (λ fs. IsMade fs base folder m)
+    → m ≡ made.Venue venue → IfOk r (λ a. a.text ≡ accepted_text (feature_count venue.features) venue.notes) → IfOk r (λ a. a.status ≡ Done)
+    → IfOk r (λ a. IfSome files (λ fs. CheckOutput fs base folder a.text a.status))
+check_accepted files base folder m venue (Err e) told is printed done = tt
+check_accepted None base folder m venue (Ok a) told is printed done = tt
+check_accepted (Some fs) base folder m venue (Ok a) told is printed done =
+    printed_as (CheckOutput fs base folder) (accepted_text (feature_count venue.features) venue.notes) Done a printed done (accepted venue (venue_as fs base folder m venue told is))
 
 pub links_stopped : (files : Option (List StoredFile)) (base folder name : List ℕ) (m : Made) (answer : Answer) → IfSome files (λ fs. IsMade fs base folder m) → m ≡ made.Stopped answer
     → IfSome files (λ fs. LinksOutput fs base folder name answer.text answer.status)

@@ -15,6 +15,7 @@ use Rattle.venue_cli.specs.Output.{PriceOutput, Output, other_words, answers_pri
 use Rattle.venue_cli.specs.Verified.{VerifyOutput}
 use Rattle.venue_cli.specs.Checked.{CheckOutput}
 use Rattle.venue_cli.specs.Linked.{LinksOutput}
+use Rattle.venue_cli.proofs.VenueMaking.{printed_as}
 use Rattle.venue_cli.specs.Ends.{Wrote, Run, NoFault, folder_fault, Ends}
 
 pub price_told : (words : List (List ℕ)) (files : Option (List StoredFile)) (base : List ℕ) (r : Result Answer ReadFault) → IsBase base → words ≡ words_of (Price base)
@@ -51,10 +52,10 @@ asks_nothing words no_price no_verify no_check no_links (Verify base) is-asked i
 asks_nothing words no_price no_verify no_check no_links (Check base folder) is-asked is = no_check base folder is-asked.0 is-asked.1 is
 asks_nothing words no_price no_verify no_check no_links (Links base folder profile) is-asked is = no_links base folder profile is-asked.0 is-asked.1 is
 
-pub other_told : (words : List (List ℕ)) (files : Option (List StoredFile)) (text : List ℕ) → ((asked : Asked) → IsAsked asked → words ≡ words_of asked → ⊥) → text ≡ line (codes "words")
-    → IfSome files (λ fs. Output words fs text Wrong)
-other_told words None text none is = tt
-other_told words (Some fs) text none is = subst (λ (t : List ℕ). Output words fs t Wrong) (sym is) (other_words none)
+pub other_told : (words : List (List ℕ)) (files : Option (List StoredFile)) (answer : Answer) → ((asked : Asked) → IsAsked asked → words ≡ words_of asked → ⊥) → answer.text ≡ line (codes "words")
+    → answer.status ≡ Wrong → IfSome files (λ fs. Output words fs answer.text answer.status)
+other_told words None answer none is wrong = tt
+other_told words (Some fs) answer none is wrong = printed_as (Output words fs) (line (codes "words")) Wrong answer is wrong (other_words none)
 
 pub ends_printed : (words : List (List ℕ)) (files : Option (List StoredFile)) (run : Run) (status : Status) (text : List ℕ) → IsPrinted status → Wrote run.written run.written_now text
     → NoFault run → IfSome files (λ fs. Output words fs text status) → Ends words files run status

@@ -1,6 +1,6 @@
 -- From settings and files to the venue of a folder, or to what stops the command.
 use Rattle.std.proofs.Common.{◌≡◌, ℕ, List, Option, Some, None, Result, Ok, Err, sym, subst}
-use Rattle.std.specs.Prelude.{IfOk, IfSome, String, string_bytes}
+use Rattle.std.specs.Prelude.{◌≤◌, IfOk, IfErr, IfSome, String, string_bytes}
 use Rattle.std.specs.declared.alloc.Global.{Global}
 use Rattle.venue_types.specs.declared.files.Files.{Files}
 use Rattle.venue_types.specs.declared.finding.Report.{Report}
@@ -8,8 +8,9 @@ use Rattle.venue_types.specs.declared.settings.Settings.{Settings}
 use Rattle.venue_build.specs.Venues.{SeenVenue as Venue}
 use Rattle.venue_build.specs.Built.{IsRejected, IsVenueOf}
 use Rattle.check_text.specs.Text.{rejected_text}
-use Rattle.venue_ports.specs.Files.{StoredFile, file_at}
+use Rattle.venue_ports.specs.Files.{StoredFile, file_at, HasReadCause}
 use Rattle.venue_ports.specs.declared.folders.ReadFault.{ReadFault}
+use Rattle.venue_ports.specs.declared.folders.ReadFault.TheVariants.{OutOfMemory}
 use Rattle.venue_folder.specs.Shelves.{folder_path, folder_files}
 use Rattle.venue_cli.specs.declared.answer.Answer.{Answer}
 use Rattle.venue_cli.specs.declared.making.Made.{Made}
@@ -62,3 +63,8 @@ pub is_made : (files files' : Option (List StoredFile)) (base folder path : List
 is_made files files' base folder path settled settings held (Err e) same told is joined read of = tt
 is_made files files' base folder path settled settings held (Ok m) same told is joined read of =
     is_made_as files files' base folder path settled settings held m same told is joined read of
+
+-- what came after a read that did not fail lacked memory at most
+pub memory_cause : {Y : Type 0} (before now : ℕ) (r : Result Y ReadFault) → before ≤ now → now ≡ before → IfErr r (λ why. why ≡ OutOfMemory) → HasReadCause before now r
+memory_cause before now (Ok y) later kept memory = record { later = later; failed = λ is. absurd cc; kept = kept; kept_without_memory = λ is. kept }
+memory_cause before now (Err e) later kept memory = record { later = later; failed = λ is. absurd cc; kept = tt; kept_without_memory = λ is. kept }

@@ -1,7 +1,8 @@
 //! The command `check`.
 
-ghost use Rattle.std.specs.Prelude.{◌≡◌, IfOk, IfSome};
+ghost use Rattle.std.specs.Prelude.{◌≡◌, IfOk, IfErr, IfSome};
 ghost use Rattle.venue_ports.specs.Files.{HasReadCause};
+ghost use Rattle.venue_ports.specs.declared.folders.ReadFault.TheVariants.{OutOfMemory as NoMemory};
 ghost use Rattle.feature_rows.specs.Rows.{feature_count};
 ghost use Rattle.check_text.specs.Text.{accepted_text};
 ghost use Rattle.venue_cli.specs.Checked.{CheckOutput};
@@ -12,15 +13,17 @@ use crate::making::{Made, venue_of};
 use crate::status::Status;
 use check_text::accepted_text;
 use feature_rows::feature_count;
-use std::alloc::{AllocError, Global};
-use venue_build::Venue;
+use std::alloc::Global;
+use venue_build::{Venue, every_venue};
 use venue_ports::{Folders, ReadFault};
 
 // The answer where the folder makes this venue.
-fn accepted(alloc: Global, venue: &Venue) -> Result<Answer, AllocError>
+fn accepted(alloc: Global, venue: &Venue) -> Result<Answer, ReadFault>
     ensures text { IfOk result (λ answer. answer.text ≡ accepted_text (feature_count venue.now.features) venue.now.notes) }
     ensures status { IfOk result (λ answer. answer.status ≡ Status.Done) }
+    ensures memory { IfErr result (λ why. why ≡ NoMemory) }
 {
+    every_venue(venue);
     let count = feature_count(venue.features());
     let text = accepted_text(alloc, count, venue.notes().as_slice())?;
     Ok(printed(Status::Done, text))
@@ -38,8 +41,9 @@ pub(crate) fn check_answer<F: Folders>(
     ensures same { F.files folders.new ≡ F.files folders.old }
     ensures cause { HasReadCause (F.faults folders.old) (F.faults folders.new) result }
 {
-    match venue_of(alloc, base, folder, folders)? {
+    let made = venue_of(alloc, base, folder, folders)?;
+    match made {
         Made::Stopped(answer) => Ok(answer),
-        Made::Venue(venue) => Ok(accepted(alloc, &venue)?),
+        Made::Venue(venue) => accepted(alloc, &venue),
     }
 }

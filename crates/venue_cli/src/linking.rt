@@ -1,11 +1,14 @@
 //! The command `links`.
 
-ghost use Rattle.std.specs.Prelude.{◌≡◌, IfOk, IfErr, IfSome, IfNone, Some, None};
+ghost use Rattle.std.specs.Prelude.{◌≡◌, IfOk, IfErr, IfSome};
+ghost use Rattle.std.specs.List.{find};
+ghost use Rattle.std.specs.Option.{option_copied};
+ghost use Rattle.std.specs.Str.{bytes_eq};
 ghost use Rattle.venue_ports.specs.Files.{HasReadCause};
 ghost use Rattle.venue_ports.specs.declared.folders.ReadFault.TheVariants.{OutOfMemory as NoMemory};
 ghost use Rattle.route_certificate.specs.Forms.{table_text};
 ghost use Rattle.link_tables.specs.Tables.{table_of};
-ghost use Rattle.venue_cli.specs.Linked.{LinksOutput, profile_named};
+ghost use Rattle.venue_cli.specs.Linked.{LinksOutput};
 ghost use Rattle.venue_cli.specs.Steps.{IsLinked, IsPrinted};
 
 use crate::answer::{Answer, printed};
@@ -20,8 +23,7 @@ use venue_types::{Bytes, OutOfMemory, Profile, Settings};
 
 // The profile of the settings that has this name.
 fn profile_named<'a>(settings: &'a Settings, name: &str) -> Option<&'a Profile>
-    ensures found { IfSome result (λ profile. profile_named settings.entry.now name.now ≡ Some profile.now) }
-    ensures none { IfNone result (profile_named settings.entry.now name.now ≡ None) }
+    ensures { option_copied result ≡ find (λ profile. bytes_eq profile.name name.now) settings.now.profiles }
 {
     settings.profiles.as_slice().iter().find(|profile| profile.name.as_str() == name)
 }
@@ -65,7 +67,8 @@ pub(crate) fn links_answer<F: Folders>(
     ensures same { F.files folders.new ≡ F.files folders.old }
     ensures cause { HasReadCause (F.faults folders.old) (F.faults folders.new) result }
 {
-    match venue_of(alloc, base, folder, folders)? {
+    let made = venue_of(alloc, base, folder, folders)?;
+    match made {
         Made::Stopped(answer) => Ok(answer),
         Made::Venue(venue) => linked(alloc, &venue, profile),
     }

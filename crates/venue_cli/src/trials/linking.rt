@@ -16,7 +16,7 @@ fn judge_links(rt: &impl Abort, alloc: Global, row: &LinkRow) -> Result<(), Fail
     let words = ["links", "base", "station", row.profile];
     let printed = ending(rt, alloc, files, 0, &words)?;
     assert_eq!(rt; printed.status, 0, "at {name}");
-    let text = str::from_utf8(printed.text.as_slice())?;
+    let text = str::from_utf8(printed.text.as_slice()).expect(rt, "text");
     let lines: Vec<&str> = text.lines().collect(alloc)?;
     let links = lines.iter().filter(|line| line.starts_with("link ")).count();
     let nodes = lines.iter().filter(|line| line.starts_with("node ")).count();

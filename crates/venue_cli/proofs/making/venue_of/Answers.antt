@@ -4,8 +4,8 @@ use Rattle.venue_cli.proofs.making.venue_of.Goals as goal
 
 pub returns-in-Err-clause-told : goal.returns-in-Err-clause-told
 returns-in-Err-clause-told g c =
-    stops_at_settings (g.F.Folders.files c.args.folders.now) c.args.base.now c.args.folder.now c.in_ok-settings.field-0 c.in-Err.text c.printed-in-Err.result c.in_ok-settings.ensures.told c.in-Err.is
-    c.printed-in-Err.ensures.text c.printed-in-Err.ensures.status
+    stops_at_settings (g.F.Folders.files c.args.folders.now) c.args.base.now c.args.folder.now c.in_ok-settings.field-0 c.in-Err.text c.printed.result c.in_ok-settings.ensures.told c.in-Err.is
+    c.printed.ensures.text c.printed.ensures.status
 
 pub returns-clause-told : goal.returns-clause-told
 returns-clause-told g c =
