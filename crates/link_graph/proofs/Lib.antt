@@ -24,4 +24,5 @@ pub mod AskingMarks
 pub mod AskingLinks
 pub mod AskingRanges
 pub mod AskingDoors
+pub mod AreaLinks
 pub mod Detouring

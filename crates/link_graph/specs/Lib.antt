@@ -13,3 +13,4 @@ pub mod Graphs
 pub mod Making
 pub mod Faults
 pub mod Leads
+pub mod Areas

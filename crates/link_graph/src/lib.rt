@@ -1,6 +1,7 @@
 //! The links of a venue: which there are, in which order, what they cost, what they ask of who uses them, and which are open.
 #![tactic(auto)]
 
+mod areas;
 mod asking;
 mod building;
 mod calls;
@@ -23,6 +24,7 @@ mod stretches;
 mod trails;
 mod ways;
 
+pub use areas::Area;
 pub use faults::GraphFault;
 pub use graph::Graph;
 pub use laws::{detour_law, inside_law, length_between_law, range_law, whole_law};

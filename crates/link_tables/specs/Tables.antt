@@ -1,5 +1,5 @@
 -- The table of the links that a profile may use.
-use Rattle.std.specs.Prelude.{ℕ, List, map, filter, Bool, Option, Some, None, slice_get}
+use Rattle.std.specs.Prelude.{ℕ, List, map, filter, Some, None, slice_get}
 use Rattle.venue_types.specs.declared.feature_id.FeatureId.{FeatureId}
 use Rattle.venue_types.specs.declared.features.Features.{Features}
 use Rattle.venue_types.specs.declared.link.Link.{Link}

@@ -1,18 +1,17 @@
 -- What is known between two nodes that are settled.
-use Rattle.std.proofs.Common.{◌≡◌, ◌≢◌, ◌⊎◌, inl, inr, ◌↔◌, ℕ, zero, suc, ◌+◌, ◌*◌, ◌<◌, ◌≤◌, Bool, true, false, List, length, Option, Some, None, set, replicate, refl, sym, ap, subst, ◌∙◌, arith}
+use Rattle.std.proofs.Common.{◌≡◌, ◌≢◌, ◌⊎◌, inl, inr, ◌↔◌, ℕ, ◌+◌, ◌<◌, ◌≤◌, Bool, true, false, List, length, Option, Some, None, set, replicate, refl, sym, ap, subst, ◌∙◌, arith}
 use Rattle.std.specs.Prelude.{Contains, slice_get}
 use Rattle.std.proofs.lemmas.List.{get_or-set_same, get_or-set_other, length-set, get_or-replicate, length-replicate, get_or_past}
 use Rattle.std.proofs.lemmas.Option.{slice_get_within}
-use Rattle.std.proofs.lemmas.Bool.{cases_eq, cases_lt, cases_Bool}
+use Rattle.std.proofs.lemmas.Bool.{cases_eq, cases_lt}
 use Rattle.venue_types.specs.declared.link.Link.{Link}
 use Rattle.link_graph.specs.Networks.{Network, links_out}
-use Rattle.route_search.specs.declared.frontier.Frontier.{Frontier}
 use Rattle.route_search.specs.declared.labels.Last.{Last}
 use Rattle.route_search.specs.declared.state.State.{State}
-use Rattle.route_search.specs.Labels.{no_cost, cost_at, last_at, IsLabelled, IsFirst, IsHop, Hops, IsTree, AreOver, IsRelaxed, IsFound, IsSpent}
-use Rattle.route_search.specs.Waiting.{Waits, waiting, IsPushed, IsPopped}
-use Rattle.route_search.specs.States.{settled_at, open_sum, cost_in, last_in, settled_in, IsReached, IsRelaxedFrom, IsStep, IsEmpty, IsFrom, ComesBy, Room, IsEntry, Grows, IsBetween, IsBegun, IsEnded}
-use Rattle.route_search.specs.Scans.{IsQuiet, HangsOn, IsAmid, IsScanned}
+use Rattle.route_search.specs.Labels.{no_cost, cost_at, last_at, IsLabelled, Hops, IsTree, AreOver, IsRelaxed, IsFound, IsSpent}
+use Rattle.route_search.specs.Waiting.{Waits, IsPopped}
+use Rattle.route_search.specs.States.{settled_at, open_sum, cost_in, last_in, settled_in, IsReached, IsRelaxedFrom, IsStep, IsFrom, ComesBy, IsEntry, Grows, IsBetween, IsBegun, IsEnded}
+use Rattle.route_search.specs.Scans.{HangsOn, IsAmid, IsLater, IsScanned}
 use Rattle.route_search.proofs.Covers.{out_place}
 use Rattle.route_search.proofs.Detours.{HasDetours, detour_relaxed}
 use Rattle.route_search.proofs.Lowered.{cost-set_same, cost-set_other}
@@ -28,7 +27,7 @@ settled-set_other settled i n y other = get_or-set_other settled i n y false oth
 
 -- ---- a node is taken from what waits
 
-module _ (IsLink : Link → Type 0) (nodes from : ℕ) (old new : State) (between : IsBetween IsLink nodes from old) (cost node : ℕ)
+module _ (IsLink : Link → Type 0) (nodes : ℕ) (old new : State) (between : IsBetween IsLink nodes old) (cost node : ℕ)
     (popped : IsPopped old.frontier new.frontier cost node) (costs : new.costs.items ≡ old.costs.items) (lasts : new.lasts.items ≡ old.lasts.items) where
   cost_same : (n : ℕ) → cost_in new n ≡ cost_in old n
   cost_same n = ap (λ (cs : List ℕ). cost_at cs n) costs
@@ -58,12 +57,6 @@ module _ (IsLink : Link → Type 0) (nodes from : ℕ) (old new : State) (betwee
   comes : (stays : (m : ℕ) → settled_in old m ≡ true → settled_in new m ≡ true) (n : ℕ) → IsReached new n → ComesBy IsLink new n (last_in new n).by
   comes stays n is = subst (λ (o : Option Link). ComesBy IsLink new n o) (sym (ap (λ (y : Last). y.by) (last_same n))) (moved stays n (last_in old n).by (between.tree.comes n (known n is)))
 
-  root : IsFrom from new
-  root = record {
-    start = cost_same from ∙ between.root.start;
-    only = λ n is none. between.root.only n (known n is) (sym (ap (λ (y : Last). y.by) (last_same n)) ∙ none);
-  }
-
   pub node_within : node < nodes
   node_within = (between.tree.entries cost node popped.waited).node
 
@@ -83,10 +76,9 @@ module _ (IsLink : Link → Type 0) (nodes from : ℕ) (old new : State) (betwee
       ]
     ]
 
-    pub skipped : IsBetween IsLink nodes from new
+    pub skipped : IsBetween IsLink nodes new
     skipped = record {
       now = between.now;
-      root = root;
       tree = record {
         costs_count = ap length costs ∙ between.tree.costs_count;
         lasts_count = ap length lasts ∙ between.tree.lasts_count;
@@ -158,10 +150,9 @@ module _ (IsLink : Link → Type 0) (nodes from : ℕ) (old new : State) (betwee
 
 -- ---- the links of a node were regarded
 
-module _ (given : Network) (IsLink : Link → Type 0) (nodes from node : ℕ) (old new : State) (scanned : IsScanned given IsLink nodes node 0 (length (links_out given node)) old new)
+module _ (given : Network) (IsLink : Link → Type 0) (nodes node : ℕ) (old new : State) (scanned : IsScanned given IsLink nodes node 0 (length (links_out given node)) old new)
     (member : (link : Link) → Contains given.links link ↔ (link.from < length given.nodes) × (place : ℕ) × (slice_get (links_out given link.from) place ≡ Some link))
-    (there : (link : Link) → IsLink link → Contains given.links link) (detours : HasDetours given IsLink) (start : cost_in old from ≡ 0)
-    (only : (n : ℕ) → IsReached old n → (last_in old n).by ≡ None → n ≡ from) where
+    (there : (link : Link) → IsLink link → Contains given.links link) (detours : HasDetours given IsLink) where
   relaxed_here : IsRelaxedFrom IsLink new node
   relaxed_here link is at =
       let (place, here) = out_place given node link (member link) (there link is) at in
@@ -174,13 +165,9 @@ module _ (given : Network) (IsLink : Link → Type 0) (nodes from node : ℕ) (o
       let (same, unit) = hangs.quiet second (there second is_second) at in
       detour_relaxed given IsLink new n hangs.link second detours step (subst (IsRelaxedFrom IsLink new) (sym hangs.from) relaxed_here) is_second at same unit
 
-  pub closed : IsBetween IsLink nodes from new
+  pub closed : IsBetween IsLink nodes new
   closed = record {
     now = cost_in new node;
-    root = record {
-      start = omega (arith, scanned.later.lower from, start);
-      only = λ n is none. (let was = scanned.later.roots n is none in only n was.0 was.1);
-    };
     tree = scanned.amid.tree;
     done = λ n so. elim (cases_eq n node) [
       | inl same ↦ subst (IsRelaxedFrom IsLink new) (sym same) relaxed_here
@@ -195,6 +182,22 @@ module _ (given : Network) (IsLink : Link → Type 0) (nodes from node : ℕ) (o
       ]
     ];
   }
+
+-- ---- the start stays the only one
+
+pub root_same : (from : ℕ) (old new : State) → new.costs.items ≡ old.costs.items → new.lasts.items ≡ old.lasts.items → IsFrom from old → IsFrom from new
+root_same from old new costs lasts root =
+    let cost_same : (n : ℕ) → cost_in new n ≡ cost_in old n = λ n. ap (λ (cs : List ℕ). cost_at cs n) costs in
+    record {
+      start = cost_same from ∙ root.start;
+      only = λ n is none. root.only n (subst (λ (k : ℕ). k < no_cost) (cost_same n) is) (sym (ap (λ (ls : List Last). (last_at ls n).by) lasts) ∙ none);
+    }
+
+pub root_later : (from node more : ℕ) (old new : State) → IsLater node more old new → IsFrom from old → IsFrom from new
+root_later from node more old new later root = record {
+  start = omega (arith, later.lower from, root.start);
+  only = λ n is none. (let was = later.roots n is none in root.only n was.0 was.1);
+}
 
 -- ---- the end
 
@@ -248,20 +251,31 @@ ended_moved IsLink nodes from to old new costs lasts was =
     record { tree = moved.0; found = moved.1; spent = moved.2 }
 
 -- nothing waits
-pub ended_spent : (IsLink : Link → Type 0) (nodes from to : ℕ) (old new : State) → ((link : Link) → IsLink link → link.cost ≤ 6700000) → IsBetween IsLink nodes from old
+pub ended_spent : (IsLink : Link → Type 0) (nodes from to : ℕ) (old new : State) → ((link : Link) → IsLink link → link.cost ≤ 6700000) → IsFrom from old → IsBetween IsLink nodes old
     → ((c n : ℕ) → Waits old.frontier c n → ⊥) → new.costs.items ≡ old.costs.items → new.lasts.items ≡ old.lasts.items → IsEnded IsLink nodes from to new
-ended_spent IsLink nodes from to old new short between none costs lasts =
-    ended_moved IsLink nodes from to old new costs lasts (ended IsLink nodes from to between.now old short between.root between.tree (λ n is less. elim (between.progress n is) [ inl waits ↦ absurd (none _ n waits) | inr was ↦ was ]))
+ended_spent IsLink nodes from to old new short root between none costs lasts =
+    ended_moved IsLink nodes from to old new costs lasts (ended IsLink nodes from to between.now old short root between.tree (λ n is less. elim (between.progress n is) [ inl waits ↦ absurd (none _ n waits) | inr was ↦ was ]))
 
 -- the end is the next of what waits
-pub ended_found : (IsLink : Link → Type 0) (nodes from to cost node : ℕ) (old new : State) → ((link : Link) → IsLink link → link.cost ≤ 6700000) → IsBetween IsLink nodes from old
+pub ended_found : (IsLink : Link → Type 0) (nodes from to cost node : ℕ) (old new : State) → ((link : Link) → IsLink link → link.cost ≤ 6700000) → IsFrom from old → IsBetween IsLink nodes old
     → IsPopped old.frontier new.frontier cost node → cost_in old node ≡ cost → node ≡ to → new.costs.items ≡ old.costs.items → new.lasts.items ≡ old.lasts.items → IsEnded IsLink nodes from to new
-ended_found IsLink nodes from to cost node old new short between popped fresh same costs lasts =
+ended_found IsLink nodes from to cost node old new short root between popped fresh same costs lasts =
     let cost_to : cost_in old to ≡ cost = subst (λ (k : ℕ). cost_in old k ≡ cost) same fresh in
-    ended_moved IsLink nodes from to old new costs lasts (ended IsLink nodes from to between.now old short between.root between.tree (λ n is less. elim (between.progress n is) [
+    ended_moved IsLink nodes from to old new costs lasts (ended IsLink nodes from to between.now old short root between.tree (λ n is less. elim (between.progress n is) [
       | inl waits ↦ absurd (omega (arith, popped.least _ n waits, cost_to, less))
       | inr was ↦ was
     ]))
+
+-- ---- the end, as it is handed out
+
+pub tree_as : (nodes from : ℕ) (costs costs' : List ℕ) (lasts lasts' : List Last) → costs' ≡ costs → lasts' ≡ lasts → IsTree nodes from costs lasts → IsTree (length costs') from costs' lasts'
+tree_as nodes from costs costs' lasts lasts' same_costs same_lasts tree =
+    let count : length costs' ≡ nodes = ap length same_costs ∙ tree.costs_count in
+    let moved : IsTree nodes from costs' lasts' = subst (λ (cs : List ℕ). IsTree nodes from cs lasts') (sym same_costs) (subst (λ (ls : List Last). IsTree nodes from costs ls) (sym same_lasts) tree) in
+    subst (λ (n : ℕ). IsTree n from costs' lasts') (sym count) moved
+
+pub few_as : (nodes from : ℕ) (costs costs' : List ℕ) (lasts : List Last) → costs' ≡ costs → nodes ≤ 400000 → IsTree nodes from costs lasts → length costs' ≤ 400000
+few_as nodes from costs costs' lasts same few tree = let count : length costs' ≡ nodes = ap length same ∙ tree.costs_count in omega arith
 
 -- ---- the start
 
@@ -317,10 +331,12 @@ module _ (IsLink : Link → Type 0) (nodes from : ℕ) (state : State) (begun : 
   opens_all : open_sum (λ _. 1) 0 state.settled.items ≡ nodes
   opens_all = ap (open_sum (λ _. 1) 0) begun.settled ∙ ones_begun nodes
 
-  pub begun_between : IsBetween IsLink nodes from state
+  pub begun_from : IsFrom from state
+  begun_from = record { start = cost_start; only = λ n is none. only_start n is }
+
+  pub begun_between : IsBetween IsLink nodes state
   begun_between = record {
     now = 0;
-    root = record { start = cost_start; only = λ n is none. only_start n is };
     tree = record {
       costs_count = ap length begun.costs ∙ length-set (replicate nodes no_cost) from 0 ∙ length-replicate nodes no_cost;
       lasts_count = ap length begun.lasts ∙ length-replicate {A = Last} nodes (record { by = None; depth = 0 });

@@ -1,13 +1,13 @@
 -- Links across the unit by which a node was reached lead to no new node and to none for less.
-use Rattle.std.proofs.Common.{◌≡◌, ◌≢◌, ◌⊎◌, inl, inr, ℕ, ◌+◌, ◌<◌, ◌≤◌, Bool, true, List, length, Option, Some, None, refl, sym, ap, subst, ◌∙◌, arith}
-use Rattle.std.specs.Prelude.{Contains, slice_get}
+use Rattle.std.proofs.Common.{◌≡◌, ◌≢◌, ◌⊎◌, inl, inr, ℕ, ◌+◌, ◌≤◌, Option, Some, None, refl, sym, ap, subst, ◌∙◌, arith}
+use Rattle.std.specs.Prelude.{slice_get}
 use Rattle.venue_types.specs.declared.link.Link.{Link}
 use Rattle.link_graph.specs.declared.stretches.Stretch.{Stretch}
-use Rattle.link_graph.specs.Networks.{Network, AreStretches, GoesBy, links_out}
+use Rattle.link_graph.specs.Networks.{Network, AreStretches, links_out}
 use Rattle.link_graph.specs.Usable.{IsWayAcross}
 use Rattle.route_search.specs.declared.state.State.{State}
-use Rattle.route_search.specs.Labels.{cost_at, IsRelaxed}
-use Rattle.route_search.specs.States.{cost_in, last_in, IsReached, IsRelaxedFrom, IsStep, ComesBy}
+use Rattle.route_search.specs.Labels.{IsRelaxed}
+use Rattle.route_search.specs.States.{cost_in, last_in, IsRelaxedFrom, IsStep, ComesBy}
 use Rattle.route_search.specs.Scans.{IsVia, IsPassedOver, IsAmid, AreRelaxed, IsScanned, IsStretchOf}
 use Rattle.route_search.proofs.Scanned.{passed}
 

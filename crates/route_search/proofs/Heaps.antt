@@ -1,12 +1,10 @@
 -- What a push and a pop of the heap mean for what waits.
-use Rattle.std.proofs.Common.{◌≡◌, ℕ, ◌+◌, ◌≤◌, ◌<◌, suc, zero, false, List, [], ◌∷◌, refl, sym, subst, arith, inl, inr, ◌⊎◌, ◌∙◌, length, get_or, ap, lit<}
+use Rattle.std.proofs.Common.{◌≡◌, ℕ, ◌+◌, ◌≤◌, suc, zero, false, List, [], ◌∷◌, refl, arith, inl, inr, ◌⊎◌, length, ap}
 use Rattle.std.specs.declared.cmp.Reverse.{Reverse}
-use Rattle.std.specs.declared.cmp.Ordering.{Ordering}
-use Rattle.std.specs.declared.cmp.Ordering.TheVariants.{Less, Equal, Greater}
-use Rattle.std.specs.List.{Contains, AllByRecursion}
+use Rattle.std.specs.List.{Contains}
 use Rattle.std.specs.List.Sorted.{IsPermutation}
-use Rattle.std.specs.Ordering.{nat_cmp, ordering_then, is_lt}
-use Rattle.std.specs.BinaryHeap.{heap_items, heap_len, IsUpperBound, PopsGreatest, IsHeap}
+use Rattle.std.specs.Ordering.{nat_cmp, is_lt}
+use Rattle.std.specs.BinaryHeap.{heap_items, heap_len, IsUpperBound}
 use Rattle.std.proofs.lemmas.List.Elements.{All-contains, All-from_recursion, All-head}
 use Rattle.std.proofs.lemmas.List.Sorted.{Contains-permutation, IsPermutation-sym, first_le_from_greatest}
 use Rattle.route_search.specs.declared.frontier.Frontier.{Frontier}

@@ -1,11 +1,8 @@
 -- Items of lists by their places.
-use Rattle.std.proofs.Common.{◌≡◌, ℕ, zero, suc, ◌+◌, ◌<◌, Bool, true, false, cond, IsTrue, List, [], ◌∷◌, drop, filter, Some, None, length, refl, sym, subst, inl, inr, ◌⊎◌, true≢false, arith}
+use Rattle.std.proofs.Common.{◌≡◌, ℕ, zero, suc, Bool, true, false, cond, IsTrue, List, [], ◌∷◌, drop, filter, Some, None, length, refl, sym, subst, inl, inr, ◌⊎◌, true≢false}
 use Rattle.std.specs.Prelude.{Contains, slice_get}
 use Rattle.std.proofs.lemmas.Option.{slice_get_within, slice_get_read, get_or_from_slice_get, same_Some}
 use Rattle.report_laws.proofs.Members.{Contains-nil, Contains-first, Contains-later, Contains-cons_cases}
-
-pub at_member : {X : Type 0} (xs : List X) (x : X) → Contains xs x → (k : ℕ) × (slice_get xs k ≡ Some x)
-at_member xs x h = (h.0, slice_get_read xs (length xs) h.0 x refl h.1 (sym h.2))
 
 pub member_at : {X : Type 0} (xs : List X) (k : ℕ) (x : X) → slice_get xs k ≡ Some x → Contains xs x
 member_at xs k x e = (k, slice_get_within xs k x e, get_or_from_slice_get xs k x x e)

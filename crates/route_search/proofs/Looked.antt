@@ -1,5 +1,5 @@
 -- The link at one place.
-use Rattle.std.proofs.Common.{◌≡◌, ℕ, zero, suc, ◌+◌, ◌<◌, ◌≤◌, Bool, true, false, cond, nat_lt, List, [], ◌∷◌, length, Option, Some, None, Result, Ok, Err, OnOk, IfOk, get_or, refl, sym, ap, subst, ◌∙◌, arith}
+use Rattle.std.proofs.Common.{◌≡◌, ℕ, zero, suc, ◌+◌, ◌<◌, ◌≤◌, Bool, true, false, cond, nat_lt, List, [], ◌∷◌, length, Some, None, Result, Ok, Err, OnOk, IfOk, get_or, refl, ap, subst, ◌∙◌, arith}
 use Rattle.std.specs.Prelude.{Contains, slice_get, slice_index_or}
 use Rattle.std.proofs.lemmas.Bool.Decides.{nat_tests}
 use Rattle.venue_types.specs.declared.link.Link.{Link}
@@ -7,8 +7,8 @@ use Rattle.link_graph.specs.Lower.{lower_of}
 use Rattle.link_graph.specs.Networks.{Network, links_out}
 use Rattle.route_search.specs.declared.labels.Last.{Last}
 use Rattle.route_search.specs.declared.state.State.{State}
-use Rattle.route_search.specs.Labels.{no_cost, cost_at, last_at, IsRelaxed}
-use Rattle.route_search.specs.States.{settled_at, cost_in}
+use Rattle.route_search.specs.Labels.{no_cost, cost_at, last_at}
+use Rattle.route_search.specs.States.{cost_in}
 use Rattle.route_search.specs.Scans.{IsAmid, IsScanned}
 use Rattle.route_search.proofs.Covers.{out_member, out_from}
 use Rattle.route_search.proofs.Scanned.{passed}
@@ -29,10 +29,6 @@ cost_read costs n c d within is = is ∙ get_or_any costs n d no_cost within
 pub last_read : (lasts : List Last) (n : ℕ) (x d : Last) → n < length lasts → x ≡ get_or lasts n d → x ≡ last_at lasts n
 unfolding last_at
 last_read lasts n x d within is = is ∙ get_or_any lasts n d (record { by = None; depth = 0 }) within
-
-pub settled_read : (settled : List Bool) (n : ℕ) (x d : Bool) → n < length settled → x ≡ get_or settled n d → x ≡ settled_at settled n
-unfolding settled_at
-settled_read settled n x d within is = is ∙ get_or_any settled n d false within
 
 pub get_some : {X : Type 0} (xs : List X) (k : ℕ) → k < length xs → (x : X) × (slice_get xs k ≡ Some x)
 get_some [] k within = absurd (omega arith)

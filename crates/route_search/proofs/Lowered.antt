@@ -1,5 +1,5 @@
 -- A cheaper walk to a node is found while another is settled.
-use Rattle.std.proofs.Common.{◌≡◌, ◌≢◌, ◌⊎◌, inl, inr, ℕ, ◌+◌, ◌*◌, ◌<◌, ◌≤◌, Bool, true, false, List, length, Option, Some, None, set, get_or, refl, sym, ap, subst, ◌∙◌, arith}
+use Rattle.std.proofs.Common.{◌≡◌, ◌≢◌, ◌⊎◌, inl, inr, ℕ, ◌+◌, ◌<◌, ◌≤◌, Bool, true, false, List, length, Option, Some, None, set, refl, sym, ap, subst, ◌∙◌, arith}
 use Rattle.std.proofs.lemmas.List.{get_or-set_same, get_or-set_other, length-set}
 use Rattle.std.proofs.lemmas.Bool.{cases_eq, cases_Bool}
 use Rattle.venue_types.specs.declared.link.Link.{Link}
@@ -7,10 +7,10 @@ use Rattle.link_graph.specs.Networks.{Network}
 use Rattle.route_search.specs.declared.frontier.Frontier.{Frontier}
 use Rattle.route_search.specs.declared.labels.Last.{Last}
 use Rattle.route_search.specs.declared.state.State.{State}
-use Rattle.route_search.specs.Labels.{no_cost, cost_at, last_at, IsLabelled, IsFirst, IsRelaxed}
-use Rattle.route_search.specs.Waiting.{Waits, waiting, IsPushed}
-use Rattle.route_search.specs.States.{settled_at, open_sum, cost_in, last_in, settled_in, IsReached, IsRelaxedFrom, IsStep, ComesBy, Room, IsEntry, Grows, IsQueued, IsLowered}
-use Rattle.route_search.specs.Scans.{IsQuiet, HangsOn, IsAmid, IsLater, IsFollowed}
+use Rattle.route_search.specs.Labels.{no_cost, cost_at, last_at}
+use Rattle.route_search.specs.Waiting.{Waits, waiting}
+use Rattle.route_search.specs.States.{settled_at, open_sum, cost_in, last_in, settled_in, IsReached, IsRelaxedFrom, ComesBy, Room, IsEntry, Grows, IsQueued, IsLowered}
+use Rattle.route_search.specs.Scans.{IsQuiet, HangsOn, IsAmid, IsFollowed}
 
 -- ---- what waits
 
@@ -237,12 +237,3 @@ module _ (given : Network) (IsLink : Link → Type 0) (nodes : ℕ) (old new : S
     later = record { settled = lowered.settled; cost = node_cost; last = node_last; lower = lower; roots = roots; entries = queued_len waits old.frontier new.frontier _ link.to lowered.frontier };
     relaxed = λ _. (let goal : cost_in new link.to ≤ cost_in new link.from + link.cost = omega (arith, cost_here, node_cost) in goal);
   }
-
--- a link that can't be followed changes nothing
-pub left : (given : Network) (IsLink : Link → Type 0) (nodes : ℕ) (state : State) (link : Link) → IsAmid given IsLink nodes link.from state → ¬ IsLink link
-    → IsFollowed given IsLink nodes link state state
-left given IsLink nodes state link amid never = record {
-  amid = amid;
-  later = record { settled = refl; cost = refl; last = refl; lower = λ n. omega arith; roots = λ n known none. (known, none); entries = omega arith };
-  relaxed = λ is. absurd (never is);
-}

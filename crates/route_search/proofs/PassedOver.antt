@@ -1,12 +1,12 @@
 -- Links that aren't looked at.
-use Rattle.std.proofs.Common.{◌≡◌, ℕ, zero, suc, ◌+◌, ◌<◌, ◌≤◌, Bool, true, false, List, [], ◌∷◌, length, Option, Some, None, get_or, refl, sym, ap, subst, ◌∙◌, arith}
+use Rattle.std.proofs.Common.{◌≡◌, ℕ, zero, suc, ◌<◌, ◌≤◌, Bool, true, false, List, [], ◌∷◌, length, Option, Some, refl, sym, subst, arith}
 use Rattle.std.specs.Prelude.{Contains, slice_get, slice_index_or}
 use Rattle.venue_types.specs.declared.feature_id.FeatureId.{FeatureId}
 use Rattle.venue_types.specs.declared.kind.Kind.{Kind}
 use Rattle.venue_types.specs.declared.link.Link.{Link}
 use Rattle.venue_types.specs.declared.settings.Profile.{Profile}
 use Rattle.link_graph.specs.declared.stretches.Way.{Way}
-use Rattle.link_graph.specs.declared.stretches.Way.TheVariants.{Inside, Between}
+use Rattle.link_graph.specs.declared.stretches.Way.TheVariants.{Inside}
 use Rattle.link_graph.specs.Marking.{chosen, marked}
 use Rattle.link_graph.specs.Networks.{Network, GoesBy, IsPassable}
 use Rattle.route_search.specs.Scans.{IsVia, IsPassedOver}

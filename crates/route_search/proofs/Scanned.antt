@@ -1,15 +1,12 @@
 -- What is known among the links of one node, from moment to moment.
-use Rattle.std.proofs.Common.{◌≡◌, ◌≢◌, ◌⊎◌, inl, inr, ℕ, zero, suc, ◌+◌, ◌*◌, ◌<◌, ◌≤◌, Bool, true, false, List, length, Option, Some, None, set, refl, sym, ap, subst, ◌∙◌, arith}
+use Rattle.std.proofs.Common.{◌≡◌, inl, inr, ℕ, ◌+◌, ◌≤◌, Some, refl, sym, subst, ◌∙◌, arith}
 use Rattle.std.specs.Prelude.{slice_get}
-use Rattle.std.proofs.lemmas.Bool.{cases_eq, cases_lt}
+use Rattle.std.proofs.lemmas.Bool.{cases_lt}
 use Rattle.venue_types.specs.declared.link.Link.{Link}
-use Rattle.venue_types.specs.declared.feature_id.FeatureId.{FeatureId}
-use Rattle.venue_types.specs.declared.settings.Profile.{Profile}
-use Rattle.link_graph.specs.Networks.{Network, IsPassable, links_out}
-use Rattle.route_search.specs.declared.labels.Last.{Last}
+use Rattle.link_graph.specs.Networks.{Network, links_out}
 use Rattle.route_search.specs.declared.state.State.{State}
-use Rattle.route_search.specs.Labels.{cost_at, last_at, IsRelaxed}
-use Rattle.route_search.specs.States.{cost_in, last_in, settled_in, IsReached, IsRelaxedFrom, Grows}
+use Rattle.route_search.specs.Labels.{IsRelaxed}
+use Rattle.route_search.specs.States.{cost_in}
 use Rattle.route_search.specs.Scans.{IsAmid, IsLater, IsFollowed, IsScanned, AreRelaxed}
 
 -- a link out of the node stays relaxed

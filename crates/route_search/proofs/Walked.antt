@@ -1,5 +1,5 @@
 -- The stretches of a node, one by one.
-use Rattle.std.proofs.Common.{◌≡◌, ℕ, zero, suc, ◌+◌, ◌<◌, ◌≤◌, List, [], ◌∷◌, length, drop, Some, refl, sym, ap, subst, ◌∙◌, arith}
+use Rattle.std.proofs.Common.{◌≡◌, ℕ, zero, suc, ◌+◌, ◌<◌, ◌≤◌, List, [], ◌∷◌, length, drop, Some, refl, subst, arith}
 use Rattle.std.specs.Prelude.{Contains, slice_get}
 use Rattle.venue_types.specs.declared.link.Link.{Link}
 use Rattle.link_graph.specs.declared.stretches.Stretch.{Stretch}
@@ -19,11 +19,6 @@ pub record IsWalked (given : Network) (IsLink : Link → Type 0) (nodes node k o
   pub follow : Follow at (length (links_out given node)) (drop k (given.stretches node))
   pub scanned : IsScanned given IsLink nodes node 0 at old new
   pub steps : new_steps ≤ old_steps + at
-
-pub walked_none : (given : Network) (IsLink : Link → Type 0) (nodes node steps : ℕ) (state : State) → AreStretches given node → IsAmid given IsLink nodes node state
-    → IsWalked given IsLink nodes node 0 steps steps state state
-walked_none given IsLink nodes node steps state are amid =
-    record { at = 0; follow = are.cover; scanned = no_more given IsLink nodes node 0 state amid; steps = omega arith }
 
 module _ (given : Network) (IsLink : Link → Type 0) (nodes node k old_steps steps : ℕ) (old state : State) (stretch : Stretch)
     (walked : IsWalked given IsLink nodes node k old_steps steps old state) (is : slice_get (given.stretches node) k ≡ Some stretch) where
@@ -46,23 +41,6 @@ module _ (given : Network) (IsLink : Link → Type 0) (nodes node k old_steps st
         scanned = some_more given IsLink nodes node 0 walked.at stretch.first stretch.count old state new (out_from given node) (omega (arith, first)) walked.scanned scanned;
         steps = omega (arith, low, walked.steps);
       }
-
-drop_all : (stretches : List Stretch) (k : ℕ) → length stretches ≤ k → drop k stretches ≡ []
-drop_all [] zero past = refl
-drop_all [] (suc k) past = refl
-drop_all (s ∷ ss) zero past = absurd (omega arith)
-drop_all (s ∷ ss) (suc k) past = drop_all ss k (omega arith)
-
-pub walked_at : (given : Network) (IsLink : Link → Type 0) (nodes node k old_steps steps : ℕ) (old new : State) (walked : IsWalked given IsLink nodes node k old_steps steps old new)
-    → length (given.stretches node) ≤ k → walked.at ≡ length (links_out given node)
-walked_at given IsLink nodes node k old_steps steps old new walked all =
-    subst (λ (ss : List Stretch). Follow walked.at (length (links_out given node)) ss) (drop_all (given.stretches node) k all) walked.follow
-
-pub walked_all : (given : Network) (IsLink : Link → Type 0) (nodes node k old_steps steps : ℕ) (old new : State) → IsWalked given IsLink nodes node k old_steps steps old new
-    → length (given.stretches node) ≤ k → IsScanned given IsLink nodes node 0 (length (links_out given node)) old new × (steps ≤ old_steps + length (links_out given node))
-walked_all given IsLink nodes node k old_steps steps old new walked all =
-    let end = walked_at given IsLink nodes node k old_steps steps old new walked all in
-    (subst (λ (i : ℕ). IsScanned given IsLink nodes node 0 i old new) end walked.scanned, omega (arith, walked.steps, end))
 
 pub walked_steps : (given : Network) (IsLink : Link → Type 0) (nodes node k old_steps steps : ℕ) (old new : State) (stretch : Stretch) → IsWalked given IsLink nodes node k old_steps steps old new
     → slice_get (given.stretches node) k ≡ Some stretch → steps + stretch.count ≤ old_steps + length (links_out given node)

@@ -1,8 +1,6 @@
 -- What a search knows of nodes: the least costs of walks that it found, and how these end. The code's own machinery.
 use Rattle.std.specs.Prelude.{◌≡◌, ℕ, ◌+◌, ◌-◌, ◌^◌, ◌<◌, ◌≤◌, List, length, Option, Some, None, slice_index_or}
 use Rattle.venue_types.specs.declared.link.Link.{Link}
-use Rattle.walk_laws.specs.Walks.{IsWalk, walk_cost}
-use Rattle.link_graph.specs.Views.{link_view}
 use Rattle.route_search.specs.declared.labels.Last.{Last}
 
 -- the cost of a node to which no walk is known

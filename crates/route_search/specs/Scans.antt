@@ -1,22 +1,22 @@
 -- What a search knows among the links of one node. The code's own machinery.
-use Rattle.std.specs.Prelude.{◌≡◌, ◌≢◌, ◌⊎◌, ℕ, ◌+◌, ◌<◌, ◌≤◌, Bool, true, List, length, Option, Some, None, Contains, slice_get}
+use Rattle.std.specs.Prelude.{◌≡◌, ◌≢◌, ◌⊎◌, ℕ, ◌+◌, ◌<◌, ◌≤◌, true, length, Option, Some, None, Contains, slice_get}
 use Rattle.venue_types.specs.declared.link.Link.{Link}
-use Rattle.venue_types.specs.declared.settings.Profile.{Profile}
 use Rattle.link_graph.specs.declared.graph.Graph.{Graph}
 use Rattle.link_graph.specs.declared.stretches.Stretch.{Stretch}
 use Rattle.link_graph.specs.declared.stretches.Way.{Way}
 use Rattle.link_graph.specs.declared.stretches.Way.TheVariants.{Inside, Between}
 use Rattle.link_graph.specs.Graphs.{network}
-use Rattle.link_graph.specs.Marking.{marked}
+use Rattle.link_graph.specs.Marking.{AreMarksOf, marked}
 use Rattle.link_graph.specs.Networks.{Network, GoesBy, IsPassable, links_out}
 use Rattle.route_search.specs.declared.state.State.{State}
+use Rattle.route_search.specs.declared.ways.Ways.{Ways}
 use Rattle.route_search.specs.Labels.{IsRelaxed}
 use Rattle.route_search.specs.States.{cost_in, last_in, settled_in, IsReached, IsRelaxedFrom, Room, Grows}
 use Rattle.route_search.specs.Waiting.{Waits, waiting}
 
 -- a link of the graph that the profile may pass and nothing marked closes
-abbrev pub CanPass : Graph → List Bool → Profile → Link → Type 0
-CanPass graph marks profile link = IsPassable (network graph) (marked (network graph) marks) profile link
+abbrev pub CanPass : Ways → Link → Type 0
+CanPass ways link = IsPassable (network ways.graph.now) (marked (network ways.graph.now) ways.marks.now) ways.profile.now link
 
 abbrev pub node_count : Graph → ℕ
 node_count graph = length (network graph).nodes
@@ -36,17 +36,18 @@ pub record HangsOn (given : Network) (state : State) (node n : ℕ) : Type 0 whe
   pub from : link.from ≡ node
   pub quiet : IsQuiet given link.via n
 
--- among the links of a node that is being settled
+-- among the links of a node that is being settled: any other node to which a walk is known waits at its cost, is relaxed, or hangs on this one
 pub record IsAmid (given : Network) (IsLink : Link → Type 0) (nodes node : ℕ) (state : State) : Type 0 where
   pub tree : Grows IsLink nodes state (cost_in state node)
   pub here : settled_in state node ≡ true
   pub known : IsReached state node
   pub room : Room nodes state.settled.items (cost_in state node) (last_in state node).depth 1
   pub done : (n : ℕ) → n ≢ node → settled_in state n ≡ true → IsRelaxedFrom IsLink state n
-  pub progress : (n : ℕ) → n ≢ node → IsReached state n → Waits state.frontier (cost_in state n) n ⊎ IsRelaxedFrom IsLink state n ⊎ HangsOn given state node n
+  pub progress : (n : ℕ) → n ≢ node → IsReached state n
+      → Waits state.frontier (cost_in state n) n ⊎ IsRelaxedFrom IsLink state n ⊎ HangsOn given state node n
 
--- from one moment to a later one while a node is being settled: costs only fall, its own stays, no further walk is without links, and so many
--- entries were added at most
+-- from one moment to a later one while a node is being settled: costs only fall, its own stays, no walk without links is new, and so
+-- many entries were added at most
 pub record IsLater (node more : ℕ) (old new : State) : Type 0 where
   pub settled : new.settled.items ≡ old.settled.items
   pub cost : cost_in new node ≡ cost_in old node
@@ -58,7 +59,8 @@ pub record IsLater (node more : ℕ) (old new : State) : Type 0 where
 -- the links at these places out of the node are relaxed
 abbrev pub AreRelaxed : Network → (Link → Type 0) → State → ℕ → ℕ → ℕ → Type 0
 AreRelaxed given IsLink state node first count =
-    (place : ℕ) (link : Link) → first ≤ place → place < first + count → slice_get (links_out given node) place ≡ Some link → IsLink link → IsRelaxed state.costs.items link
+    (place : ℕ) (link : Link) → first ≤ place → place < first + count → slice_get (links_out given node) place ≡ Some link → IsLink link
+    → IsRelaxed state.costs.items link
 
 -- the links at these places were regarded
 pub record IsScanned (given : Network) (IsLink : Link → Type 0) (nodes node first count : ℕ) (old new : State) : Type 0 where
@@ -72,6 +74,24 @@ pub record IsFollowed (given : Network) (IsLink : Link → Type 0) (nodes : ℕ)
   pub later : IsLater link.from 1 old new
   pub relaxed : IsLink link → IsRelaxed new.costs.items link
 
+-- ---- the same over the links of a graph that may be passed
+
+-- one mark for each feature that can be closed
+abbrev pub AreMarked : Ways → Type 0
+AreMarked ways = AreMarksOf (network ways.graph.now) ways.marks.now
+
+abbrev pub Regards : Ways → ℕ → State → Type 0
+Regards ways node state = IsAmid (network ways.graph.now) (CanPass ways) (node_count ways.graph.now) node state
+
+abbrev pub Regarded : Ways → ℕ → ℕ → ℕ → State → State → Type 0
+Regarded ways node first count old new =
+    IsScanned (network ways.graph.now) (CanPass ways) (node_count ways.graph.now) node first count old new
+
+abbrev pub Followed : Ways → Link → State → State → Type 0
+Followed ways link old new = IsFollowed (network ways.graph.now) (CanPass ways) (node_count ways.graph.now) link old new
+
+-- ---- stretches
+
 -- a stretch of the node
 pub record IsStretchOf (given : Network) (node : ℕ) (stretch : Stretch) : Type 0 where
   pub one : Contains (given.stretches node) stretch
@@ -84,7 +104,8 @@ IsVia (Some last) via = last.via ≡ via
 
 -- the links that go this way can't be passed, or are of the unit by which the node was reached
 abbrev pub IsPassedOver : Network → (Link → Type 0) → Option Link → Way → Type 0
-IsPassedOver given IsLink last way = (link : Link) → GoesBy given way link → IsLink link → IsVia last link.via × (given.first_unit ≤ link.via)
+IsPassedOver given IsLink last way =
+    (link : Link) → GoesBy given way link → IsLink link → IsVia last link.via × (given.first_unit ≤ link.via)
 
 -- the number of a unit is one of what can be closed
 abbrev pub IsMarkable : Network → Way → Type 0

@@ -1,11 +1,11 @@
 -- What a search knows between two nodes that it settles, and how that changes. The code's own machinery.
-use Rattle.std.specs.Prelude.{◌≡◌, ◌⊎◌, ℕ, zero, suc, ◌+◌, ◌*◌, ◌<◌, ◌≤◌, Bool, true, false, List, [], ◌∷◌, length, Option, Some, None, replicate, slice_index_or, slice_set, if◌then◌else◌}
+use Rattle.std.specs.Prelude.{◌≡◌, ◌⊎◌, ℕ, suc, ◌+◌, ◌*◌, ◌<◌, ◌≤◌, Bool, true, false, List, [], ◌∷◌, length, Option, Some, None, replicate, slice_index_or, slice_set, if◌then◌else◌}
 use Rattle.venue_types.specs.declared.link.Link.{Link}
 use Rattle.route_search.specs.declared.frontier.Frontier.{Frontier}
 use Rattle.route_search.specs.declared.labels.Last.{Last}
 use Rattle.route_search.specs.declared.state.State.{State}
-use Rattle.route_search.specs.Labels.{no_cost, cost_at, last_at, IsLabelled, IsFirst, IsTree, IsFound, IsSpent, IsRelaxed}
-use Rattle.route_search.specs.Waiting.{Waits, waiting, IsPushed}
+use Rattle.route_search.specs.Labels.{no_cost, cost_at, last_at, IsLabelled, IsTree, IsFound, IsSpent, IsRelaxed}
+use Rattle.route_search.specs.Waiting.{Waits, IsPushed}
 
 unfoldable pub settled_at : List Bool → ℕ → Bool
 settled_at settled n = slice_index_or settled n false
@@ -81,9 +81,8 @@ pub record IsFrom (from : ℕ) (state : State) : Type 0 where
   pub only : (n : ℕ) → IsReached state n → (last_in state n).by ≡ None → n ≡ from
 
 -- between two nodes: a node to which a walk is known waits at its cost, or is relaxed, as settled ones are
-pub record IsBetween (IsLink : Link → Type 0) (nodes from : ℕ) (state : State) : Type 0 where
+pub record IsBetween (IsLink : Link → Type 0) (nodes : ℕ) (state : State) : Type 0 where
   pub now : ℕ
-  pub root : IsFrom from state
   pub tree : Grows IsLink nodes state now
   pub done : (n : ℕ) → settled_in state n ≡ true → IsRelaxedFrom IsLink state n
   pub progress : (n : ℕ) → IsReached state n → Waits state.frontier (cost_in state n) n ⊎ IsRelaxedFrom IsLink state n
@@ -114,6 +113,7 @@ IsQueued false old new cost node = new ≡ old
 -- the end of the link is known by it from now on
 pub record IsLowered (old new : State) (link : Link) (waits : Bool) : Type 0 where
   pub costs : new.costs.items ≡ slice_set old.costs.items link.to (cost_in old link.from + link.cost)
-  pub lasts : new.lasts.items ≡ slice_set old.lasts.items link.to (record { by = Some link; depth = (last_in old link.from).depth + 1 })
+  pub lasts : new.lasts.items
+      ≡ slice_set old.lasts.items link.to (record { by = Some link; depth = (last_in old link.from).depth + 1 })
   pub settled : new.settled.items ≡ old.settled.items
   pub frontier : IsQueued waits old.frontier new.frontier (cost_in old link.from + link.cost) link.to

@@ -16,6 +16,7 @@ mod scanning;
 mod searching;
 mod state;
 mod trails;
+mod ways;
 
 pub use found::Found;
 pub use searching::least;

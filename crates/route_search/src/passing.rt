@@ -3,31 +3,31 @@
 ghost use Rattle.std.specs.Prelude.{◌≡◌, ◌↔◌, ◌<◌, IsTrue, Contains, length};
 ghost use Rattle.venue_types.specs.declared.link.Link.{Link as ALink};
 ghost use Rattle.link_graph.specs.Graphs.{network};
-ghost use Rattle.link_graph.specs.Marking.{AreMarksOf};
 ghost use Rattle.link_graph.specs.Networks.{GoesBy};
-ghost use Rattle.route_search.specs.Scans.{CanPass, IsMarkable, IsPassedOver, IsVia, node_count};
+ghost use Rattle.route_search.specs.Scans.{AreMarked, CanPass, IsMarkable, IsPassedOver, IsVia, node_count};
 
+use crate::ways::Ways;
 use imdf_access::{allows, passes_end, passes_way};
-use link_graph::{Graph, Marks, Way, network_parts_law};
-use venue_types::{Link, Profile};
+use link_graph::{Way, network_parts_law};
+use venue_types::Link;
 
 /// Whether somebody with the profile may pass the link, and nothing at it is closed.
-pub(crate) fn can_pass(graph: &Graph, marks: &Marks, profile: &Profile, link: &Link) -> bool
-    requires there { Contains (network graph.now).links link.now }
-    requires marks { AreMarksOf (network graph.now) marks.now }
-    ensures { IsTrue result ↔ CanPass graph.now marks.now profile.now link.now }
+pub(crate) fn can_pass(ways: &Ways, link: &Link) -> bool
+    requires there { Contains (network ways.now.graph.now).links link.now }
+    requires marks { AreMarked ways.now }
+    ensures { IsTrue result ↔ CanPass ways.now link.now }
 {
-    allows(profile, &graph.facts(link)) && graph.is_free(link, marks)
+    allows(ways.profile, &ways.graph.facts(link)) && ways.graph.is_free(link, ways.marks)
 }
 
 /// Whether a link out of the node may be passed as far as the node itself has a say.
-pub(crate) fn can_leave(graph: &Graph, marks: &Marks, profile: &Profile, node: u32) -> bool
-    requires node { node < node_count graph.now }
-    requires marks { AreMarksOf (network graph.now) marks.now }
-    ensures { (link : ALink) → CanPass graph.now marks.now profile.now link → link.from ≡ node → IsTrue result }
+pub(crate) fn can_leave(ways: &Ways, node: u32) -> bool
+    requires node { node < node_count ways.now.graph.now }
+    requires marks { AreMarked ways.now }
+    ensures { (link : ALink) → CanPass ways.now link → link.from ≡ node → IsTrue result }
 {
     network_parts_law();
-    passes_end(profile, &graph.ends(node)) && graph.is_node_free(node, marks)
+    passes_end(ways.profile, &ways.graph.ends(node)) && ways.graph.is_node_free(node, ways.marks)
 }
 
 // Whether the last link of a walk goes by this number.
@@ -41,16 +41,10 @@ fn is_again(last: Option<Link>, via: u32) -> bool
 }
 
 /// Whether the links that go this way can't be passed, or are of the unit by which the node was reached.
-pub(crate) fn is_passed_over(
-    graph: &Graph,
-    marks: &Marks,
-    profile: &Profile,
-    last: Option<Link>,
-    way: Way,
-) -> bool
-    requires way { IsMarkable (network graph.now) way }
-    requires marks { AreMarksOf (network graph.now) marks.now }
-    ensures { IsTrue result → IsPassedOver (network graph.now) (CanPass graph.now marks.now profile.now) last way }
+pub(crate) fn is_passed_over(ways: &Ways, last: Option<Link>, way: Way) -> bool
+    requires way { IsMarkable (network ways.now.graph.now) way }
+    requires marks { AreMarked ways.now }
+    ensures { IsTrue result → IsPassedOver (network ways.now.graph.now) (CanPass ways.now) last way }
 {
     match way {
         Way::Inside {
@@ -59,7 +53,9 @@ pub(crate) fn is_passed_over(
             restricted,
         } => {
             network_parts_law();
-            is_again(last, via) || marks.is_marked(via) || !passes_way(profile, kind, restricted)
+            is_again(last, via)
+                || ways.marks.is_marked(via)
+                || !passes_way(ways.profile, kind, restricted)
         }
         Way::Between => false,
     }

@@ -11,6 +11,7 @@ use crate::beginning::begin;
 use crate::found::Found;
 use crate::growing::grow;
 use crate::labels::NO_COST;
+use crate::ways::Ways;
 use link_graph::{Graph, Marks};
 use std::alloc::Global;
 use std::sync::ledger::Ledger;
@@ -37,7 +38,12 @@ pub fn least<L: Ledger>(
 {
     graph.range_law();
     let mut state = begin(alloc, graph.nodes(), from)?;
-    grow(graph, marks, profile, from, to, &mut state, steps)?;
+    let ways = Ways {
+        graph,
+        marks,
+        profile,
+    };
+    grow(&ways, to, &mut state, steps)?;
     if state.costs[to as usize] < NO_COST {
         route(alloc, &state.costs, &state.lasts, from, to)
     } else {

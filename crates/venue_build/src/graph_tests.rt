@@ -186,34 +186,53 @@ fn venue_of(rt: &impl Abort, alloc: Global, edits: &'static [Edit]) -> Result<Ve
     }
 }
 
+// So many links start at the place of this identifier.
+fn judge_from(rt: &impl Abort, graph: &Graph, tail: u128, count: u32) {
+    let n = node(rt, graph, tail);
+    assert_eq!(rt; (tail, graph.out_count(n)), (tail, count));
+}
+
+// So many of the links go by the feature of this identifier.
+fn judge_by(rt: &impl Abort, graph: &Graph, links: &[Link], tail: u128, count: usize) {
+    let k = closable(rt, graph, tail);
+    let found = links.iter().filter(|link| link.via == k).count();
+    assert_eq!(rt; (tail, found), (tail, count));
+}
+
 fn judge_counts(rt: &impl Abort, graph: &Graph, links: &[Link], row: &Row) {
-    assert_eq!(rt; graph.nodes(), 31);
-    assert_eq!(rt; graph.closables(), 33);
-    assert_eq!(rt; links.len(), row.listed, "at {}", row.name);
+    assert_eq!(rt; (graph.nodes(), graph.closables()), (31, 33));
+    assert_eq!(rt; (row.name, links.len()), (row.name, row.listed));
     for (tail, count) in row.out {
-        let n = node(rt, graph, *tail);
-        assert_eq!(rt; graph.out_count(n), *count, "from {tail:x}");
+        judge_from(rt, graph, *tail, *count);
     }
     for (tail, count) in row.by {
-        let k = closable(rt, graph, *tail);
-        let found = links.iter().filter(|link| link.via == k).count();
-        assert_eq!(rt; found, *count, "by {tail:x}");
+        judge_by(rt, graph, links, *tail, *count);
     }
 }
 
-fn judge_passages(rt: &impl Abort, graph: &Graph, links: &[Link], row: &Row) {
+fn judge_first(rt: &impl Abort, links: &[Link], cost: u32) {
     let first = links.first().expect(rt, "a link");
-    assert_eq!(rt; (first.from, first.to, first.cost), (0, 3, row.first));
-    let mut last = links.iter().rev();
-    for (from, to, via, cost, kind) in row.passages.iter().rev() {
-        let expected = Link {
-            from: node(rt, graph, *from),
-            to: node(rt, graph, *to),
-            via: closable(rt, graph, *via),
-            cost: *cost,
-            kind: *kind,
-        };
-        assert_eq!(rt; last.next(), Some(&expected));
+    assert_eq!(rt; (first.from, first.to, first.cost), (0, 3, cost));
+}
+
+fn link_of(rt: &impl Abort, graph: &Graph, passage: &Passage) -> Link {
+    let (from, to, via, cost, kind) = passage;
+    Link {
+        from: node(rt, graph, *from),
+        to: node(rt, graph, *to),
+        via: closable(rt, graph, *via),
+        cost: *cost,
+        kind: *kind,
+    }
+}
+
+// The last of the links are these.
+fn judge_passages(rt: &impl Abort, graph: &Graph, links: &[Link], passages: &[Passage]) {
+    let mut place = links.len().saturating_sub(passages.len());
+    for passage in passages {
+        let expected = link_of(rt, graph, passage);
+        assert_eq!(rt; links.get(place), Some(&expected));
+        place = place.saturating_add(1);
     }
 }
 
@@ -233,7 +252,7 @@ fn judge_out<L: Ledger>(
         if link.from == n {
             assert!(rt; place < count);
             let found = graph.out_link(n, place, steps);
-            assert_eq!(rt; found, *link, "at {n} {place}");
+            assert_eq!(rt; found, *link);
             place += 1;
         }
     }
@@ -290,7 +309,7 @@ fn judge_entry<L: Ledger>(
     let least = vec![in alloc; entry; graph.nodes() as usize]?;
     assert!(rt; 0 < graph.nodes() && 0 < graph.out_count(0));
     let link = graph.lower_link(0, 0, 100, &least, steps);
-    assert_eq!(rt; link, told, "at {entry}");
+    assert_eq!(rt; (entry, link), (entry, told));
     Ok(())
 }
 
@@ -374,7 +393,8 @@ fn judge<L: Ledger>(
     let graph = venue.graph();
     let links = graph.listed(alloc)?;
     judge_counts(rt, graph, links.as_slice(), row);
-    judge_passages(rt, graph, links.as_slice(), row);
+    judge_first(rt, links.as_slice(), row.first);
+    judge_passages(rt, graph, links.as_slice(), row.passages);
     judge_nodes(rt, graph, links.as_slice(), steps);
     let first = links.get(0).expect(rt, "a link");
     judge_lower(rt, alloc, graph, *first, steps)?;

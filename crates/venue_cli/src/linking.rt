@@ -25,7 +25,11 @@ use venue_types::{Bytes, OutOfMemory, Profile, Settings};
 fn profile_named<'a>(settings: &'a Settings, name: &str) -> Option<&'a Profile>
     ensures { option_copied result ≡ find (λ profile. bytes_eq profile.name name.now) settings.now.profiles }
 {
-    settings.profiles.as_slice().iter().find(|profile| profile.name.as_str() == name)
+    settings
+        .profiles
+        .as_slice()
+        .iter()
+        .find(|profile| profile.name.as_str() == name)
 }
 
 // The text of the links of a venue that a profile may use.

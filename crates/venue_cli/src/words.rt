@@ -83,7 +83,12 @@ fn four_words(words: &[String]) -> Option<(&str, &str, &str, &str)>
 {
     match words {
         [first, second, third, fourth] => {
-            Some((first.as_str(), second.as_str(), third.as_str(), fourth.as_str()))
+            Some((
+                first.as_str(),
+                second.as_str(),
+                third.as_str(),
+                fourth.as_str(),
+            ))
         }
         _ => None,
     }

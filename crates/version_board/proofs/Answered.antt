@@ -7,7 +7,7 @@ use Rattle.venue_types.specs.declared.reply.Reply.TheVariants as reply
 use Rattle.venue_history.specs.declared.entry.Entry.{Entry}
 use Rattle.venue_history.specs.Answers.{Answers}
 use Rattle.venue_history.specs.Closed.{Version}
-use Rattle.venue_history.specs.Replies.{ReplyKind, kind_of}
+use Rattle.venue_history.specs.Replies.{kind_of}
 use Rattle.version_board.specs.Facts.{IsAnswered}
 
 -- where at one version a question has one kind of reply, it has one where the same was seen

@@ -1,5 +1,5 @@
 -- What a change leaves behind.
-use Rattle.std.proofs.Common.{◌≡◌, ℕ, ◌+◌, true, false, List, [], ◌∷◌, ◌++◌, sym, ap, ◌∙◌, arith, append_assoc}
+use Rattle.std.proofs.Common.{◌≡◌, ℕ, true, List, ◌++◌, sym, ap, ◌∙◌, arith, append_assoc}
 use Rattle.std.specs.Prelude.{Option}
 use mathlib.Core.List.{IsPrefix}
 use Rattle.venue_types.specs.declared.query.Change.{Change}

@@ -1,2 +1,6 @@
 mod Answered
 mod Changed
+pub mod Readying
+pub mod Entering
+pub mod Beginning
+pub mod Serving

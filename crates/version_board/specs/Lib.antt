@@ -1,1 +1,4 @@
 pub mod Facts
+pub mod Making
+pub mod OneThread
+pub mod Halls

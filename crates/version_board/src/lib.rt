@@ -1,8 +1,12 @@
 //! One history, served: what a session may ask of a hall, whether one thread has it or workers share it.
 #![tactic(auto)]
 
+mod alone;
 mod hall;
 mod laws;
+mod making;
+mod reader;
 
+pub use alone::{Alone, Unopened};
 pub use hall::{Asks, Hall};
 pub use laws::{answered_law, changed_law};

@@ -18,8 +18,14 @@ fn judge_links(rt: &impl Abort, alloc: Global, row: &LinkRow) -> Result<(), Fail
     assert_eq!(rt; printed.status, 0, "at {name}");
     let text = str::from_utf8(printed.text.as_slice()).expect(rt, "text");
     let lines: Vec<&str> = text.lines().collect(alloc)?;
-    let links = lines.iter().filter(|line| line.starts_with("link ")).count();
-    let nodes = lines.iter().filter(|line| line.starts_with("node ")).count();
+    let links = lines
+        .iter()
+        .filter(|line| line.starts_with("link "))
+        .count();
+    let nodes = lines
+        .iter()
+        .filter(|line| line.starts_with("node "))
+        .count();
     assert_eq!(rt; links, row.links, "at {name}");
     assert_eq!(rt; nodes, 31, "at {name}");
     assert_eq!(rt; lines.len(), links.saturating_add(33), "at {name}");
@@ -27,7 +33,11 @@ fn judge_links(rt: &impl Abort, alloc: Global, row: &LinkRow) -> Result<(), Fail
     assert_eq!(rt; lines.last().copied(), Some("end"), "at {name}");
     for (index, front, digits) in row.lines {
         let line = format!(in alloc; "{front} 00000000-0000-4000-8000-00000000{digits}")?;
-        assert_eq!(rt; lines.get(*index).copied(), Some(line.as_str()), "at {name}");
+        assert_eq!(rt;
+            lines.get(*index).copied(),
+            Some(line.as_str()),
+            "at {name}"
+        );
     }
     Ok(())
 }

@@ -5,6 +5,6 @@ use Rattle.route_search.proofs.scanning.look_along.Given as goal
 
 abbrev pub invariant-loop-turn : goal.invariant-loop-turn
 invariant-loop-turn g l = record {
-  scanned : IsScanned (network l.graph) (CanPass l.graph l.marks l.profile) (node_count l.graph) l.node l.stretch.first l.turn l.initial.state l.state;
+  scanned : IsScanned (network l.ways.graph.now) (CanPass l.ways) (node_count l.ways.graph.now) l.node l.stretch.first l.turn l.initial.state l.state;
   steps : l.steps ≤ l.initial.steps + l.turn;
 }

@@ -1,4 +1,4 @@
-use Rattle.std.proofs.Common.{◌≡◌, true, false, arith}
+use Rattle.std.proofs.Common.{◌≡◌, true, false}
 use Rattle.link_graph.specs.Graphs.{network}
 use Rattle.route_search.specs.Scans.{CanPass, node_count, out_count_of}
 use Rattle.route_search.proofs.Covers.{out_from}
@@ -7,7 +7,7 @@ use Rattle.route_search.proofs.scanning.scan.Goals as goal
 
 pub returns-then-not-can_leave-clause-scanned : goal.returns-then-not-can_leave-clause-scanned
 returns-then-not-can_leave-clause-scanned g c =
-    passed (network c.args.graph.now) (CanPass c.args.graph.now c.args.marks.now c.args.profile.now) (node_count c.args.graph.now) c.args.node 0 (out_count_of c.args.graph.now c.args.node) c.args.state.now c.requires.amid
-    (λ place l low high here is. (let can : c.can_leave.result ≡ true = c.can_leave.ensures l is (out_from (network c.args.graph.now) c.args.node place l here) in
+    passed (network c.args.ways.now.graph.now) (CanPass c.args.ways.now) (node_count c.args.ways.now.graph.now) c.args.node 0 (out_count_of c.args.ways.now.graph.now c.args.node) c.args.state.now c.requires.amid
+    (λ place l low high here is. (let can : c.can_leave.result ≡ true = c.can_leave.ensures l is (out_from (network c.args.ways.now.graph.now) c.args.node place l here) in
     let not_so : c.can_leave.result ≡ false = c.if-not-can_leave.true in
     let never : true ≡ false = cc in absurd cc))

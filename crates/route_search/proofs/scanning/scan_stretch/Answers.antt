@@ -1,5 +1,4 @@
 use Rattle.std.proofs.Common.{◌≡◌, ◌<◌, length, ap, arith}
-use Rattle.venue_types.specs.declared.link.Link.{Link}
 use Rattle.route_search.specs.declared.labels.Last.{Last}
 use Rattle.link_graph.specs.Graphs.{network}
 use Rattle.link_graph.specs.Marking.{marked}
@@ -12,13 +11,13 @@ use Rattle.route_search.proofs.Walked.{markable}
 use Rattle.route_search.proofs.scanning.scan_stretch.Goals as goal
 
 pub is_passed_over-requires-clause-way : goal.is_passed_over-requires-clause-way
-is_passed_over-requires-clause-way g c = markable (network c.args.graph.now) c.args.node c.args.stretch.now (c.stretch_law.ensures c.args.node c.requires.node) c.requires.stretch c.range_law.ensures.via
+is_passed_over-requires-clause-way g c = markable (network c.args.ways.now.graph.now) c.args.node c.args.stretch.now (c.stretch_law.ensures c.args.node c.requires.node) c.requires.stretch c.range_law.ensures.via
 
 pub returns-then-is_passed_over-clause-scanned : goal.returns-then-is_passed_over-clause-scanned
 returns-then-is_passed_over-clause-scanned g c =
     let within : c.args.node < length c.args.state.now.lasts.items = omega (arith, c.requires.node, c.requires.amid.tree.lasts_count) in
     let last : c.index.result.now ≡ last_in c.args.state.now c.args.node = last_read c.args.state.now.lasts.items c.args.node _ _ within c.index.ensures in
-    passed_over (network c.args.graph.now) (CanPass c.args.graph.now c.args.marks.now c.args.profile.now) (node_count c.args.graph.now) c.args.node c.args.stretch.now _ c.args.state.now
-    (c.detour_law.ensures (marked (network c.args.graph.now) c.args.marks.now) c.args.profile.now)
-    (λ l is. c.range_law.ensures.apart l is.there) (out_from (network c.args.graph.now) c.args.node) (c.stretch_law.ensures c.args.node c.requires.node) c.requires.stretch c.requires.amid
+    passed_over (network c.args.ways.now.graph.now) (CanPass c.args.ways.now) (node_count c.args.ways.now.graph.now) c.args.node c.args.stretch.now _ c.args.state.now
+    (c.detour_law.ensures (marked (network c.args.ways.now.graph.now) c.args.ways.now.marks.now) c.args.ways.now.profile.now)
+    (λ l is. c.range_law.ensures.apart l is.there) (out_from (network c.args.ways.now.graph.now) c.args.node) (c.stretch_law.ensures c.args.node c.requires.node) c.requires.stretch c.requires.amid
     (ap (λ (y : Last). y.by) last) (c.is_passed_over.ensures c.if-is_passed_over.true)

@@ -4,4 +4,4 @@ use Rattle.route_search.proofs.Walked.{IsWalked}
 use Rattle.route_search.proofs.scanning.scan_stretches.Given as goal
 
 abbrev pub invariant-loop-k : goal.invariant-loop-k
-invariant-loop-k g l = IsWalked (network l.graph) (CanPass l.graph l.marks l.profile) (node_count l.graph) l.node l.k l.initial.steps l.steps l.initial.state l.state
+invariant-loop-k g l = IsWalked (network l.ways.graph.now) (CanPass l.ways) (node_count l.ways.graph.now) l.node l.k l.initial.steps l.steps l.initial.state l.state

@@ -1,6 +1,5 @@
-use Rattle.std.proofs.Common.{rules, ap, length, ◌∙◌, List, heap_items}
-use Rattle.std.specs.declared.cmp.Reverse.{Reverse}
-use Rattle.route_search.specs.Waiting.{Waits, waiting}
+use Rattle.std.proofs.Common.{rules, ap, length}
+use Rattle.route_search.specs.Waiting.{waiting}
 use Rattle.route_search.proofs.Heaps.{none_waits}
 use Rattle.route_search.proofs.frontier.Frontier.new.Goals as goal
 

@@ -1,4 +1,4 @@
-use Rattle.std.proofs.Common.{◌≡◌, ℕ, length, ap, ◌∙◌, sym, heap_items, arith, rules}
+use Rattle.std.proofs.Common.{◌≡◌, length, heap_items, arith}
 use Rattle.std.proofs.lemmas.Grind.{common_steps}
 use Rattle.route_search.proofs.Heaps.{popped, none_waits}
 use Rattle.route_search.proofs.frontier.Frontier.pop.Goals as goal

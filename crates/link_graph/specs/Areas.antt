@@ -1,0 +1,59 @@
+-- The links across units by the members between which one walks, and the links by relationships.
+use Rattle.std.specs.Prelude.{◌≡◌, ℕ, ◌<◌, ◌≤◌, List, [], ◌∷◌, length, map, filter, All, if◌then◌else◌}
+use Rattle.std.specs.List.{flat_map}
+use Rattle.std.specs.List.Sorted.{IsStrictlyIncreasing}
+use Rattle.venue_types.specs.declared.link.Link.{Link}
+use Rattle.venue_nodes.specs.Rows.{row_list}
+use Rattle.link_graph.specs.declared.areas.Area.{Area}
+use Rattle.link_graph.specs.declared.graph.Graph.{Graph}
+use Rattle.link_graph.specs.declared.parts.Core.{Core}
+use Rattle.link_graph.specs.declared.parts.Crossing.{Crossing}
+use Rattle.link_graph.specs.Cores.{barred_in, way_in}
+use Rattle.link_graph.specs.Links.{are_joined}
+use Rattle.link_graph.specs.Networks.{Network}
+
+-- the unit of a row
+abbrev pub unit_of : Core → Crossing → Area
+unit_of core crossing = record { via = crossing.via; kind = crossing.kind; restricted = barred_in core crossing.via }
+
+-- the members of a row between which one walks: none where nobody walks through the unit
+abbrev pub walked_of : Crossing → List ℕ → List ℕ
+walked_of crossing row = (if crossing.walked then row else [])
+
+-- both
+abbrev pub area_of : Core → Crossing → List ℕ → Area × List ℕ
+area_of core crossing row = (unit_of core crossing, walked_of crossing row)
+
+-- the units of these rows
+abbrev pub areas_in : Core → List Crossing → List (List ℕ) → List (Area × List ℕ)
+areas_in core [] rows = []
+areas_in core (crossing ∷ crossings) [] = []
+areas_in core (crossing ∷ crossings) (row ∷ rows) = area_of core crossing row ∷ areas_in core crossings rows
+
+-- the units that one may walk across, in file order, each with the members between which one walks
+unfoldable pub areas : Graph → List (Area × List ℕ)
+areas graph = areas_in graph.core graph.core.crossings.items (row_list graph.core.rows)
+
+-- the links by relationships, in their order
+unfoldable pub passages : Graph → List Link
+passages graph = graph.core.passages.items
+
+-- the length of the straight line from node to node, in whole centimetres rounded up
+unfoldable pub straight : Graph → ℕ → ℕ → ℕ
+straight graph a b = way_in graph.core a b
+
+-- the link from member to member of a unit
+abbrev pub inside_area : Graph → Area → ℕ → ℕ → Link
+inside_area graph area a b = record { from = a; to = b; via = area.via; cost = straight graph a b; kind = area.kind }
+
+-- the links between these members of a unit: by the first end, then by the second
+abbrev pub area_links : Graph → (Area × List ℕ) → List Link
+area_links graph area = flat_map (λ (a : ℕ). map (inside_area graph area.0 a) (filter (are_joined a) area.1)) area.1
+
+-- it is a unit of what can be closed, restricted as the network says, and its members are few nodes and rise
+pub record IsArea (network : Network) (area : Area) (members : List ℕ) : Type 0 where
+  pub via : area.via < length network.closables
+  pub barred : network.barred area.via ≡ area.restricted
+  pub rise : IsStrictlyIncreasing members
+  pub within : All (λ (m : ℕ). m < length network.nodes) members
+  pub short : length members ≤ 4096

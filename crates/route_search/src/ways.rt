@@ -1,0 +1,12 @@
+//! Where one may go.
+
+use link_graph::{Graph, Marks};
+use venue_types::Profile;
+
+/// The links of a graph that somebody with the profile may pass where some features are marked as closed.
+#[derive(Clone, Copy)]
+pub(crate) struct Ways<'a> {
+    pub graph: &'a Graph,
+    pub marks: &'a Marks,
+    pub profile: &'a Profile,
+}

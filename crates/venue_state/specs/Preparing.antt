@@ -1,0 +1,86 @@
+-- Changes that are made ready at a version.
+use Rattle.std.specs.Prelude.{◌≡◌, ◌⊎◌, ℕ, ◌-◌, List, [], Contains, Option, Some, None, IfSome, IsTrue}
+use Rattle.std.specs.Arc.{arc_value}
+use Rattle.venue_types.specs.declared.feature_id.FeatureId.{FeatureId}
+use Rattle.venue_nodes.specs.Nodes.{closables}
+use Rattle.venue_history.specs.declared.entry.Act.{Act}
+use Rattle.venue_history.specs.declared.entry.Act.TheVariants.{Published, Closed, Reopened}
+use Rattle.venue_history.specs.declared.entry.Entry.{Entry}
+use Rattle.venue_history.specs.Changes.{dropped_ids}
+use Rattle.venue_history.specs.Closed.{Version, is_closed}
+use Rattle.venue_history.specs.Versions.{MayFollow, after}
+use Rattle.venue_state.specs.declared.unready.Unready.{Unready}
+use Rattle.venue_state.specs.declared.unready.Unready.TheVariants as unready
+
+-- what is seen of a change that is ready: its entry, the closures that it drops, the version after it, and how often its board is still to be had
+pub record Ready : Type 0 where
+  pub entry : Entry
+  pub dropped : List FeatureId
+  pub next : Version
+  pub left : ℕ
+
+-- 1 where a board is still to be had
+abbrev pub left_of : Option Version → ℕ
+left_of None = 0
+left_of (Some board) = 1
+
+-- the handles that are still to be had are of the board that is ready
+pub record AreHandles (one other : Option Version) (next : Version) : Type 0 where
+  pub one_is : IfSome one (λ board. board ≡ next)
+  pub other_is : IfSome other (λ board. board ≡ next)
+
+-- the closed identifiers that the act drops, in their order: those that new rows can't close
+abbrev pub dropped_by : Version → Act → List FeatureId
+dropped_by v (Published venue) = dropped_ids v (arc_value venue).features
+dropped_by v (Closed id) = []
+dropped_by v (Reopened id) = []
+
+-- the act is ready: its entry may follow the version, and the next version is that after it
+pub record IsReady (v : Version) (act : Act) (worker : ℕ) (ready : Ready) : Type 0 where
+  pub act_is : ready.entry.act ≡ act
+  pub worker_is : ready.entry.worker ≡ worker
+  pub may : MayFollow v ready.entry
+  pub next_is : ready.next ≡ after v act
+  pub dropped_are : ready.dropped ≡ dropped_by v act
+  pub twice : ready.left ≡ 2
+
+-- the act is a publication under the version's settings, or none
+abbrev pub HasSettings : Version → Act → Type 0
+HasSettings v (Published venue) = (arc_value venue).settings ≡ v.settings
+HasSettings v (Closed id) = Unit {0}
+HasSettings v (Reopened id) = Unit {0}
+
+-- the act names a feature that can't be closed
+abbrev pub LacksFeature : Version → Act → Type 0
+LacksFeature v (Published venue) = ⊥
+LacksFeature v (Closed id) = ¬ Contains (closables v.features) id
+LacksFeature v (Reopened id) = ¬ Contains (closables v.features) id
+
+-- the act names a feature that can be closed and stands so already
+abbrev pub IsDone : Version → Act → Type 0
+IsDone v (Published venue) = ⊥
+IsDone v (Closed id) = Contains (closables v.features) id × IsTrue (is_closed v id)
+IsDone v (Reopened id) = Contains (closables v.features) id × ¬ IsTrue (is_closed v id)
+
+-- the act names no feature, or one that can be closed and stands otherwise
+abbrev pub IsDue : Version → Act → Type 0
+IsDue v act = (¬ LacksFeature v act) × (¬ IsDone v act)
+
+-- why an act isn't ready: its feature can't be closed, or stands so already, or neither and the version is the last; want of memory is free
+abbrev pub IsUnready : Version → Act → Unready → Type 0
+IsUnready v act unready.NoFeature = LacksFeature v act
+IsUnready v act unready.Unchanged = IsDone v act
+IsUnready v act unready.Full = (¬ LacksFeature v act) × (¬ IsDone v act) × (v.number ≡ v.settings.last_version)
+IsUnready v act unready.OutOfMemory = Unit {0}
+
+-- of a change that is ready the board was given away, where it was still to be had; else nothing changes
+abbrev pub IsGiven : Ready → Ready → Option Version → Type 0
+IsGiven ready used given =
+    (used.entry ≡ ready.entry) × (used.dropped ≡ ready.dropped) × (used.next ≡ ready.next) × (used.left ≡ ready.left - 1)
+    × (((ready.left ≡ 0) × (given ≡ None)) ⊎ ((¬ (ready.left ≡ 0)) × (given ≡ Some ready.next)))
+
+-- the board becomes the one that is ready, where it is still to be had; else nothing changes
+abbrev pub IsApplied : Version → Ready → Version → Ready → Type 0
+IsApplied old ready new used =
+    (used.entry ≡ ready.entry) × (used.dropped ≡ ready.dropped) × (used.next ≡ ready.next) × (used.left ≡ ready.left - 1)
+    × (((ready.left ≡ 0) × (new ≡ old)) ⊎ ((¬ (ready.left ≡ 0)) × (new ≡ ready.next)))

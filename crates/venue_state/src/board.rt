@@ -1,0 +1,148 @@
+//! Boards.
+
+ghost use Rattle.std.specs.Prelude.{◌≡◌, ◌+◌, ◌≤◌, length, IfOk, IfSome, IfNone};
+ghost use Rattle.std.specs.Arc.{arc_value};
+ghost use Rattle.venue_nodes.specs.Nodes.{closables};
+ghost use Rattle.link_graph.specs.Graphs.{network};
+ghost use Rattle.link_graph.specs.Marking.{chosen};
+ghost use Rattle.link_graph.specs.Networks.{IsNetworkOf};
+ghost use Rattle.venue_history.specs.Versions.{opening};
+ghost use Rattle.venue_state.specs.Boards.{IsStand, version_of};
+
+use crate::stand::Stand;
+use link_graph::{Graph, Marks};
+use std::alloc::Global;
+use std::marker::Model;
+use std::sync::Arc;
+use venue_build::Venue;
+use venue_types::{OutOfMemory, Settings};
+
+/// One version of a venue, to be asked. It is one handle to what it keeps, which several boards may share.
+#[derive(Drop)]
+pub struct Board {
+    stand: Arc<Stand>,
+}
+
+impl Model for Board {
+    ghost use Rattle.std.specs.Arc.{arc_value};
+    ghost use Rattle.venue_history.specs.Closed.{Version};
+    ghost use Rattle.venue_state.specs.Boards.{IsStand, version_of};
+
+    ghost Value = { Version };
+
+    ghost view = { λ a. version_of (arc_value a.stand) };
+
+    ghost invariant = { λ a. IsStand (arc_value a.stand) };
+}
+
+impl Board {
+    /// The board with which the venue opens a history: the first version, at which nothing is closed.
+    pub fn first(
+        alloc: Global,
+        venue: Arc<Venue>,
+        settings: Arc<Settings>,
+    ) -> Result<Board, OutOfMemory>
+        requires { (arc_value venue).settings ≡ arc_value settings }
+        ensures { IfOk result (λ board. board ≡ opening (arc_value venue).features (arc_value settings)) }
+    {
+        let marks = Marks::none(alloc, venue.graph())?;
+        Board::of(
+            alloc,
+            Stand {
+                number: 1,
+                venue,
+                marks,
+                closed: 0,
+                settings,
+            },
+        )
+    }
+
+    /// The board of what it keeps.
+    pub(crate) fn of(alloc: Global, stand: Stand) -> Result<Board, OutOfMemory>
+        requires { IsStand stand }
+        ensures { IfOk result (λ board. board ≡ version_of stand) }
+    {
+        let stand = Arc::new(alloc, stand)?;
+        Ok(Board { stand })
+    }
+
+    /// One more handle to the same board.
+    pub(crate) fn handle(&self) -> Result<Board, OutOfMemory>
+        ensures { IfOk result (λ board. board ≡ self.now) }
+    {
+        let stand = Arc::try_clone(&self.stand)?;
+        Ok(Board { stand })
+    }
+
+    /// The number of its version.
+    #[tactic(auto, unfolding(crate::specs::Boards::version_of))]
+    pub fn number(&self) -> u32
+        ensures { result ≡ self.now.number }
+    {
+        self.stand.number
+    }
+
+    /// The number of the next version, if there may be one.
+    #[tactic(auto, unfolding(crate::specs::Boards::version_of))]
+    pub(crate) fn next_number(&self) -> Option<u32>
+        ensures none { IfNone result (self.now.number ≡ self.now.settings.last_version) }
+        ensures some { IfSome result (λ n. (n ≡ self.now.number + 1) × (n ≤ self.now.settings.last_version)) }
+    {
+        if self.stand.number < self.stand.settings.last_version {
+            Some(self.stand.number + 1)
+        } else {
+            None
+        }
+    }
+
+    /// How many features are closed.
+    #[tactic(auto, unfolding(crate::specs::Boards::version_of))]
+    pub(crate) fn closed_count(&self) -> u32
+        ensures { result ≡ length self.now.closed }
+    {
+        self.stand.closed
+    }
+
+    /// Its rows and its places.
+    #[tactic(auto, unfolding(crate::specs::Boards::version_of))]
+    pub(crate) fn venue(&self) -> &Venue
+        ensures features { result.now.features ≡ self.now.features }
+        ensures settings { result.now.settings ≡ self.now.settings }
+    {
+        &self.stand.venue
+    }
+
+    /// The handle to them.
+    #[tactic(auto, unfolding(crate::specs::Boards::version_of))]
+    pub(crate) fn venue_handle(&self) -> &Arc<Venue>
+        ensures features { (arc_value result.now).features ≡ self.now.features }
+        ensures settings { (arc_value result.now).settings ≡ self.now.settings }
+    {
+        &self.stand.venue
+    }
+
+    /// The graph of its rows.
+    #[tactic(auto, unfolding(crate::specs::Boards::version_of))]
+    pub(crate) fn graph(&self) -> &Graph
+        ensures { IsNetworkOf self.now.features self.now.settings (network result.now) }
+    {
+        self.stand.venue.graph()
+    }
+
+    #[tactic(auto, unfolding(crate::specs::Boards::version_of))]
+    pub(crate) fn settings(&self) -> &Arc<Settings>
+        ensures { arc_value result.now ≡ self.now.settings }
+    {
+        &self.stand.settings
+    }
+
+    /// Which features are closed, by the numbers of the graph.
+    #[tactic(auto, unfolding(crate::specs::Boards::version_of))]
+    pub(crate) fn marks(&self) -> &Marks
+        ensures whole { length result.now ≡ length (closables self.now.features) }
+        ensures closed { chosen result.now (closables self.now.features) ≡ self.now.closed }
+    {
+        &self.stand.marks
+    }
+}

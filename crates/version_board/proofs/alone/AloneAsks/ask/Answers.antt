@@ -1,0 +1,8 @@
+use Rattle.version_board.proofs.Serving.{itself}
+use Rattle.version_board.proofs.alone.AloneAsks.ask.Goals as goal
+
+pub returns-clause-reply : goal.returns-clause-reply
+returns-clause-reply g c = (c.args.self.now.board, c.args.self.now.stands, c.ask.ensures)
+
+pub returns-clause-grows : goal.returns-clause-grows
+returns-clause-grows g c = itself c.args.self.now.entries.items

@@ -1,0 +1,8 @@
+use Rattle.version_board.proofs.Serving.{itself}
+use Rattle.version_board.proofs.alone.AloneHall.catch_up.Goals as goal
+
+pub returns-clause-grows : goal.returns-clause-grows
+returns-clause-grows g c = itself c.args.self.now.entries.items
+
+pub returns-clause-legal : goal.returns-clause-legal
+returns-clause-legal g c = c.args.self.now.stands.legal

@@ -1,0 +1,26 @@
+-- What is seen of the hall of one thread.
+use Rattle.std.specs.Prelude.{ℕ, ◌-◌, List, [], ◌∷◌, Option, length}
+use Rattle.std.specs.declared.alloc.Global.{Global}
+use Rattle.std.specs.declared.sync.Arc.{Arc}
+use Rattle.venue_ports.specs.Files.{StoredFile}
+use Rattle.venue_build.specs.Venues.{SeenVenue as Venue}
+use Rattle.venue_history.specs.declared.entry.Act.TheVariants.{Published}
+use Rattle.venue_history.specs.declared.entry.Entry.{Entry}
+use Rattle.version_board.specs.Facts.{Facts}
+use Rattle.version_board.specs.Making.{shelf_of}
+
+-- it sees all entries, of which it made all but the first, over folders that tell these files below a base and failed so often
+abbrev pub one_thread : Option (List StoredFile) → List ℕ → List Entry → ℕ → ℕ → Facts
+one_thread stored base entries faults looks = record {
+  worker = 1;
+  parts = 1;
+  files = shelf_of stored base;
+  seen = entries;
+  made = length entries - 1;
+  faults = faults;
+  looks = looks;
+}
+
+-- the history that a venue opens: its publication, by worker 0
+abbrev pub opening_history : Arc Venue Global → List Entry
+opening_history venue = record { worker = 0; act = Published venue } ∷ []

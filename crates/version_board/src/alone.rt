@@ -1,0 +1,191 @@
+//! The hall of one thread.
+
+ghost use Rattle.std.specs.Prelude.{◌≡◌, ◌+◌, ◌≤◌, [], ◌∷◌, ◌++◌, OnOk, OnErr, IfOk, IfErr};
+ghost use Rattle.std.specs.Arc.{arc_value};
+ghost use mathlib.Core.List.{IsPrefix};
+ghost use Rattle.venue_ports.specs.Causes.{Rose};
+ghost use Rattle.venue_history.specs.Changes.{Changes};
+ghost use Rattle.venue_history.specs.Histories.{IsLegal, Replays};
+ghost use Rattle.venue_history.specs.Replies.{told, IsOutsideFault};
+ghost use Rattle.venue_history.specs.Versions.{MayFollow, after};
+ghost use Rattle.version_board.specs.Facts.{IsSameHall, IsChanged};
+ghost use Rattle.version_board.specs.OneThread.{one_thread, opening_history};
+ghost use Rattle.version_board.specs.Making.{shelf_of, CountsFault};
+
+use crate::hall::{Asks, Hall};
+use crate::making::{Outcome, ready_change};
+use crate::reader::Reader;
+use std::alloc::Global;
+use std::sync::Arc;
+use venue_build::{Venue, every_venue};
+use venue_history::{Act, Entry, change_law, entry_law, number_law, version_law};
+use venue_ports::Folders;
+use venue_state::{Board, Prepared};
+use venue_types::{Change, OutOfMemory, Query, Reply, Settings, Text, push_reserved, reserve};
+
+/// One history that one thread serves: it answers at the newest version, and whatever it makes it sees at once.
+#[derive(Drop)]
+pub struct Alone<F: Folders> {
+    board: Board,
+    entries: Vec<Entry>,
+    reader: Reader<F>,
+    settings: Arc<Settings>,
+    looks: u64,
+    alloc: Global,
+    ghost stands: { Replays entries.items board },
+    ghost settings_are: { arc_value settings ≡ board.settings },
+}
+
+/// No hall was opened, since memory ran out. The folders come back.
+#[derive(Drop)]
+pub struct Unopened<F> {
+    pub folders: F,
+}
+
+// A history of one entry, and the board at which it stands.
+#[derive(Drop)]
+struct Begun {
+    board: Board,
+    entries: Vec<Entry>,
+    ghost stands: { Replays entries.items board },
+}
+
+// The history that a venue opens.
+fn opened(alloc: Global, settings: &Arc<Settings>, venue: Arc<Venue>) -> Result<Begun, OutOfMemory>
+    requires { (arc_value venue).settings ≡ arc_value settings.now }
+    ensures entries { IfOk result (λ first. first.entries.items ≡ opening_history venue) }
+    ensures settings { IfOk result (λ first. first.board.settings ≡ arc_value settings.now) }
+{
+    every_venue(&venue);
+    let rows = Arc::try_clone(&venue)?;
+    let kept = Arc::try_clone(settings)?;
+    let board = Board::first(alloc, rows, kept)?;
+    let mut entries = Vec::new(alloc);
+    let act = Act::Published(venue);
+    entries.push(Entry { worker: 0, act })?;
+    Ok(Begun { board, entries })
+}
+
+impl<F: Folders> Alone<F> {
+    ghost use Rattle.version_board.specs.Halls.{folders_of, facts_of};
+
+    /// Opens a history with a venue, which worker 0 publishes, over folders below a base. Takes the memory of one entry and of the
+    /// first version's marks, and reads nothing.
+    pub fn begin(
+        alloc: Global,
+        settings: Arc<Settings>,
+        venue: Arc<Venue>,
+        folders: F,
+        base: Text,
+    ) -> Result<Alone<F>, Unopened<F>>
+        requires { (arc_value venue).settings ≡ arc_value settings }
+        ensures facts { IfOk result (λ hall. facts_of hall ≡ one_thread (F.files folders) base (opening_history venue) (F.faults folders) 0) }
+        ensures folders { IfOk result (λ hall. folders_of hall ≡ folders) }
+        ensures err { IfErr result (λ unopened. unopened.folders ≡ folders) }
+    {
+        match opened(alloc, &settings, venue) {
+            Ok(Begun { board, entries }) => Ok(Alone {
+                board,
+                entries,
+                reader: Reader { folders, base },
+                settings,
+                looks: 0,
+                alloc,
+            }),
+            Err(OutOfMemory) => Err(Unopened { folders }),
+        }
+    }
+
+    /// The folders, once the history is done with. Takes no memory.
+    pub fn finish(self) -> F
+        ensures { result ≡ folders_of self }
+    {
+        let Alone { reader, .. } = self;
+        let Reader { folders, .. } = reader;
+        folders
+    }
+
+    // Enters what is ready: its entry, and the board after it.
+    fn enter(&mut self, ready: Prepared) -> Result<(), OutOfMemory>
+        requires may { MayFollow self.old.board ready.entry }
+        requires next { ready.next ≡ after self.old.board ready.entry.act }
+        ensures ok { OnOk result (self.new.entries.items ≡ self.old.entries.items ++ ready.entry ∷ []) }
+        ensures err { OnErr result (self.new.entries.items ≡ self.old.entries.items) }
+        ensures reader { self.new.reader ≡ self.old.reader }
+        ensures looks { self.new.looks ≡ self.old.looks }
+    {
+        entry_law();
+        reserve(&mut self.entries, 1)?;
+        let (entry, board) = ready.into_parts();
+        push_reserved(&mut self.entries, entry);
+        self.board = board;
+        Ok(())
+    }
+
+    // Makes a change, but for the count of looks.
+    fn make(&mut self, change: &Change) -> Reply
+        ensures changes { Changes (shelf_of (F.files self.old.reader.folders) self.old.reader.base) 1 change.now self.old.entries.items result self.new.entries.items }
+        ensures counts { CountsFault (F.faults self.old.reader.folders) (F.faults self.new.reader.folders) result }
+        ensures same { F.files self.new.reader.folders ≡ F.files self.old.reader.folders }
+        ensures base { self.new.reader.base ≡ self.old.reader.base }
+        ensures looks { self.new.looks ≡ self.old.looks }
+    {
+        version_law();
+        match ready_change(
+            self.alloc,
+            &self.board,
+            &self.settings,
+            1,
+            &mut self.reader,
+            change,
+        ) {
+            Outcome::Stays(reply) => reply,
+            Outcome::Made(ready, reply, _files) => match self.enter(ready) {
+                Ok(()) => reply,
+                Err(OutOfMemory) => Reply::OutOfMemory,
+            },
+        }
+    }
+}
+
+impl<F: Folders> Asks for Alone<F> {
+    ghost use Rattle.version_board.specs.Halls.{facts_of};
+
+    ghost facts = { facts_of };
+
+    fn number(&self) -> u32 {
+        number_law();
+        self.board.number()
+    }
+
+    fn ask(&mut self, query: &Query) -> Reply {
+        self.board.ask(self.alloc, query)
+    }
+}
+
+impl<F: Folders> Hall for Alone<F> {
+    ghost use Rattle.version_board.specs.Halls.{folders_of, facts_of};
+
+    fn change(&mut self, change: &Change) -> Reply
+        ensures reply { IsChanged (facts_of self.old) (facts_of self.new) change.now result }
+        ensures grows { IsPrefix (facts_of self.old).seen (facts_of self.new).seen }
+        ensures legal { IsLegal (facts_of self.new).seen }
+        ensures made { (facts_of self.new).made ≡ (facts_of self.old).made + told result }
+        ensures faults { (facts_of self.old).faults ≤ (facts_of self.new).faults }
+        ensures fault { IsOutsideFault result → Rose (facts_of self.old).faults (facts_of self.new).faults }
+        ensures looks { Rose (facts_of self.old).looks (facts_of self.new).looks }
+        ensures same { IsSameHall (facts_of self.old) (facts_of self.new) }
+
+        // A reply that tells a fault tells the folders' own counts, at the beginning and at the end.
+        ensures counts { CountsFault (F.faults (folders_of self.old)) (F.faults (folders_of self.new)) result }
+    {
+        change_law();
+        number_law();
+        self.looks = self.looks.saturating_add(1);
+        self.make(change)
+    }
+
+    fn catch_up(&mut self) {
+        self.looks = self.looks.saturating_add(1);
+    }
+}
