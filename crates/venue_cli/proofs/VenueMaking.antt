@@ -3,10 +3,9 @@ use Rattle.std.proofs.Common.{◌≡◌, ℕ, List, Option, Some, None, Result, 
 use Rattle.std.specs.Prelude.{◌≤◌, IfOk, IfErr, IfSome, String, string_bytes}
 use Rattle.std.specs.declared.alloc.Global.{Global}
 use Rattle.venue_types.specs.declared.files.Files.{Files}
-use Rattle.venue_types.specs.declared.finding.Report.{Report}
 use Rattle.venue_types.specs.declared.settings.Settings.{Settings}
 use Rattle.venue_build.specs.Venues.{SeenVenue as Venue}
-use Rattle.venue_build.specs.Built.{IsRejected, IsVenueOf}
+use Rattle.venue_build.specs.Built.{IsVenueOf}
 use Rattle.check_text.specs.Text.{rejected_text}
 use Rattle.venue_ports.specs.Files.{StoredFile, file_at, HasReadCause}
 use Rattle.venue_ports.specs.declared.folders.ReadFault.{ReadFault}
