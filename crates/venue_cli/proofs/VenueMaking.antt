@@ -4,7 +4,6 @@ use Rattle.std.specs.Prelude.{◌≤◌, IfOk, IfErr, IfSome, String, string_byt
 use Rattle.std.specs.declared.alloc.Global.{Global}
 use Rattle.venue_types.specs.declared.files.Files.{Files}
 use Rattle.venue_types.specs.declared.settings.Settings.{Settings}
-use Rattle.venue_build.specs.Venues.{SeenVenue as Venue}
 use Rattle.venue_build.specs.Built.{IsVenueOf}
 use Rattle.check_text.specs.Text.{rejected_text}
 use Rattle.venue_ports.specs.Files.{StoredFile, file_at, HasReadCause}
@@ -18,7 +17,7 @@ use Rattle.venue_cli.specs.declared.status.Status.{Status}
 use Rattle.venue_cli.specs.declared.status.Status.TheVariants.{Negative, Wrong}
 use Rattle.venue_cli.specs.Files.{Reads}
 use Rattle.venue_cli.specs.Steps.{IsSettled, IsMade, IsMadeOf}
-use Rattle.venue_cli.specs.Checked.{SettingsForm, settings_limit, settings_name, NoVenue, no_settings, rejected, HasVenue}
+use Rattle.venue_cli.specs.Checked.{SettingsForm, settings_limit, settings_name, NoVenue, no_settings, rejected}
 use Rattle.venue_cli.proofs.VerifyJudging.{told_before}
 
 -- an answer is what is said of its text and status
