@@ -1,6 +1,6 @@
 -- From the answer and what was written to how the run ends.
 use Rattle.std.proofs.Common.{◌≡◌, ℕ, List, [], ◌++◌, Option, Some, None, Result, Ok, Err, refl, sym, subst, inl, inr, codes, append-nil}
-use Rattle.std.specs.Prelude.{IfSome, IfOk, OnOk, OnErr, string_bytes}
+use Rattle.std.specs.Prelude.{IfSome, IfOk, OnOk, OnErr}
 use Rattle.venue_ports.specs.Files.{StoredFile}
 use Rattle.venue_ports.specs.Causes.{Rose}
 use Rattle.venue_ports.specs.declared.folders.ReadFault.{ReadFault}
@@ -10,41 +10,52 @@ use Rattle.venue_cli.specs.declared.answer.Answer.{Answer}
 use Rattle.venue_cli.specs.declared.status.Status.{Status}
 use Rattle.venue_cli.specs.declared.status.Status.TheVariants.{Done, Negative, Wrong, Fault, Memory}
 use Rattle.venue_cli.specs.Steps.{IsPrinted}
-use Rattle.venue_cli.specs.Commands.{Asked, Price, Verify, Check, IsBase, IsFolder, IsAsked, AskFor, words_of}
-use Rattle.venue_cli.specs.Output.{PriceOutput, Output, other_words, answers_price, answers_verify, answers_check}
+use Rattle.venue_cli.specs.Commands.{Asked, Price, Verify, Check, Links, IsBase, IsFolder, IsAsked, AskFor, words_of}
+use Rattle.venue_cli.specs.Output.{PriceOutput, Output, other_words, answers_price, answers_verify, answers_check, answers_links}
 use Rattle.venue_cli.specs.Verified.{VerifyOutput}
 use Rattle.venue_cli.specs.Checked.{CheckOutput}
+use Rattle.venue_cli.specs.Linked.{LinksOutput}
+use Rattle.venue_cli.proofs.VenueMaking.{printed_as}
 use Rattle.venue_cli.specs.Ends.{Wrote, Run, NoFault, folder_fault, Ends}
 
 pub price_told : (words : List (List ℕ)) (files : Option (List StoredFile)) (base : List ℕ) (r : Result Answer ReadFault) → IsBase base → words ≡ words_of (Price base)
-    → IfOk r (λ a. IfSome files (λ fs. PriceOutput fs base (string_bytes a.text) a.status)) → IfOk r (λ a. IfSome files (λ fs. Output words fs (string_bytes a.text) a.status))
+    → IfOk r (λ a. IfSome files (λ fs. PriceOutput fs base a.text a.status)) → IfOk r (λ a. IfSome files (λ fs. Output words fs a.text a.status))
 price_told words files base (Err e) is-base is told = tt
 price_told words None base (Ok a) is-base is told = tt
 price_told words (Some fs) base (Ok a) is-base is told = answers_price base is-base is told
 
 pub verify_told : (words : List (List ℕ)) (files : Option (List StoredFile)) (base : List ℕ) (r : Result Answer ReadFault) → IsBase base → words ≡ words_of (Verify base)
-    → IfOk r (λ a. IfSome files (λ fs. VerifyOutput fs base (string_bytes a.text) a.status)) → IfOk r (λ a. IfSome files (λ fs. Output words fs (string_bytes a.text) a.status))
+    → IfOk r (λ a. IfSome files (λ fs. VerifyOutput fs base a.text a.status)) → IfOk r (λ a. IfSome files (λ fs. Output words fs a.text a.status))
 verify_told words files base (Err e) is-base is told = tt
 verify_told words None base (Ok a) is-base is told = tt
 verify_told words (Some fs) base (Ok a) is-base is told = answers_verify base is-base is told
 
 pub check_told : (words : List (List ℕ)) (files : Option (List StoredFile)) (base folder : List ℕ) (r : Result Answer ReadFault) → IsBase base → IsFolder folder → words ≡ words_of (Check base folder)
-    → IfOk r (λ a. IfSome files (λ fs. CheckOutput fs base folder (string_bytes a.text) a.status)) → IfOk r (λ a. IfSome files (λ fs. Output words fs (string_bytes a.text) a.status))
+    → IfOk r (λ a. IfSome files (λ fs. CheckOutput fs base folder a.text a.status)) → IfOk r (λ a. IfSome files (λ fs. Output words fs a.text a.status))
 check_told words files base folder (Err e) is-base is-folder is told = tt
 check_told words None base folder (Ok a) is-base is-folder is told = tt
 check_told words (Some fs) base folder (Ok a) is-base is-folder is told = answers_check base folder (is-base, is-folder) is told
 
+pub links_told : (words : List (List ℕ)) (files : Option (List StoredFile)) (base folder profile : List ℕ) (r : Result Answer ReadFault) → IsBase base → IsFolder folder
+    → words ≡ words_of (Links base folder profile)
+    → IfOk r (λ a. IfSome files (λ fs. LinksOutput fs base folder profile a.text a.status)) → IfOk r (λ a. IfSome files (λ fs. Output words fs a.text a.status))
+links_told words files base folder profile (Err e) is-base is-folder is told = tt
+links_told words None base folder profile (Ok a) is-base is-folder is told = tt
+links_told words (Some fs) base folder profile (Ok a) is-base is-folder is told = answers_links base folder profile (is-base, is-folder) is told
+
 -- the words ask for nothing
 pub asks_nothing : (words : List (List ℕ)) → ((base : List ℕ) → IsBase base → words ≡ words_of (Price base) → ⊥) → ((base : List ℕ) → IsBase base → words ≡ words_of (Verify base) → ⊥)
-    → ((base folder : List ℕ) → IsBase base → IsFolder folder → words ≡ words_of (Check base folder) → ⊥) → (asked : Asked) → IsAsked asked → words ≡ words_of asked → ⊥
-asks_nothing words no_price no_verify no_check (Price base) is-asked is = no_price base is-asked is
-asks_nothing words no_price no_verify no_check (Verify base) is-asked is = no_verify base is-asked is
-asks_nothing words no_price no_verify no_check (Check base folder) is-asked is = no_check base folder is-asked.0 is-asked.1 is
+    → ((base folder : List ℕ) → IsBase base → IsFolder folder → words ≡ words_of (Check base folder) → ⊥)
+    → ((base folder profile : List ℕ) → IsBase base → IsFolder folder → words ≡ words_of (Links base folder profile) → ⊥) → (asked : Asked) → IsAsked asked → words ≡ words_of asked → ⊥
+asks_nothing words no_price no_verify no_check no_links (Price base) is-asked is = no_price base is-asked is
+asks_nothing words no_price no_verify no_check no_links (Verify base) is-asked is = no_verify base is-asked is
+asks_nothing words no_price no_verify no_check no_links (Check base folder) is-asked is = no_check base folder is-asked.0 is-asked.1 is
+asks_nothing words no_price no_verify no_check no_links (Links base folder profile) is-asked is = no_links base folder profile is-asked.0 is-asked.1 is
 
-pub other_told : (words : List (List ℕ)) (files : Option (List StoredFile)) (text : List ℕ) → ((asked : Asked) → IsAsked asked → words ≡ words_of asked → ⊥) → text ≡ line (codes "words")
-    → IfSome files (λ fs. Output words fs text Wrong)
-other_told words None text none is = tt
-other_told words (Some fs) text none is = subst (λ (t : List ℕ). Output words fs t Wrong) (sym is) (other_words none)
+pub other_told : (words : List (List ℕ)) (files : Option (List StoredFile)) (answer : Answer) → ((asked : Asked) → IsAsked asked → words ≡ words_of asked → ⊥) → answer.text ≡ line (codes "words")
+    → answer.status ≡ Wrong → IfSome files (λ fs. Output words fs answer.text answer.status)
+other_told words None answer none is wrong = tt
+other_told words (Some fs) answer none is wrong = printed_as (Output words fs) (line (codes "words")) Wrong answer is wrong (other_words none)
 
 pub ends_printed : (words : List (List ℕ)) (files : Option (List StoredFile)) (run : Run) (status : Status) (text : List ℕ) → IsPrinted status → Wrote run.written run.written_now text
     → NoFault run → IfSome files (λ fs. Output words fs text status) → Ends words files run status

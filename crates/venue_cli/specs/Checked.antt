@@ -1,6 +1,5 @@
 -- What `check BASE FOLDER` prints.
 use Rattle.std.specs.Prelude.{◌≡◌, ℕ, ◌<◌, ◌≤◌, List, ◌++◌, length, Option, Some, None, Ok, Err, codes}
-use Rattle.venue_types.specs.declared.files.Files.{Files}
 use Rattle.venue_types.specs.declared.finding.Report.{Report}
 use Rattle.venue_types.specs.declared.settings.Settings.{Settings}
 use Rattle.venue_ports.specs.Files.{StoredFile, file_at}
@@ -44,13 +43,18 @@ pub data NoSettings (found : Option (List ℕ)) : List ℕ → Type 0 where
   unfit : {text : List ℕ} (bytes : List ℕ) (why : SettingsFault) → found ≡ Some bytes → length bytes ≤ settings_limit → IsSettingsOf bytes (Err why) → IsFaultText why text
       → NoSettings found text
 
--- what is printed of a folder under settings: its report, or the number of its features and what is worth a note
-pub data FolderOutput (files : Files) (settings : Settings) : List ℕ → Status → Type 0 where
-  rejected : (report : Report) → IsRejected files settings report → FolderOutput files settings (rejected_text report) Negative
-  accepted : (venue : Venue) → IsVenueOf files settings venue → FolderOutput files settings (accepted_text (feature_count venue.features) venue.notes) Done
+-- why there is no venue, and what is printed then: the settings stop the command, or the folder is rejected under them
+pub data NoVenue (files : List StoredFile) (base folder : List ℕ) : List ℕ → Status → Type 0 where
+  no_settings : {text : List ℕ} → NoSettings (file_at files base settings_name) text → NoVenue files base folder text Wrong
+  rejected : (settings : Settings) (report : Report) → Reads SettingsForm settings_limit (file_at files base settings_name) settings
+      → IsRejected (folder_files files (folder_path base folder)) settings report → NoVenue files base folder (rejected_text report) Negative
+
+-- the base has the venue's settings, and under them the folder makes the venue
+pub record HasVenue (files : List StoredFile) (base folder : List ℕ) (venue : Venue) : Type 0 where
+  pub settings : Reads SettingsForm settings_limit (file_at files base settings_name) venue.settings
+  pub made : IsVenueOf (folder_files files (folder_path base folder)) venue.settings venue
 
 -- `check BASE FOLDER`: the settings are judged before the folder is
 pub data CheckOutput (files : List StoredFile) (base folder : List ℕ) : List ℕ → Status → Type 0 where
-  no_settings : {text : List ℕ} → NoSettings (file_at files base settings_name) text → CheckOutput files base folder text Wrong
-  checked : {text : List ℕ} {status : Status} (settings : Settings) → Reads SettingsForm settings_limit (file_at files base settings_name) settings
-      → FolderOutput (folder_files files (folder_path base folder)) settings text status → CheckOutput files base folder text status
+  no_venue : {text : List ℕ} {status : Status} → NoVenue files base folder text status → CheckOutput files base folder text status
+  accepted : (venue : Venue) → HasVenue files base folder venue → CheckOutput files base folder (accepted_text (feature_count venue.features) venue.notes) Done

@@ -6,6 +6,7 @@ pub data Asked : Type 0 where
   Price : List ℕ → Asked
   Verify : List ℕ → Asked
   Check : List ℕ → List ℕ → Asked
+  Links : List ℕ → List ℕ → List ℕ → Asked
 
 -- the name of a base: 1 to 1,024 bytes without a zero byte
 pub record IsBase (base : List ℕ) : Type 0 where
@@ -28,12 +29,14 @@ abbrev pub words_of : Asked → List (List ℕ)
 words_of (Price base) = codes "price" ∷ base ∷ []
 words_of (Verify base) = codes "verify" ∷ base ∷ []
 words_of (Check base folder) = codes "check" ∷ base ∷ folder ∷ []
+words_of (Links base folder profile) = codes "links" ∷ base ∷ folder ∷ profile ∷ []
 
--- its words are of their form
+-- its words are of their form; any word may be a profile's name
 abbrev pub IsAsked : Asked → Type 0
 IsAsked (Price base) = IsBase base
 IsAsked (Verify base) = IsBase base
 IsAsked (Check base folder) = IsBase base × IsFolder folder
+IsAsked (Links base folder profile) = IsBase base × IsFolder folder
 
 -- the words ask for a command
 pub record AskFor (words : List (List ℕ)) : Type 0 where

@@ -2,6 +2,7 @@ pub mod Files
 pub mod Commands
 pub mod Verified
 pub mod Checked
+pub mod Linked
 pub mod Output
 pub mod Steps
 pub mod Ends

@@ -1,14 +1,28 @@
 -- What the parts of the program answer.
-use Rattle.std.specs.Prelude.{◌≡◌, ℕ, ◌<◌, ◌≤◌, List, length, Option, Some, None, Result, Err, MatchResult, String, string_bytes}
+use Rattle.std.specs.Prelude.{◌≡◌, ℕ, ◌<◌, ◌≤◌, List, length, Option, Some, None, Result, Err, MatchResult, String, string_bytes, codes}
 use Rattle.std.specs.declared.alloc.Global.{Global}
+use Rattle.venue_types.specs.declared.files.Files.{Files}
+use Rattle.venue_types.specs.declared.finding.Report.{Report}
+use Rattle.venue_types.specs.declared.settings.Profile.{Profile}
 use Rattle.venue_types.specs.declared.settings.Settings.{Settings}
+use Rattle.venue_ports.specs.Files.{StoredFile}
+use Rattle.line_forms.specs.Lines.{line}
+use Rattle.route_certificate.specs.Forms.{table_text}
+use Rattle.link_tables.specs.Tables.{table_of}
+use Rattle.venue_build.specs.Venues.{SeenVenue as Venue}
+use Rattle.venue_build.specs.Built.{IsRejected, IsVenueOf}
+use Rattle.check_text.specs.Text.{rejected_text}
 use Rattle.venue_cli.specs.declared.load.Loaded.{Loaded}
 use Rattle.venue_cli.specs.declared.load.Loaded.TheVariants as loaded
+use Rattle.venue_cli.specs.declared.answer.Answer.{Answer}
+use Rattle.venue_cli.specs.declared.making.Made.{Made}
+use Rattle.venue_cli.specs.declared.making.Made.TheVariants as made
 use Rattle.venue_cli.specs.declared.status.Status.{Status}
 use Rattle.venue_cli.specs.declared.status.Status.TheVariants.{Done, Negative, Wrong, Fault, Memory}
 use Rattle.venue_cli.specs.declared.load.Cause.{Cause}
 use Rattle.venue_cli.specs.Files.{Reads, StopsBy}
-use Rattle.venue_cli.specs.Checked.{SettingsForm, settings_limit, IsFaultText, NoSettings}
+use Rattle.venue_cli.specs.Checked.{SettingsForm, settings_limit, IsFaultText, NoSettings, NoVenue, HasVenue}
+use Rattle.venue_cli.specs.Linked.{profile_named}
 use Rattle.venue_settings.specs.declared.fault.SettingsFault.{SettingsFault}
 use Rattle.venue_settings.specs.Settings.{IsSettingsOf}
 
@@ -44,3 +58,27 @@ IsJudgedText bytes judged =
 -- the settings of the base are read, or this line stops the command
 abbrev pub IsSettled : Option (List ℕ) → Result Settings (String Global) → Type 0
 IsSettled found settled = MatchResult settled (Reads SettingsForm settings_limit found) (λ text. NoSettings found (string_bytes text))
+
+-- the base has a venue in the folder, or this is printed
+abbrev pub IsMade : List StoredFile → List ℕ → List ℕ → Made → Type 0
+IsMade files base folder (made.Stopped answer) = NoVenue files base folder answer.text answer.status
+IsMade files base folder (made.Venue venue) = HasVenue files base folder venue
+
+-- what stops the command is a printed line
+abbrev pub IsPlain : Made → Type 0
+IsPlain (made.Stopped answer) = IsPrinted answer.status
+IsPlain (made.Venue venue) = Unit {0}
+
+-- the files of the folder make this venue under these settings, or their report is printed
+abbrev pub IsMadeOf : Files → Settings → Made → Type 0
+IsMadeOf files settings (made.Stopped answer) = (report : Report) × IsRejected files settings report × (answer.text ≡ rejected_text report) × (answer.status ≡ Negative)
+IsMadeOf files settings (made.Venue venue) = IsVenueOf files settings venue
+
+-- what is printed of a venue where this profile has the name, or none: the table of the links that it may use, or that there is none
+abbrev pub IsLinkedFor : Venue → Answer → Option Profile → Type 0
+IsLinkedFor venue answer None = (answer.text ≡ line (codes "profile")) × (answer.status ≡ Wrong)
+IsLinkedFor venue answer (Some profile) = (answer.text ≡ table_text (table_of venue.features venue.settings profile)) × (answer.status ≡ Done)
+
+-- what is printed of a venue for the name of a profile
+abbrev pub IsLinked : Venue → List ℕ → Answer → Type 0
+IsLinked venue name answer = IsLinkedFor venue answer (profile_named venue.settings name)

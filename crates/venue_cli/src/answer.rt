@@ -9,24 +9,37 @@ ghost use Rattle.venue_cli.specs.Steps.{IsPrinted};
 
 use crate::base::{table_of, walk_of};
 use crate::checking::check_answer;
+use crate::linking::links_answer;
 use crate::load::Cause;
 use crate::status::Status;
 use crate::verifying::verify_answer;
-use crate::words::{base_of, folder_of};
+use crate::words::{base_of, folder_of, links_of};
 use route_certificate::{Priced, price};
 use std::alloc::{AllocError, Global};
 use venue_ports::{Folders, ReadFault};
+use venue_types::Bytes;
 
 /// A status, and the text that is printed with it.
 #[derive(Drop)]
 pub(crate) struct Answer {
     pub status: Status,
-    pub text: String,
+    pub text: Bytes,
+}
+
+/// The answer with this text.
+pub(crate) fn printed(status: Status, text: String) -> Answer
+    ensures status { result.status ≡ status }
+    ensures text { result.text ≡ string_bytes text }
+{
+    Answer {
+        status,
+        text: Bytes::from_vec(text.into_bytes()),
+    }
 }
 
 /// The answer where a file of the base stops the command.
 pub(crate) fn stopped(alloc: Global, file: &str, cause: Cause) -> Result<Answer, AllocError>
-    ensures text { IfOk result (λ answer. string_bytes answer.text ≡ stop_text file.now cause) }
+    ensures text { IfOk result (λ answer. answer.text ≡ stop_text file.now cause) }
     ensures status { IfOk result (λ answer. answer.status ≡ Status.Wrong) }
 {
     let text = match cause {
@@ -34,32 +47,29 @@ pub(crate) fn stopped(alloc: Global, file: &str, cause: Cause) -> Result<Answer,
         Cause::Large => format!(in alloc; "large {file}\n")?,
         Cause::Malformed(line) => format!(in alloc; "form {file} {line}\n")?,
     };
-    Ok(Answer {
-        status: Status::Wrong,
-        text,
-    })
+    Ok(printed(Status::Wrong, text))
 }
 
 // The answer where the walk is priced.
 fn priced(alloc: Global, outcome: Priced) -> Result<Answer, AllocError>
-    ensures text { IfOk result (λ answer. string_bytes answer.text ≡ priced_text outcome) }
+    ensures text { IfOk result (λ answer. answer.text ≡ priced_text outcome) }
     ensures status { IfOk result (λ answer. answer.status ≡ priced_status outcome) }
 {
     match outcome {
-        Priced::Cost(cost) => Ok(Answer {
-            status: Status::Done,
-            text: format!(in alloc; "cost {cost}\n")?,
-        }),
-        Priced::Broken(place) => Ok(Answer {
-            status: Status::Negative,
-            text: format!(in alloc; "broken {place}\n")?,
-        }),
+        Priced::Cost(cost) => {
+            let text = format!(in alloc; "cost {cost}\n")?;
+            Ok(printed(Status::Done, text))
+        }
+        Priced::Broken(place) => {
+            let text = format!(in alloc; "broken {place}\n")?;
+            Ok(printed(Status::Negative, text))
+        }
     }
 }
 
 // The answer to `price BASE`.
 fn price_answer<F: Folders>(alloc: Global, base: &str, folders: &mut F) -> Result<Answer, ReadFault>
-    ensures told { IfOk result (λ answer. IfSome (F.files folders.old) (λ files. PriceOutput files base.now (string_bytes answer.text) answer.status)) }
+    ensures told { IfOk result (λ answer. IfSome (F.files folders.old) (λ files. PriceOutput files base.now answer.text answer.status)) }
     ensures plain { IfOk result (λ answer. IsPrinted answer.status) }
     ensures same { F.files folders.new ≡ F.files folders.old }
     ensures cause { HasReadCause (F.faults folders.old) (F.faults folders.new) result }
@@ -81,7 +91,7 @@ pub(crate) fn answer_to<F: Folders>(
     words: &[String],
     folders: &mut F,
 ) -> Result<Answer, ReadFault>
-    ensures told { IfOk result (λ answer. IfSome (F.files folders.old) (λ files. Output (map string_bytes words.now) files (string_bytes answer.text) answer.status)) }
+    ensures told { IfOk result (λ answer. IfSome (F.files folders.old) (λ files. Output (map string_bytes words.now) files answer.text answer.status)) }
     ensures plain { IfOk result (λ answer. IsPrinted answer.status) }
     ensures asked { IsErrOf result ReadFault.Failed → AskFor (map string_bytes words.now) }
     ensures same { F.files folders.new ≡ F.files folders.old }
@@ -96,8 +106,8 @@ pub(crate) fn answer_to<F: Folders>(
     if let Some((base, folder)) = folder_of(words) {
         return check_answer(alloc, base, folder, folders);
     }
-    Ok(Answer {
-        status: Status::Wrong,
-        text: String::from_str(alloc, "words\n")?,
-    })
+    if let Some((base, folder, profile)) = links_of(words) {
+        return links_answer(alloc, base, folder, profile, folders);
+    }
+    Ok(printed(Status::Wrong, String::from_str(alloc, "words\n")?))
 }

@@ -1,4 +1,4 @@
-//! Trials of `check`: each row is a name, what is changed in the station, and what is then printed.
+//! Trials of commands over the station. Of `check` each row is a name, what is changed in the station, and what is then printed.
 
 mod accepted_rows;
 mod bulk_rows;
@@ -6,6 +6,8 @@ mod figure_rows;
 mod file_rows;
 mod holding_rows;
 mod item_rows;
+mod link_rows;
+mod linking;
 mod place_rows;
 mod program;
 mod property_rows;

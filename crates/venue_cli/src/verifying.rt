@@ -5,7 +5,7 @@ ghost use Rattle.venue_ports.specs.Files.{HasReadCause};
 ghost use Rattle.venue_cli.specs.Verified.{clause_text, verdict_text, verdict_status, VerifyOutput};
 ghost use Rattle.venue_cli.specs.Steps.{IsPrinted};
 
-use crate::answer::{Answer, stopped};
+use crate::answer::{Answer, printed, stopped};
 use crate::base::{answer_of, table_of};
 use crate::status::Status;
 use route_certificate::{FailedClause, Verdict, verify};
@@ -28,18 +28,15 @@ fn fails(alloc: Global, clause: FailedClause) -> Result<String, AllocError>
 
 // The answer where the answer of the base is judged.
 fn judged(alloc: Global, verdict: Verdict) -> Result<Answer, AllocError>
-    ensures text { IfOk result (λ answer. string_bytes answer.text ≡ verdict_text verdict) }
+    ensures text { IfOk result (λ answer. answer.text ≡ verdict_text verdict) }
     ensures status { IfOk result (λ answer. answer.status ≡ verdict_status verdict) }
 {
     match verdict {
-        Verdict::Proved => Ok(Answer {
-            status: Status::Done,
-            text: String::from_str(alloc, "proved\n")?,
-        }),
-        Verdict::Fails(clause) => Ok(Answer {
-            status: Status::Negative,
-            text: fails(alloc, clause)?,
-        }),
+        Verdict::Proved => {
+            let text = String::from_str(alloc, "proved\n")?;
+            Ok(printed(Status::Done, text))
+        }
+        Verdict::Fails(clause) => Ok(printed(Status::Negative, fails(alloc, clause)?)),
     }
 }
 
@@ -49,7 +46,7 @@ pub(crate) fn verify_answer<F: Folders>(
     base: &str,
     folders: &mut F,
 ) -> Result<Answer, ReadFault>
-    ensures told { IfOk result (λ answer. IfSome (F.files folders.old) (λ files. VerifyOutput files base.now (string_bytes answer.text) answer.status)) }
+    ensures told { IfOk result (λ answer. IfSome (F.files folders.old) (λ files. VerifyOutput files base.now answer.text answer.status)) }
     ensures plain { IfOk result (λ answer. IsPrinted answer.status) }
     ensures same { F.files folders.new ≡ F.files folders.old }
     ensures cause { HasReadCause (F.faults folders.old) (F.faults folders.new) result }

@@ -75,3 +75,34 @@ pub(crate) fn folder_of(words: &[String]) -> Option<(&str, &str)>
         None
     }
 }
+
+// The words, where they are four.
+fn four_words(words: &[String]) -> Option<(&str, &str, &str, &str)>
+    ensures found { IfSome result (λ four. map string_bytes words.now ≡ four.0.now ∷ four.1.now ∷ four.2.now ∷ four.3.now ∷ []) }
+    ensures none { IfNone result ((first second third fourth : List ℕ) → map string_bytes words.now ≡ first ∷ second ∷ third ∷ fourth ∷ [] → ⊥) }
+{
+    match words {
+        [first, second, third, fourth] => {
+            Some((
+                first.as_str(),
+                second.as_str(),
+                third.as_str(),
+                fourth.as_str(),
+            ))
+        }
+        _ => None,
+    }
+}
+
+/// The base, the folder and the name of a profile, where the words ask for links.
+pub(crate) fn links_of(words: &[String]) -> Option<(&str, &str, &str)>
+    ensures found { IfSome result (λ three. IsBase three.0.now × IsFolder three.1.now × (map string_bytes words.now ≡ codes "links" ∷ three.0.now ∷ three.1.now ∷ three.2.now ∷ [])) }
+    ensures none { IfNone result ((base folder profile : List ℕ) → IsBase base → IsFolder folder → map string_bytes words.now ≡ codes "links" ∷ base ∷ folder ∷ profile ∷ [] → ⊥) }
+{
+    let (command, base, folder, profile) = four_words(words)?;
+    if command == "links" && is_base(base) && is_folder(folder) {
+        Some((base, folder, profile))
+    } else {
+        None
+    }
+}

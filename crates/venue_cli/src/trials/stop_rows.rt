@@ -116,7 +116,7 @@ pub(super) static STOPS: [StopRow; 19] = [
 ];
 
 /// Words that are those of no command.
-pub(super) static WORDS: [&[&str]; 12] = [
+pub(super) static WORDS: [&[&str]; 17] = [
     &["check"],
     &["check", "base"],
     &["check", "base", "station", "x"],
@@ -133,4 +133,9 @@ pub(super) static WORDS: [&[&str]; 12] = [
         "aaaaaaaaaaaaaaaaaaaaaaaaaaaaaaaaaaaaaaaaaaaaaaaaaaaaaaaaaaaaaaaaa",
     ],
     &["checks", "base", "station"],
+    &["links", "base", "station"],
+    &["links", "base", "station", "walk", "walk"],
+    &["links", "base", "station", "walk", "walk", "x"],
+    &["links", "", "station", "walk"],
+    &["Links", "base", "station", "walk"],
 ];

@@ -1,6 +1,7 @@
+use Rattle.std.proofs.Common.{◌∙◌}
 use Rattle.std.specs.Prelude.{string_bytes, map}
-use Rattle.venue_cli.specs.Commands.{Price, Verify, Check}
-use Rattle.venue_cli.proofs.Ending.{price_told, verify_told, check_told, other_told, asks_nothing}
+use Rattle.venue_cli.specs.Commands.{Price, Verify, Check, Links}
+use Rattle.venue_cli.proofs.Ending.{price_told, verify_told, check_told, links_told, other_told, asks_nothing}
 use Rattle.venue_cli.proofs.answer.answer_to.Goals as goal
 
 pub returns-in-Some-clause-told : goal.returns-in-Some-clause-told
@@ -18,10 +19,16 @@ returns-in-Some-folder_of-clause-told g c =
     let found = c.in-Some-folder_of.ensures.found in
     check_told (map string_bytes c.args.words.now) (g.F.Folders.files c.args.folders.now) _ _ c.check_answer.result found.0 found.1 found.2 c.check_answer.ensures.told
 
+pub returns-in-Some-links_of-clause-told : goal.returns-in-Some-links_of-clause-told
+returns-in-Some-links_of-clause-told g c =
+    let found = c.in-Some-links_of.ensures.found in
+    links_told (map string_bytes c.args.words.now) (g.F.Folders.files c.args.folders.now) _ _ _ c.links_answer.result found.0 found.1 found.2 c.links_answer.ensures.told
+
 pub returns-clause-told : goal.returns-clause-told
 returns-clause-told g c =
-    other_told (map string_bytes c.args.words.now) (g.F.Folders.files c.args.folders.now) (string_bytes c.in_ok-from_str.field-0)
-    (asks_nothing (map string_bytes c.args.words.now) c.in_default.ensures.none c.in_default-base_of.ensures.none c.in_default-folder_of.ensures.none) c.in_ok-from_str.ensures.ok
+    other_told (map string_bytes c.args.words.now) (g.F.Folders.files c.args.folders.now) c.printed.result
+    (asks_nothing (map string_bytes c.args.words.now) c.in_default.ensures.none c.in_default-base_of.ensures.none c.in_default-folder_of.ensures.none c.in_default-links_of.ensures.none)
+    (c.printed.ensures.text ∙ c.in_ok-from_str.ensures.ok) c.printed.ensures.status
 
 pub returns-in-Some-clause-asked : goal.returns-in-Some-clause-asked
 returns-in-Some-clause-asked g c failed =
@@ -37,3 +44,8 @@ pub returns-in-Some-folder_of-clause-asked : goal.returns-in-Some-folder_of-clau
 returns-in-Some-folder_of-clause-asked g c failed =
     let found = c.in-Some-folder_of.ensures.found in
     record { asked = Check c.in-Some-folder_of.base.now c.in-Some-folder_of.folder.now; form = (found.0, found.1); spelled = found.2 }
+
+pub returns-in-Some-links_of-clause-asked : goal.returns-in-Some-links_of-clause-asked
+returns-in-Some-links_of-clause-asked g c failed =
+    let found = c.in-Some-links_of.ensures.found in
+    record { asked = Links c.in-Some-links_of.base.now c.in-Some-links_of.folder.now c.in-Some-links_of.profile.now; form = (found.0, found.1); spelled = found.2 }

@@ -1,13 +1,16 @@
-use Rattle.std.proofs.Common.{◌∙◌}
-use Rattle.venue_cli.proofs.CheckJudging.{stops_at_settings, is_checked}
+use Rattle.venue_cli.proofs.VenueMaking.{memory_cause}
+use Rattle.venue_cli.proofs.CheckJudging.{check_stopped, check_accepted}
 use Rattle.venue_cli.proofs.checking.check_answer.Goals as goal
 
-pub returns-in-Err-clause-told : goal.returns-in-Err-clause-told
-returns-in-Err-clause-told g c =
-    stops_at_settings (g.F.Folders.files c.args.folders.now) c.args.base.now c.args.folder.now c.in_ok-settings.field-0 c.in-Err.text c.in_ok-settings.ensures.told c.in-Err.is
+pub returns-in-Stopped-clause-told : goal.returns-in-Stopped-clause-told
+returns-in-Stopped-clause-told g c =
+    check_stopped (g.F.Folders.files c.args.folders.now) c.args.base.now c.args.folder.now c.in_ok-made.made c.in-Stopped.answer c.in_ok-made.ensures.told c.in-Stopped.is
 
-pub returns-clause-told : goal.returns-clause-told
-returns-clause-told g c =
-    is_checked (g.F.Folders.files c.args.folders.now) (g.F.Folders.files c.settings_of.new.folders) c.args.base.now c.args.folder.now c.as_str.result.now c.in_ok-settings.field-0 c.in-Ok.settings
-    c.in_ok-files.files c.judged.result c.in_ok-settings.ensures.same c.in_ok-settings.ensures.told c.in-Ok.is (c.as_str.ensures.value ∙ c.in_ok-path.ensures.ok) c.in_ok-files.ensures.told
-    c.judged.ensures.told
+pub returns-in-Venue-clause-told : goal.returns-in-Venue-clause-told
+returns-in-Venue-clause-told g c =
+    check_accepted (g.F.Folders.files c.args.folders.now) c.args.base.now c.args.folder.now c.in_ok-made.made c.in-Venue.venue c.accepted.result c.in_ok-made.ensures.told c.in-Venue.is
+    c.accepted.ensures.text c.accepted.ensures.status
+
+pub returns-in-Venue-clause-cause : goal.returns-in-Venue-clause-cause
+returns-in-Venue-clause-cause g c =
+    memory_cause (g.F.Folders.faults c.args.folders.now) (g.F.Folders.faults c.venue_of.new.folders) c.accepted.result c.in_ok-made.ensures.cause.later c.in_ok-made.ensures.cause.kept c.accepted.ensures.memory
