@@ -3,8 +3,6 @@
 
 mod building;
 mod built;
-#[cfg(test)]
-mod graph_tests;
 mod ground;
 mod law;
 mod ordinals;

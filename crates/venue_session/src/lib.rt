@@ -10,6 +10,8 @@ mod refusing;
 mod running;
 mod serving;
 #[cfg(test)]
+mod session_tests;
+#[cfg(test)]
 mod tests;
 mod texts;
 mod writing;

@@ -12,6 +12,8 @@ mod preparing;
 mod routing;
 mod stand;
 mod tally;
+#[cfg(test)]
+mod tests;
 mod unready;
 
 pub use board::Board;

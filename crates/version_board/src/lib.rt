@@ -6,6 +6,8 @@ mod hall;
 mod laws;
 mod making;
 mod reader;
+#[cfg(test)]
+mod tests;
 
 pub use alone::{Alone, Unopened};
 pub use hall::{Asks, Hall};
