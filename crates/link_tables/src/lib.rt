@@ -4,7 +4,9 @@
 mod counts;
 mod ids;
 mod passing;
+mod places;
 mod rows;
 mod tables;
 
+pub use places::row_places;
 pub use tables::allowed_table;

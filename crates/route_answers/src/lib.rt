@@ -1,0 +1,6 @@
+//! The answer to the question for a way through a venue, over the table of the links that a profile may use.
+#![tactic(auto)]
+
+mod answering;
+
+pub use answering::route_answer;
