@@ -215,6 +215,7 @@ module _ (IsLink : Link → Type 0) (nodes from to now : ℕ) (state : State) (s
     start = root.start;
     rooted = λ n is. hopped IsLink state from n (last_in state n).by is (root.only n is) (tree.comes n is);
     small = λ n is. (let room = (tree.small n is).cost_room in omega (arith, room, tree.few));
+    shallow = λ n is. (let room = (tree.small n is).depth_room in omega (arith, room));
   }
 
   over : AreOver IsLink state.costs.items state.lasts.items

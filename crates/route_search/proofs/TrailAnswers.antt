@@ -9,7 +9,7 @@ use Rattle.walk_laws.specs.Walks.{IsWalk, walk_cost, HasNoWalk, IsLeast}
 use Rattle.walk_laws.specs.Certificates.{potential, Ascends, IsCertificate, IsCut}
 use Rattle.link_graph.specs.Views.{link_view, potential_view}
 use Rattle.route_search.specs.declared.labels.Last.{Last}
-use Rattle.route_search.specs.Answers.{IsRoute, IsNoRoute}
+use Rattle.route_search.specs.Answers.{IsRoute, IsNoRoute, IsSmallRoute}
 use Rattle.route_search.specs.Labels.{IsTree, IsLabelled, IsFound, IsSpent, cost_at, no_cost}
 use Rattle.route_search.specs.Trails.{IsLast, IsTrail, AreNodesBelow, ArePotentialsBelow}
 use Rattle.route_search.proofs.TrailLists.{cost_within}
@@ -83,3 +83,16 @@ is_no_route IsLink from to costs lasts reached none_of tree nowhere are spent =
       );
       rising = are.rising;
     }
+
+-- ---- within so many nodes
+
+pub small_route : (from to : ℕ) (costs : List ℕ) (lasts : List Last) (walk : List Link) (ps : List Potential) → IsTree (length costs) from costs lasts → IsLabelled costs to → IsTrail costs lasts from to walk
+    → ArePotentialsBelow costs (cost_at costs to) (length costs) ps → IsSmallRoute (length costs) walk (cost_at costs to) ps
+small_route from to costs lasts walk ps tree there trail are = record {
+  few = omega (arith, trail.goes_deeper, tree.shallow to there);
+  cheap = tree.small to there;
+  nodes_alone = λ k d within. (are.only (get_or ps k d) (Contains-get_or ps k d within)).node;
+}
+
+pub small_cut : (costs : List ℕ) (reached : List ℕ) → AreNodesBelow costs no_cost (length costs) reached → All (λ (n : ℕ). n < length costs) reached
+small_cut costs reached are k d within = (are.only (get_or reached k d) (Contains-get_or reached k d within)).0

@@ -40,7 +40,7 @@ back_more lasts to here link back known by is =
     let sum : walk_cost link_view (link ∷ reverse back) ≡ link.cost + walk_cost link_view (reverse back) = sum_by-cons link_view.cost link (reverse back) in
     record {
       known = hop.before;
-      trail = subst (IsTrail known.costs lasts link.from to) (sym (reverse-append back (link ∷ []))) (record { leads = leads; costs_more = omega (arith, sum, hop.cost, further.costs_more) });
+      trail = subst (IsTrail known.costs lasts link.from to) (sym (reverse-append back (link ∷ []))) (record { leads = leads; costs_more = omega (arith, sum, hop.cost, further.costs_more); goes_deeper = omega (arith, hop.depth, further.goes_deeper) });
     }
 
 -- at the start

@@ -1,5 +1,5 @@
 -- What an answer to the question for a way says, over the links of a family.
-use Rattle.std.specs.Prelude.{◌<◌, ◌↔◌, ℕ, List, All, Contains}
+use Rattle.std.specs.Prelude.{◌<◌, ◌≤◌, ◌^◌, ◌↔◌, ℕ, List, All, Contains, length}
 use Rattle.std.specs.List.Sorted.{IsStrictlyIncreasing}
 use Rattle.venue_types.specs.declared.link.Link.{Link}
 use Rattle.venue_types.specs.declared.link.Potential.{Potential}
@@ -27,3 +27,14 @@ pub record IsNoRoute (IsLink : Link → Type 0) (from to : ℕ) (reached : List 
 abbrev pub IsAnswer : (Link → Type 0) → ℕ → ℕ → Found → Type 0
 IsAnswer IsLink from to (Route walk cost potentials) = IsRoute IsLink from to walk cost potentials
 IsAnswer IsLink from to (Cut reached) = IsNoRoute IsLink from to reached
+
+-- a walk of no more links than there are nodes, which costs less than 2^42 centimetres, and potentials of nodes
+pub record IsSmallRoute (nodes : ℕ) (walk : List Link) (cost : ℕ) (listed : List Potential) : Type 0 where
+  pub few : length walk ≤ nodes
+  pub cheap : cost < 2 ^ 42
+  pub nodes_alone : All (λ (p : Potential). p.node < nodes) listed
+
+-- what is found keeps within a network of so many nodes
+abbrev pub IsSmall : ℕ → Found → Type 0
+IsSmall nodes (Route walk cost potentials) = IsSmallRoute nodes walk cost potentials
+IsSmall nodes (Cut reached) = All (λ (n : ℕ). n < nodes) reached

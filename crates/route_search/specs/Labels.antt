@@ -38,13 +38,14 @@ Hops costs lasts from n (Some link) = IsHop costs lasts n link
 abbrev pub Rooted : List ℕ → List Last → ℕ → Type 0
 Rooted costs lasts from = (n : ℕ) → IsLabelled costs n → Hops costs lasts from n (last_at lasts n).by
 
--- every known walk leads back to the start and costs little
+-- every known walk leads back to the start, costs little, and has no more links than there are nodes
 pub record IsTree (nodes from : ℕ) (costs : List ℕ) (lasts : List Last) : Type 0 where
   pub costs_count : length costs ≡ nodes
   pub lasts_count : length lasts ≡ nodes
   pub start : cost_at costs from ≡ 0
   pub rooted : Rooted costs lasts from
   pub small : (n : ℕ) → IsLabelled costs n → cost_at costs n < 2 ^ 42
+  pub shallow : (n : ℕ) → IsLabelled costs n → (last_at lasts n).depth ≤ nodes
 
 -- the last links of all known walks are of a family
 abbrev pub AreOver : (Link → Type 0) → List ℕ → List Last → Type 0

@@ -22,10 +22,11 @@ pub record IsLast (costs : List ℕ) (lasts : List Last) (link : Link) : Type 0 
   pub known : IsLabelled costs node
   pub by : (last_at lasts node).by ≡ Some link
 
--- a walk over last links, which costs what is known of its end beyond what is known of its start
+-- a walk over last links, which costs what is known of its end beyond what is known of its start, and has as many links
 pub record IsTrail (costs : List ℕ) (lasts : List Last) (from to : ℕ) (walk : List Link) : Type 0 where
   pub leads : IsWalk link_view (IsLast costs lasts) from to walk
   pub costs_more : cost_at costs from + walk_cost link_view walk ≡ cost_at costs to
+  pub goes_deeper : (last_at lasts from).depth + length walk ≡ (last_at lasts to).depth
 
 -- exactly those of the first nodes that cost less, rising
 pub record AreNodesBelow (costs : List ℕ) (limit count : ℕ) (cheaper : List ℕ) : Type 0 where

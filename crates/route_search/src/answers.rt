@@ -4,7 +4,7 @@ ghost use Rattle.std.specs.Prelude.{◌<◌, ◌≤◌, ℕ, List, length, IfOk}
 ghost use Rattle.venue_types.specs.declared.feature_id.FeatureId.{FeatureId};
 ghost use Rattle.venue_types.specs.declared.settings.Profile.{Profile};
 ghost use Rattle.link_graph.specs.Networks.{Network, IsPassable};
-ghost use Rattle.route_search.specs.Answers.{IsAnswer};
+ghost use Rattle.route_search.specs.Answers.{IsAnswer, IsSmall};
 ghost use Rattle.route_search.specs.Labels.{IsTree, IsLabelled, IsFound, IsSpent};
 
 use crate::families::{PassableLinks, RoutePotentials};
@@ -26,7 +26,8 @@ pub(crate) fn route(
     requires few { length costs.now ≤ 400000 }
     requires tree { IsTree (length costs.now) from costs.now lasts.now }
     requires there { IsLabelled costs.now to }
-    ensures { IfOk result (λ found. (network : Network) (closed : List FeatureId) (profile : Profile) → IsFound (IsPassable network closed profile) to costs.now lasts.now → IsAnswer (IsPassable network closed profile) from to found) }
+    ensures answer { IfOk result (λ found. (network : Network) (closed : List FeatureId) (profile : Profile) → IsFound (IsPassable network closed profile) to costs.now lasts.now → IsAnswer (IsPassable network closed profile) from to found) }
+    ensures small { IfOk result (IsSmall (length costs.now)) }
 {
     least_law::<PassableLinks>();
     potential_law::<RoutePotentials>();
@@ -51,7 +52,8 @@ pub(crate) fn cut(
     requires few { length costs.now ≤ 400000 }
     requires tree { IsTree (length costs.now) from costs.now lasts.now }
     requires nowhere { ¬ IsLabelled costs.now to }
-    ensures { IfOk result (λ found. (network : Network) (closed : List FeatureId) (profile : Profile) → IsSpent (IsPassable network closed profile) costs.now lasts.now → IsAnswer (IsPassable network closed profile) from to found) }
+    ensures answer { IfOk result (λ found. (network : Network) (closed : List FeatureId) (profile : Profile) → IsSpent (IsPassable network closed profile) costs.now lasts.now → IsAnswer (IsPassable network closed profile) from to found) }
+    ensures small { IfOk result (IsSmall (length costs.now)) }
 {
     cut_law::<PassableLinks>();
     let reached = nodes_below(alloc, costs, NO_COST)?;

@@ -4,7 +4,7 @@ ghost use Rattle.std.specs.Prelude.{◌+◌, ◌<◌, ◌≤◌, length, IfOk};
 ghost use Rattle.link_graph.specs.Graphs.{network};
 ghost use Rattle.link_graph.specs.Marking.{AreMarksOf, marked};
 ghost use Rattle.link_graph.specs.Networks.{IsPassable};
-ghost use Rattle.route_search.specs.Answers.{IsAnswer};
+ghost use Rattle.route_search.specs.Answers.{IsAnswer, IsSmall};
 
 use crate::answers::{cut, route};
 use crate::beginning::begin;
@@ -34,6 +34,7 @@ pub fn least<L: Ledger>(
     requires to { to < length (network graph.now).nodes }
     requires marks { AreMarksOf (network graph.now) marks.now }
     ensures answer { IfOk result (IsAnswer (IsPassable (network graph.now) (marked (network graph.now) marks.now) profile.now) from to) }
+    ensures small { IfOk result (IsSmall (length (network graph.now).nodes)) }
     ensures steps { steps.new ≤ steps.old + length (network graph.now).links }
 {
     graph.range_law();

@@ -1,8 +1,9 @@
-use Rattle.std.proofs.Common.{◌≡◌, ◌<◌, ℕ, List, sym, subst, arith}
+use Rattle.std.proofs.Common.{◌≡◌, ◌<◌, ℕ, List, length, sym, ap, subst, ◌∙◌, arith}
 use Rattle.link_graph.specs.Graphs.{network}
 use Rattle.link_graph.specs.Marking.{marked}
 use Rattle.link_graph.specs.Networks.{IsPassable}
 use Rattle.route_search.specs.declared.labels.Last.{Last}
+use Rattle.route_search.specs.Answers.{IsSmall}
 use Rattle.route_search.specs.Labels.{no_cost, IsLabelled, IsFound, IsSpent}
 use Rattle.route_search.specs.Scans.{node_count}
 use Rattle.route_search.specs.States.{cost_in, IsBegun}
@@ -89,7 +90,7 @@ returns-then-index-lt-NO_COST-clause-answer g c =
     let found : IsFound IsLink c.args.to state.costs.items state.lasts.items = ended.found is in
     if_ok c.route.result (λ answer gives. gives (network c.args.graph.now) (marked (network c.args.graph.now) c.args.marks.now) c.args.profile.now
     (subst (λ (cs : List ℕ). IsFound IsLink c.args.to cs c.deref-then-index-lt-NO_COST.result.now) (sym c.deref.ensures.value)
-    (subst (λ (ls : List Last). IsFound IsLink c.args.to state.costs.items ls) (sym c.deref-then-index-lt-NO_COST.ensures.value) found))) c.route.ensures
+    (subst (λ (ls : List Last). IsFound IsLink c.args.to state.costs.items ls) (sym c.deref-then-index-lt-NO_COST.ensures.value) found))) c.route.ensures.answer
 
 pub returns-clause-answer : goal.returns-clause-answer
 returns-clause-answer g c =
@@ -101,4 +102,20 @@ returns-clause-answer g c =
     let spent : IsSpent IsLink state.costs.items state.lasts.items = ended.spent (λ is. (let known : cost_in state c.args.to < no_cost = is in omega (arith, known, read, c.if-index-lt-NO_COST.false))) in
     if_ok c.cut.result (λ answer gives. gives (network c.args.graph.now) (marked (network c.args.graph.now) c.args.marks.now) c.args.profile.now
     (subst (λ (cs : List ℕ). IsSpent IsLink cs c.deref-else-index-lt-NO_COST-2.result.now) (sym c.deref-else-index-lt-NO_COST.ensures.value)
-    (subst (λ (ls : List Last). IsSpent IsLink state.costs.items ls) (sym c.deref-else-index-lt-NO_COST-2.ensures.value) spent))) c.cut.ensures
+    (subst (λ (ls : List Last). IsSpent IsLink state.costs.items ls) (sym c.deref-else-index-lt-NO_COST-2.ensures.value) spent))) c.cut.ensures.answer
+
+pub returns-then-index-lt-NO_COST-clause-small : goal.returns-then-index-lt-NO_COST-clause-small
+returns-then-index-lt-NO_COST-clause-small g c =
+    let state = c.grow.new.state in
+    let begun = subst (λ (n : ℕ). IsBegun n c.args.from c.in_ok-state.state) c.nodes.ensures.number c.in_ok-state.ensures in
+    let ended = c.in_ok-grow.ensures.ended c.args.from (begun_from (IsPassable (network c.args.graph.now) (marked (network c.args.graph.now) c.args.marks.now) c.args.profile.now) (node_count c.args.graph.now) c.args.from c.in_ok-state.state begun c.requires.from c.range_law.ensures.nodes) in
+    let count : length c.deref.result.now ≡ node_count c.args.graph.now = ap length c.deref.ensures.value ∙ ended.tree.costs_count in
+    if_ok c.route.result (λ answer small. subst (λ (n : ℕ). IsSmall n answer) count small) c.route.ensures.small
+
+pub returns-clause-small : goal.returns-clause-small
+returns-clause-small g c =
+    let state = c.grow.new.state in
+    let begun = subst (λ (n : ℕ). IsBegun n c.args.from c.in_ok-state.state) c.nodes.ensures.number c.in_ok-state.ensures in
+    let ended = c.in_ok-grow.ensures.ended c.args.from (begun_from (IsPassable (network c.args.graph.now) (marked (network c.args.graph.now) c.args.marks.now) c.args.profile.now) (node_count c.args.graph.now) c.args.from c.in_ok-state.state begun c.requires.from c.range_law.ensures.nodes) in
+    let count : length c.deref-else-index-lt-NO_COST.result.now ≡ node_count c.args.graph.now = ap length c.deref-else-index-lt-NO_COST.ensures.value ∙ ended.tree.costs_count in
+    if_ok c.cut.result (λ answer small. subst (λ (n : ℕ). IsSmall n answer) count small) c.cut.ensures.small
