@@ -1,1 +1,2 @@
 pub mod RouteAnswers
+pub mod Claims

@@ -8,7 +8,9 @@ ghost use Rattle.link_graph.specs.Networks.{IsNetworkOf};
 ghost use Rattle.route_certificate.specs.Answers.{HasFewSteps};
 ghost use Rattle.route_answers.specs.RouteAnswers.{IsRouteAnswer};
 
-use link_graph::Graph;
+use crate::claiming::claim_of;
+use crate::finding::find;
+use link_graph::{Graph, passable_law};
 use route_certificate::AnswerIn;
 use std::alloc::Global;
 use venue_types::{OutOfMemory, Profile};
@@ -29,6 +31,9 @@ pub fn route_answer(
         → IsRouteAnswer features settings profile.now from to answer) }
     ensures few { IfOk result (λ answer. HasFewSteps answer.claim) }
 {
-    let _ = (alloc, graph, profile, from, to);
-    Err(OutOfMemory)
+    graph.range_law();
+    passable_law();
+    let found = find(alloc, graph, profile, from, to)?;
+    let claim = claim_of(alloc, graph, profile, found)?;
+    Ok(AnswerIn { from, to, claim })
 }

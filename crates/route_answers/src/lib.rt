@@ -2,5 +2,7 @@
 #![tactic(auto)]
 
 mod answering;
+mod claiming;
+mod finding;
 
 pub use answering::route_answer;

@@ -1,0 +1,4 @@
+pub mod Families
+pub mod Rows
+pub mod Ranges
+pub mod GoodAnswers
