@@ -2,5 +2,7 @@
 #![tactic(auto)]
 
 mod answering;
+#[cfg(test)]
+mod trials;
 
 pub use answering::route_answer;
