@@ -4,5 +4,7 @@
 mod answering;
 mod claiming;
 mod finding;
+#[cfg(test)]
+mod trials;
 
 pub use answering::route_answer;
