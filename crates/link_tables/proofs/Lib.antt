@@ -4,3 +4,9 @@ pub mod Choosing
 pub mod Pairs
 pub mod Numbers
 pub mod Venues
+pub mod Everywhere
+pub mod FirstRows
+pub mod Rising
+pub mod PairPlaces
+pub mod Keys
+pub mod UnitPlaces
