@@ -1,9 +1,11 @@
 -- Keys tell the rows of links.
-use Rattle.std.proofs.Common.{◌≡◌, ◌≢◌, ℕ, ◌+◌, ◌<◌, ◌≤◌, zero, suc, Bool, true, false, ◌&&◌, cond, eqb, List, [], ◌∷◌, length, get_or, map, filter, Option, Some, None, refl, sym, ap, ◌∙◌, subst, arith, eq-eqb, true≢false, inl, inr, ⊎_elim}
+use Rattle.std.proofs.Common.{◌≡◌, ◌≢◌, ℕ, ◌+◌, ◌<◌, ◌≤◌, zero, suc, Bool, true, false, ◌&&◌, cond, eqb, List, [], ◌∷◌, length, ◌++◌, get_or, take, map, filter, Option, Some, None, refl, sym, ap, ◌∙◌, subst, arith, eq-eqb, true≢false, inl, inr, ⊎_elim}
 use Rattle.std.specs.Prelude.{AllPairs, Contains, slice_get}
 use Rattle.std.specs.BTreeMap.{BTreeMap, get}
 use Rattle.std.specs.List.{AllByRecursion}
 use Rattle.std.proofs.lemmas.Bool.{cases_Bool, cases_lt, eqb-true}
+use Rattle.std.proofs.lemmas.List.{append-nil}
+use Rattle.std.proofs.lemmas.List.Elements.{filter_more}
 use Rattle.std.proofs.lemmas.Option.{same_Some, slice_get-get_or}
 use Rattle.venue_types.specs.declared.feature_id.FeatureId.{FeatureId}
 use Rattle.venue_types.specs.declared.link.Link.{Link}
@@ -13,7 +15,7 @@ use Rattle.route_certificate.specs.declared.table.TableLink.{TableLink}
 use Rattle.link_tables.specs.declared.firsts.RowKey.{RowKey}
 use Rattle.link_tables.specs.Passing.{id_at, link_row, passes_link, rows_of}
 use Rattle.link_tables.specs.Places.{IsFirstPlace}
-use Rattle.link_tables.specs.Placing.{KnowsFirsts, StandsFirst, first_of, key_cmp, key_of, same_key}
+use Rattle.link_tables.specs.Placing.{KnowsFirsts, StandsFirst, first_of, key_cmp, key_of, noted, same_key}
 use Rattle.link_tables.proofs.Everywhere.{all_kept}
 use Rattle.link_tables.proofs.FirstRows.{first_later}
 use Rattle.link_tables.proofs.Rising.{at_item, kept_at}
@@ -121,3 +123,47 @@ known_place given profile links firsts link once within own knows there passes =
     let stands = first_stands given link once own 0 found.0 kept (all_kept (λ (l : Link). l.via < length given.closables) (passes_link given profile) links within) found.1 in
     let same : stands.0 ≡ found.0 = let is = stands.1 in omega (arith, is) in
     (found.0, knows (key_of link) ∙ found.1, subst (IsFirstPlace (map (link_row given) kept) (link_row given link)) same stands.2)
+
+-- ---- one link more
+
+noted_step : (key : RowKey) (same is : Bool) (n place : ℕ) (rest : Option ℕ) → noted (cond same (Some n) rest) is place ≡ cond same (Some n) (noted rest is place)
+noted_step key true is n place rest = refl
+noted_step key false is n place rest = refl
+
+first_pushed : (key : RowKey) (n : ℕ) (links : List Link) (link : Link) → first_of key n (links ++ link ∷ []) ≡ noted (first_of key n links) (same_key key (key_of link)) (n + length links)
+first_pushed key n [] link = ap (λ (place : ℕ). cond (same_key key (key_of link)) (Some place) None) (let e : n ≡ n + 0 = omega arith in e)
+first_pushed key n (x ∷ xs) link =
+    ap (λ (later : Option ℕ). cond (same_key key (key_of x)) (Some n) later)
+    (first_pushed key (n + 1) xs link ∙ ap (λ (place : ℕ). noted (first_of key (n + 1) xs) (same_key key (key_of link)) place) (let e : n + 1 + length xs ≡ n + suc (length xs) = omega arith in e))
+    ∙ sym (noted_step key (same_key key (key_of x)) (same_key key (key_of link)) n (n + suc (length xs)) (first_of key (n + 1) xs))
+
+pub kept_one : (given : Network) (profile : Profile) (links : List Link) (i : ℕ) (d : Link) → i < length links → passes_link given profile (get_or links i d) ≡ true
+    → filter (passes_link given profile) (take (i + 1) links) ≡ filter (passes_link given profile) (take i links) ++ get_or links i d ∷ []
+kept_one given profile links i d within pass =
+    filter_more (passes_link given profile) links i d within
+    ∙ ap (λ (b : Bool). filter (passes_link given profile) (take i links) ++ cond b (get_or links i d ∷ []) []) pass
+
+pub left_one : (given : Network) (profile : Profile) (links : List Link) (i : ℕ) (d : Link) → i < length links → passes_link given profile (get_or links i d) ≡ false
+    → filter (passes_link given profile) (take (i + 1) links) ≡ filter (passes_link given profile) (take i links)
+left_one given profile links i d within fail =
+    filter_more (passes_link given profile) links i d within
+    ∙ ap (λ (b : Bool). filter (passes_link given profile) (take i links) ++ cond b (get_or links i d ∷ []) []) fail
+    ∙ append-nil (filter (passes_link given profile) (take i links))
+
+-- a link that the profile allows is noted
+pub more_known : (given : Network) (profile : Profile) (links : List Link) (i : ℕ) (d : Link) (count : ℕ) (old new : BTreeMap RowKey ℕ) → i < length links → KnowsFirsts given profile (take i links) old
+    → count ≡ length (filter (passes_link given profile) (take i links)) → passes_link given profile (get_or links i d) ≡ true
+    → ((key : RowKey) → get key_cmp new key ≡ noted (get key_cmp old key) (same_key key (key_of (get_or links i d))) count) → KnowsFirsts given profile (take (i + 1) links) new
+more_known given profile links i d count old new within known count_is pass noted_is = λ key.
+    let link : Link = get_or links i d in
+    let kept = filter (passes_link given profile) (take i links) in
+    noted_is key
+    ∙ ap (λ (found : Option ℕ). noted found (same_key key (key_of link)) count) (known key)
+    ∙ ap (λ (place : ℕ). noted (first_of key 0 kept) (same_key key (key_of link)) place) (let e : count ≡ 0 + length kept = omega (arith, count_is) in e)
+    ∙ sym (first_pushed key 0 kept link)
+    ∙ ap (λ (links : List Link). first_of key 0 links) (sym (kept_one given profile links i d within pass))
+
+-- one that it doesn't allow is left out
+pub same_known : (given : Network) (profile : Profile) (links : List Link) (i : ℕ) (d : Link) (firsts : BTreeMap RowKey ℕ) → i < length links → KnowsFirsts given profile (take i links) firsts → passes_link given profile (get_or links i d) ≡ false
+    → KnowsFirsts given profile (take (i + 1) links) firsts
+same_known given profile links i d firsts within known fail = λ key. known key ∙ ap (λ (links : List Link). first_of key 0 links) (sym (left_one given profile links i d within fail))

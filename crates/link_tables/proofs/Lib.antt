@@ -10,3 +10,5 @@ pub mod Rising
 pub mod PairPlaces
 pub mod Keys
 pub mod UnitPlaces
+pub mod Units
+pub mod UnitStarts

@@ -102,8 +102,8 @@ passed law graph profile area members link is_area is_link allowed =
 
 -- where its ends stand among the members that pass
 pub record AreRanks (ok : ℕ → Bool) (members : List ℕ) (link : Link) (start end : ℕ) : Type 0 where
-  pub start : slice_get (filter ok members) start ≡ Some link.from
-  pub end : slice_get (filter ok members) end ≡ Some link.to
+  pub from : slice_get (filter ok members) start ≡ Some link.from
+  pub to : slice_get (filter ok members) end ≡ Some link.to
 
 pub ranks : PartsLaw → (graph : Graph) (profile : Profile) (area : Area) (members : List ℕ) (link : Link) (start end : ℕ) → IsArea (network graph) area members → IsInside graph area members link → IsAllowed profile (link_facts (network graph) link)
     → start ≡ length (filter (λ (m : ℕ). nat_lt m link.from && passes_node (network graph) profile m) members)
@@ -113,8 +113,8 @@ ranks law graph profile area members link start end is_area is_link allowed star
     let ok = passes_node (network graph) profile in
     let pass = passed law graph profile area members link is_area is_link allowed in
     record {
-      start = ap (λ (n : ℕ). slice_get (filter ok members) n) start_is ∙ passed_at ok members link.from is_area.rise is_link.from pass.from;
-      end = ap (λ (n : ℕ). slice_get (filter ok members) n) end_is ∙ passed_at ok members link.to is_area.rise is_link.to pass.to;
+      from = ap (λ (n : ℕ). slice_get (filter ok members) n) start_is ∙ passed_at ok members link.from is_area.rise is_link.from pass.from;
+      to = ap (λ (n : ℕ). slice_get (filter ok members) n) end_is ∙ passed_at ok members link.to is_area.rise is_link.to pass.to;
     }
 
 row_ends : (graph : Graph) (area : Area) → IsRowOf (pair_row graph area)
@@ -130,7 +130,7 @@ unit_place law graph profile area members link count start end place is_area is_
     let ok = passes_node given profile in
     let xs = filter ok members in
     let pass = passed law graph profile area members link is_area is_link allowed in
-    let stands = first_pair (pair_row graph area) (row_ends graph area) xs start end link.from link.to place (IsStrictlyIncreasing-filter ok members is_area.rise) are.start are.end is_link.apart
+    let stands = first_pair (pair_row graph area) (row_ends graph area) xs start end link.from link.to place (IsStrictlyIncreasing-filter ok members is_area.rise) are.from are.to is_link.apart
     (λ h. before h ∙ ap (λ (n : ℕ). start * (n - 1) + end) count_is)
     (λ h. behind h ∙ ap (λ (n : ℕ). start * (n - 1) + (end - 1)) count_is) in
     subst (λ (row : TableLink). IsFirstPlace (rows_of given profile (area_links graph (area, members))) row place) (ap (link_row given) is_link.is)

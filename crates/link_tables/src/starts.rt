@@ -5,6 +5,7 @@ ghost use Rattle.std.specs.List.Sorted.{IsNonDecreasingBy, IsStrictlyIncreasing}
 ghost use Rattle.venue_types.specs.declared.link.Link.{Link as ALink};
 ghost use Rattle.link_graph.specs.declared.areas.Area.{Area as AnArea};
 ghost use Rattle.link_graph.specs.Areas.{areas, passages};
+ghost use Rattle.link_graph.specs.Graphs.{network};
 ghost use Rattle.link_tables.specs.declared.starts.AreaStart.{AreaStart as AStart};
 ghost use Rattle.link_tables.specs.Placing.{AreStarts, IsFront};
 
@@ -63,8 +64,7 @@ pub(crate) fn start_by(starts: &[AreaStart], via: u32) -> Option<AreaStart>
     requires { IsNonDecreasingBy (λ (start : AStart). start.via) starts.now }
     ensures { MatchOption result (All (λ (start : AStart). start.via ≢ via) starts.now) (λ start. (start.via ≡ via) × Contains starts.now start) }
 {
-    let at = lesser_count(starts, via);
-    let start = starts.get(at)?;
+    let start = starts.get(lesser_count(starts, via))?;
     if start.via == via { Some(*start) } else { None }
 }
 
@@ -76,8 +76,9 @@ fn lesser_count(starts: &[AreaStart], via: u32) -> usize
     starts.partition_point(|start| start.via < via)
 }
 
-/// The numbers of units rise, and those of relationships are less.
+/// Units have numbers among what can be closed, which rise, and those of relationships are less.
 pub(crate) fn units_law(graph: &Graph)
+    ensures within { All (λ (area : AnArea × List ℕ). area.0.via < length (network graph.now).closables) (areas graph.now) }
     ensures rise { IsStrictlyIncreasing (map (λ (area : AnArea × List ℕ). area.0.via) (areas graph.now)) }
     ensures apart { (link : ALink) (area : AnArea × List ℕ) → Contains (passages graph.now) link → Contains (areas graph.now) area → link.via < area.0.via }
 {}
