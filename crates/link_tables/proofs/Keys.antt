@@ -1,5 +1,5 @@
 -- Keys tell the rows of links.
-use Rattle.std.proofs.Common.{◌≡◌, ◌≢◌, ℕ, ◌+◌, ◌<◌, ◌≤◌, zero, suc, Bool, true, false, ◌&&◌, cond, eqb, List, [], ◌∷◌, length, ◌++◌, get_or, take, map, filter, Option, Some, None, refl, sym, ap, ◌∙◌, subst, arith, eq-eqb, true≢false, inl, inr, ⊎_elim}
+use Rattle.std.proofs.Common.{◌≡◌, ◌≢◌, ℕ, ◌+◌, ◌<◌, ◌≤◌, zero, suc, Bool, true, false, ◌&&◌, cond, eqb, List, [], ◌∷◌, length, ◌++◌, get_or, take, map, filter, Option, Some, None, refl, sym, ap, ◌∙◌, subst, arith, eq-eqb, length-append, true≢false, inl, inr, ⊎_elim}
 use Rattle.std.specs.Prelude.{AllPairs, Contains, slice_get}
 use Rattle.std.specs.BTreeMap.{BTreeMap, get}
 use Rattle.std.specs.List.{AllByRecursion}
@@ -167,3 +167,16 @@ more_known given profile links i d count old new within known count_is pass note
 pub same_known : (given : Network) (profile : Profile) (links : List Link) (i : ℕ) (d : Link) (firsts : BTreeMap RowKey ℕ) → i < length links → KnowsFirsts given profile (take i links) firsts → passes_link given profile (get_or links i d) ≡ false
     → KnowsFirsts given profile (take (i + 1) links) firsts
 same_known given profile links i d firsts within known fail = λ key. known key ∙ ap (λ (links : List Link). first_of key 0 links) (sym (left_one given profile links i d within fail))
+
+pub count_more : (given : Network) (profile : Profile) (links : List Link) (i : ℕ) (d : Link) (count new : ℕ) → i < length links → count ≡ length (filter (passes_link given profile) (take i links)) → passes_link given profile (get_or links i d) ≡ true
+    → new ≡ count + 1 → new ≡ length (filter (passes_link given profile) (take (i + 1) links))
+count_more given profile links i d count new within count_is pass more =
+    let kept = filter (passes_link given profile) (take i links) in
+    let all : length (filter (passes_link given profile) (take (i + 1) links)) ≡ length (kept ++ get_or links i d ∷ []) = ap (λ (ls : List Link). length ls) (kept_one given profile links i d within pass) in
+    let sum = length-append kept (get_or links i d ∷ []) in
+    omega (arith, all, sum, count_is, more)
+
+pub count_same : (given : Network) (profile : Profile) (links : List Link) (i : ℕ) (d : Link) (count new : ℕ) → i < length links → count ≡ length (filter (passes_link given profile) (take i links)) → passes_link given profile (get_or links i d) ≡ false
+    → new ≡ count → new ≡ length (filter (passes_link given profile) (take (i + 1) links))
+count_same given profile links i d count new within count_is fail same =
+    same ∙ count_is ∙ ap (λ (ls : List Link). length ls) (sym (left_one given profile links i d within fail))
