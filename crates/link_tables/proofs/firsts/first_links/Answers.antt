@@ -5,9 +5,12 @@ use Rattle.link_graph.specs.Graphs.{network}
 use Rattle.link_tables.specs.declared.firsts.RowKey.{RowKey}
 use Rattle.link_tables.specs.Placing.{KnowsFirsts, key_cmp, noted, same_key}
 use Rattle.link_tables.proofs.Keys.{count_more, count_same, more_known, same_known}
-use Rattle.link_tables.proofs.rows.add_links.Answers.{nothing}
+use Rattle.venue_types.specs.declared.kind.Kind.TheVariants.{Floor}
 use Rattle.link_tables.proofs.firsts.first_links.Goals as goal
 use Rattle.link_tables.proofs.firsts.first_links.Goals.{then-may_use+in_ok-note, else-may_use}
+
+abbrev nothing : Link
+nothing = record { from = 0; to = 0; via = 0; cost = 0; kind = Floor }
 
 pub loop-link-preserved : goal.loop-link-preserved
 loop-link-preserved c =
