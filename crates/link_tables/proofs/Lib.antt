@@ -12,3 +12,4 @@ pub mod Keys
 pub mod UnitPlaces
 pub mod Units
 pub mod UnitStarts
+pub mod AllPlaces
