@@ -1,6 +1,7 @@
 -- Where the row of a link stands among all.
 use Rattle.std.proofs.Common.{◌≡◌, ◌≢◌, ℕ, ◌+◌, ◌<◌, ◌≤◌, List, [], ◌∷◌, ◌++◌, length, get_or, map, take, filter, flat_map, Some, refl, sym, ap, ◌∙◌, subst, arith, inl, inr, ⊎_elim}
 use Rattle.std.specs.Prelude.{All, AllPairs, Contains, Option, option_map, slice_get}
+use Rattle.std.specs.BTreeMap.{BTreeMap, get}
 use Rattle.std.specs.List.{AllByRecursion}
 use Rattle.std.specs.List.Sorted.{IsStrictlyIncreasing}
 use Rattle.std.proofs.lemmas.List.{take-map}
@@ -9,27 +10,29 @@ use Rattle.std.proofs.lemmas.Option.{same_Some, slice_get-get_or, slice_get-map,
 use Rattle.venue_types.specs.declared.feature_id.FeatureId.{FeatureId}
 use Rattle.venue_types.specs.declared.link.Link.{Link}
 use Rattle.venue_types.specs.declared.settings.Profile.{Profile}
+use Rattle.imdf_access.specs.Access.{IsAllowed}
 use Rattle.link_graph.specs.declared.areas.Area.{Area}
 use Rattle.link_graph.specs.declared.graph.Graph.{Graph}
 use Rattle.link_graph.specs.Areas.{area_links, areas, inside_area, passages}
 use Rattle.link_graph.specs.Graphs.{network}
 use Rattle.link_graph.specs.Links.{are_joined}
-use Rattle.link_graph.specs.Networks.{Network}
+use Rattle.link_graph.specs.Networks.{Network, link_facts}
 use Rattle.link_graph.proofs.Items.{from_flat_map}
 use Rattle.route_certificate.specs.declared.table.TableLink.{TableLink}
+use Rattle.link_tables.specs.declared.firsts.RowKey.{RowKey}
 use Rattle.link_tables.specs.declared.starts.AreaStart.{AreaStart}
 use Rattle.link_tables.specs.declared.starts.Starts.{Starts}
 use Rattle.link_tables.specs.Passing.{id_at, link_row, passes_link, rows_of}
 use Rattle.link_tables.specs.Places.{IsFirstPlace}
-use Rattle.link_tables.specs.Placing.{AreStarts, IsStart, StandsFirst, rows_before}
+use Rattle.link_tables.specs.Placing.{AreStarts, IsStart, KnowsFirsts, StandsFirst, key_cmp, key_of, rows_before}
 use Rattle.link_tables.proofs.Choosing.{rows_joined}
 use Rattle.link_tables.proofs.Everywhere.{all_at_all, all_by, all_front, all_kept, all_mapped, all_pieces, all_unmapped, of_item}
 use Rattle.link_tables.proofs.FirstRows.{Lacks, first_before, first_behind, first_piece, moved}
 use Rattle.link_tables.proofs.Gathering.{all_joined, at_place}
-use Rattle.link_tables.proofs.Keys.{id_same}
-use Rattle.link_tables.proofs.Numbers.{rows_few}
+use Rattle.link_tables.proofs.Keys.{id_same, known_place}
+use Rattle.link_tables.proofs.Numbers.{behind, rows_few}
 use Rattle.link_tables.proofs.Rising.{at_item, lesser_before, one_place, rises_from}
-use Rattle.link_tables.proofs.UnitPlaces.{inside}
+use Rattle.link_tables.proofs.UnitPlaces.{inside, passes}
 use Rattle.link_tables.proofs.Units.{number}
 
 -- ---- the unit of a link
@@ -126,17 +129,20 @@ all_rows : (graph : Graph) (profile : Profile) → (network graph).links ≡ fla
     → rows_of (network graph) profile (network graph).links ≡ rows_of (network graph) profile (flat_map (area_links graph) (areas graph)) ++ rows_of (network graph) profile (passages graph)
 all_rows graph profile law = ap (rows_of (network graph) profile) law ∙ rows_joined (network graph) profile (flat_map (area_links graph) (areas graph)) (passages graph)
 
--- what the laws of a graph say of a link of it
-pub record AreLaws (graph : Graph) (link : Link) : Type 0 where
+-- what the laws of a graph say
+pub record AreLaws (graph : Graph) : Type 0 where
   pub links : (network graph).links ≡ flat_map (area_links graph) (areas graph) ++ passages graph
   pub once : AllPairs (λ a b. a ≢ b) (network graph).closables
-  pub within : AllByRecursion (λ (area : Area × List ℕ). area.0.via < length (network graph).closables) (areas graph)
-  pub via : link.via < length (network graph).closables
+  pub units : All (λ (area : Area × List ℕ). area.0.via < length (network graph).closables) (areas graph)
+  pub vias : (link : Link) → Contains (network graph).links link → link.via < length (network graph).closables
+
+units_within : (graph : Graph) → AreLaws graph → AllByRecursion (λ (area : Area × List ℕ). area.0.via < length (network graph).closables) (areas graph)
+units_within graph laws = recursion_from_All (λ (area : Area × List ℕ). area.0.via < length (network graph).closables) (areas graph) laws.units
 
 -- behind the rows of the units before its own
-pub stands_across : (graph : Graph) (profile : Profile) (w : ℕ) (area : Area × List ℕ) (link : Link) (first k : ℕ) → AreLaws graph link → IsStrictlyIncreasing (map number (areas graph)) → slice_get (areas graph) w ≡ Some area → area.0.via ≡ link.via
-    → first ≡ rows_before graph profile w → StandsFirst (network graph) profile (area_links graph area) link k → StandsFirst (network graph) profile (network graph).links link (first + k)
-stands_across graph profile w area link first k laws rise at via first_is stands =
+pub stands_across : (graph : Graph) (profile : Profile) (w : ℕ) (area : Area × List ℕ) (link : Link) (first k : ℕ) → AreLaws graph → IsStrictlyIncreasing (map number (areas graph)) → Contains (network graph).links link
+    → slice_get (areas graph) w ≡ Some area → area.0.via ≡ link.via → first ≡ rows_before graph profile w → StandsFirst (network graph) profile (area_links graph area) link k → StandsFirst (network graph) profile (network graph).links link (first + k)
+stands_across graph profile w area link first k laws rise there at via first_is stands =
     let given = network graph in
     let row = link_row given link in
     let g : Area × List ℕ → List TableLink = λ a. rows_of given profile (area_links graph a) in
@@ -145,7 +151,7 @@ stands_across graph profile w area link first k laws rise at via first_is stands
     (subst (AllByRecursion (λ (n : ℕ). n ≢ link.via)) (take-map number w (areas graph))
     (all_by (λ (n : ℕ). n < area.0.via) (λ (n : ℕ). n ≢ link.via) (λ n less same. omega (arith, less, same, via)) (take w (map number (areas graph)))
     (lesser_before (map number (areas graph)) w area.0.via (rises_from (map number (areas graph)) rise) (number_at graph w area at)))) in
-    let lacks = lacks_rows graph profile link (take w (areas graph)) laws.once laws.via (all_front (λ (a : Area × List ℕ). a.0.via < length given.closables) w (areas graph) laws.within) before in
+    let lacks = lacks_rows graph profile link (take w (areas graph)) laws.once (laws.vias link there) (all_front (λ (a : Area × List ℕ). a.0.via < length given.closables) w (areas graph) (units_within graph laws)) before in
     let piece : IsFirstPlace (flat_map g (areas graph)) row (length (flat_map g (take w (areas graph))) + k) = first_piece g (areas graph) w area row k at lacks stands in
     let here : IsFirstPlace (rows_of given profile (flat_map (area_links graph) (areas graph))) row (first + k) =
     moved (rows_of given profile (flat_map (area_links graph) (areas graph))) row (length (flat_map g (take w (areas graph))) + k) (first + k)
@@ -155,13 +161,13 @@ stands_across graph profile w area link first k laws rise at via first_is stands
     (first_before (rows_of given profile (flat_map (area_links graph) (areas graph))) (rows_of given profile (passages graph)) row (first + k) here)
 
 -- behind the rows of all units
-pub stands_between : (graph : Graph) (profile : Profile) (link : Link) (first k : ℕ) → AreLaws graph link → AllByRecursion (λ (area : Area × List ℕ). area.0.via ≢ link.via) (areas graph)
+pub stands_between : (graph : Graph) (profile : Profile) (link : Link) (first k : ℕ) → AreLaws graph → Contains (network graph).links link → AllByRecursion (λ (area : Area × List ℕ). area.0.via ≢ link.via) (areas graph)
     → first ≡ length (rows_of (network graph) profile (flat_map (area_links graph) (areas graph))) → StandsFirst (network graph) profile (passages graph) link k → StandsFirst (network graph) profile (network graph).links link (first + k)
-stands_between graph profile link first k laws none first_is stands =
+stands_between graph profile link first k laws there none first_is stands =
     let given = network graph in
     let row = link_row given link in
     let front = rows_of given profile (flat_map (area_links graph) (areas graph)) in
-    let lacks : Lacks front row = subst (λ (rows : List TableLink). Lacks rows row) (sym (rows_pieces graph profile (areas graph))) (lacks_rows graph profile link (areas graph) laws.once laws.via laws.within none) in
+    let lacks : Lacks front row = subst (λ (rows : List TableLink). Lacks rows row) (sym (rows_pieces graph profile (areas graph))) (lacks_rows graph profile link (areas graph) laws.once (laws.vias link there) (units_within graph laws) none) in
     subst (λ (rows : List TableLink). IsFirstPlace rows row (first + k)) (sym (all_rows graph profile laws.links))
     (moved (front ++ rows_of given profile (passages graph)) row (length front + k) (first + k) (ap (λ (n : ℕ). n + k) (sym first_is)) (first_behind front (rows_of given profile (passages graph)) row k lacks stands))
 
@@ -198,3 +204,39 @@ of_none graph profile starts via are none =
     let is = are.units k start.0 start.1 in
     of_item (λ (s : AreaStart). s.via ≢ via) starts.units.items k start.0 (recursion_from_All (λ (s : AreaStart). s.via ≢ via) starts.units.items none) start.1
     (is.via area (slice_get-get_or (areas graph) k d within) ∙ same))
+
+-- ---- a link by a relationship
+
+-- what is known of its key, and of its place among all
+pub record IsKnown (graph : Graph) (profile : Profile) (firsts : BTreeMap RowKey ℕ) (starts : Starts) (link : Link) : Type 0 where
+  pub k : ℕ
+  pub found : get key_cmp firsts (key_of link) ≡ Some k
+  pub stands : StandsFirst (network graph) profile (network graph).links link (starts.passages + k)
+
+pub between : (graph : Graph) (profile : Profile) (starts : Starts) (firsts : BTreeMap RowKey ℕ) (link : Link) → AreLaws graph → AreStarts graph profile starts → KnowsFirsts (network graph) profile (passages graph) firsts
+    → All (λ (start : AreaStart). start.via ≢ link.via) starts.units.items → Contains (network graph).links link → IsAllowed profile (link_facts (network graph) link) → IsKnown graph profile firsts starts link
+between graph profile starts firsts link laws are knows none there allowed =
+    let given = network graph in
+    let none_is = of_none graph profile starts link.via are none in
+    let among = in_none graph link laws.links none_is there in
+    let within : AllByRecursion (λ (l : Link). l.via < length given.closables) (passages graph) =
+    recursion_from_All (λ (l : Link). l.via < length given.closables) (passages graph)
+    (λ k d below. laws.vias (get_or (passages graph) k d) (behind given.links (flat_map (area_links graph) (areas graph)) (passages graph) (passages graph) k d laws.links refl below)) in
+    let known = known_place given profile (passages graph) firsts link laws.once within (laws.vias link there) knows among (passes given profile link allowed) in
+    record { k = known.0; found = known.1; stands = stands_between graph profile link starts.passages known.0 laws there none_is are.passages known.2 }
+
+-- the place that is known is the first among all
+pub stands_known : (graph : Graph) (profile : Profile) (firsts : BTreeMap RowKey ℕ) (starts : Starts) (link : Link) (k : ℕ) → IsKnown graph profile firsts starts link → get key_cmp firsts (key_of link) ≡ Some k
+    → StandsFirst (network graph) profile (network graph).links link (starts.passages + k)
+stands_known graph profile firsts starts link k known found =
+    subst (λ (n : ℕ). StandsFirst (network graph) profile (network graph).links link (starts.passages + n)) (same_Some known.k k (sym known.found ∙ found)) known.stands
+
+-- ---- a link across a unit
+
+pub across : (graph : Graph) (profile : Profile) (starts : Starts) (start : AreaStart) (link : Link) (k : ℕ) → AreLaws graph → IsStrictlyIncreasing (map number (areas graph)) → AreStarts graph profile starts → Contains starts.units.items start
+    → start.via ≡ link.via → Contains (network graph).links link
+    → ((area : Area × List ℕ) → slice_get (areas graph) start.area ≡ Some area → StandsFirst (network graph) profile (area_links graph area) link k) → StandsFirst (network graph) profile (network graph).links link (start.first + k)
+across graph profile starts start link k laws rise are of via there stands =
+    let unit = of_unit graph profile starts start are of in
+    let at = at_place (areas graph) start.area unit.within in
+    stands_across graph profile start.area at.0 link start.first k laws rise there at.1 (sym (unit.is.via at.0 at.1) ∙ via) unit.is.first (stands at.0 at.1)

@@ -59,6 +59,7 @@ fn place(
 {
     graph.areas_law();
     graph.range_law();
+    units_law(graph);
     match start_by(&starts.units, link.via) {
         Some(start) => across(graph, profile, starts, start, link),
         None => starts.passages + first_place(firsts, link),
