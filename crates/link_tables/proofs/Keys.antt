@@ -96,16 +96,15 @@ first_stands : (given : Network) (link : Link) → AllPairs (λ a b. a ≢ b) gi
 first_stands given link once own n k [] within is = absurd (let no_item : None ≡ Some k = is in cc)
 first_stands given link once own n k (x ∷ xs) within is = elim (cases_Bool (same_key (key_of link) (key_of x))) [
   | inl same ↦ (
-      0,
-      let here : Some n ≡ Some k = sym (ap (λ (b : Bool). cond b (Some n) (first_of (key_of link) (n + 1) xs)) same) ∙ is in
-      let here_is : n ≡ k = same_Some n k here in
-      omega (arith, here_is),
-      record { there = ap (λ (r : TableLink). Some r) (same_row given link x same); first = λ j at. omega arith },
-    )
+    0,
+    let here : Some n ≡ Some k = sym (ap (λ (b : Bool). cond b (Some n) (first_of (key_of link) (n + 1) xs)) same) ∙ is in
+        let here_is : n ≡ k = same_Some n k here in
+        omega (arith, here_is),
+    record { there = ap (λ (r : TableLink). Some r) (same_row given link x same); first = λ j at. omega arith },
+  )
   | inr differ ↦
       let rest = first_stands given link once own (n + 1) k xs within.1 (sym (ap (λ (b : Bool). cond b (Some n) (first_of (key_of link) (n + 1) xs)) differ) ∙ is) in
-      let later = rest.1 in
-      (
+      let later = rest.1 in (
         suc rest.0,
         omega (arith, later),
         first_later (link_row given x) (map (link_row given) xs) (link_row given link) rest.0 (λ e. true≢false (sym (key_by_row given link x once own within.0 e) ∙ differ)) rest.2,

@@ -1,5 +1,5 @@
 -- Numbers that rise, and where they stand.
-use Rattle.std.proofs.Common.{◌≡◌, ◌≢◌, ℕ, zero, suc, ◌+◌, ◌<◌, ◌≤◌, Bool, true, false, not, cond, List, [], ◌∷◌, length, take, filter, Some, None, refl, sym, ap, ◌∙◌, subst, ⊎_elim, arith, eq-eqb}
+use Rattle.std.proofs.Common.{◌≡◌, ◌≢◌, ℕ, zero, suc, ◌<◌, ◌≤◌, Bool, true, false, not, cond, List, [], ◌∷◌, length, take, filter, Some, None, refl, sym, ap, ◌∙◌, subst, ⊎_elim, arith, eq-eqb}
 use Rattle.std.specs.Prelude.{AllPairs, Contains, slice_get, nat_lt, ◌&&◌}
 use Rattle.std.specs.List.{AllByRecursion}
 use Rattle.std.specs.List.Sorted.{IsStrictlyIncreasing}
@@ -119,8 +119,6 @@ kept_at {X} t (y ∷ xs) zero x at pass =
     let same : y ≡ x = same_Some y x at in
     ap (λ (b : Bool). slice_get (cond b (y ∷ filter t xs) (filter t xs)) 0) (ap t same ∙ pass) ∙ ap (λ (v : X). Some v) same
 kept_at t (y ∷ xs) (suc i) x at pass = kept_step t y xs (take i xs) x (t y) (kept_at t xs i x at pass)
-
-
 
 -- ---- a number that passes, by those that pass and are less
 

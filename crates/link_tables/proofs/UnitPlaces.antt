@@ -1,8 +1,7 @@
 -- Where the row of a link across a unit stands among those of the unit.
-use Rattle.std.proofs.Common.{◌≡◌, ◌≢◌, ℕ, ◌+◌, ◌*◌, ◌-◌, ◌<◌, ◌≤◌, zero, suc, Bool, true, false, not, ◌&&◌, eqb, List, [], ◌∷◌, length, map, filter, flat_map, Some, refl, sym, ap, ◌∙◌, subst, arith, true≢false, eq-eqb, cond, inl, inr}
+use Rattle.std.proofs.Common.{◌≡◌, ◌≢◌, ℕ, ◌+◌, ◌*◌, ◌-◌, ◌<◌, ◌≤◌, Bool, true, false, not, ◌&&◌, eqb, List, [], ◌∷◌, length, map, filter, Some, refl, sym, ap, ◌∙◌, subst, true≢false, eq-eqb, cond, inl, inr}
 use Rattle.std.specs.Prelude.{Contains, slice_get, nat_lt}
 use Rattle.std.proofs.lemmas.List.Kept.{IsStrictlyIncreasing-filter}
-use Rattle.std.proofs.lemmas.Option.{slice_get_within}
 use Rattle.venue_types.specs.declared.link.Link.{Link}
 use Rattle.venue_types.specs.declared.settings.Profile.{Profile}
 use Rattle.imdf_access.specs.Access.{IsAllowed}

@@ -56,11 +56,7 @@ fn first_links(
 }
 
 // Notes the place of a row, unless an earlier one is known.
-fn note(
-    firsts: &mut BTreeMap<RowKey, usize>,
-    key: RowKey,
-    place: usize,
-) -> Result<(), OutOfMemory>
+fn note(firsts: &mut BTreeMap<RowKey, usize>, key: RowKey, place: usize) -> Result<(), OutOfMemory>
     ensures { OnOk result ((other : AKey) → get key_cmp firsts.new other ≡ noted (get key_cmp firsts.old other) (same_key other key) place) }
 {
     if !firsts.contains_key(&key) {

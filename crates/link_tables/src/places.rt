@@ -20,8 +20,8 @@ use std::collections::BTreeMap;
 use venue_types::{Link, OutOfMemory, Profile};
 
 /// Where the rows of some links stand in the table of the links that the profile allows, from 0: of equal rows the first counts. The
-/// links are of the graph, and the profile allows them. No row is made: it takes time in proportion to the members of all units and
-/// to the relationships, and computes no lengths.
+/// links are of the graph, and the profile allows them. No row is made, and no length computed: it takes one pass over the members of
+/// all units, n log n time for the relationships, and for each link a pass over the members of its unit.
 pub fn row_places(
     alloc: Global,
     graph: &Graph,

@@ -1,4 +1,4 @@
-use Rattle.std.proofs.Common.{◌≡◌, ℕ, ◌+◌, ◌≤◌, get_or, sym, ap, ◌∙◌, subst, arith}
+use Rattle.std.proofs.Common.{ℕ, sym, ap, ◌∙◌, subst, arith}
 use Rattle.std.specs.BTreeMap.{BTreeMap, get}
 use Rattle.venue_types.specs.declared.link.Link.{Link}
 use Rattle.link_graph.specs.Graphs.{network}
@@ -25,8 +25,8 @@ loop-link-preserved c =
           let more = w.count-is in
           record {
             firsts = more_known given profile links i nothing c.loop-link.count c.loop-link.firsts c.if-may_use.firsts c.loop-link-test.true before.firsts before.number (sym c.may_use.ensures ∙ w.if-may_use.true)
-              (λ key. ap (λ (m : BTreeMap RowKey ℕ). get key_cmp m key) w.firsts-is ∙ w.in_ok-note.ensures key
-              ∙ ap (λ (k : RowKey). noted (get key_cmp c.loop-link.firsts key) (same_key key k) c.loop-link.count) w.row_key.ensures);
+                (λ key. ap (λ (m : BTreeMap RowKey ℕ). get key_cmp m key) w.firsts-is ∙ w.in_ok-note.ensures key
+                ∙ ap (λ (k : RowKey). noted (get key_cmp c.loop-link.firsts key) (same_key key k) c.loop-link.count) w.row_key.ensures);
             number = count_more given profile links i nothing c.loop-link.count c.if-may_use.count c.loop-link-test.true before.number (sym c.may_use.ensures ∙ w.if-may_use.true) more;
             few = omega (arith, few, more);
           }

@@ -1,4 +1,4 @@
-use Rattle.std.proofs.Common.{◌≢◌, ◌+◌, List, refl, sym, subst, arith}
+use Rattle.std.proofs.Common.{◌≢◌, ◌+◌, refl, sym, subst, arith}
 use Rattle.std.specs.Prelude.{All, IsSome}
 use Rattle.link_tables.specs.declared.starts.AreaStart.{AreaStart}
 use Rattle.link_tables.proofs.AllPlaces.{between, place_few, stands_known}
