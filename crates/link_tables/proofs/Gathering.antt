@@ -13,7 +13,7 @@ use Rattle.route_certificate.specs.Forms.{FitsId, FitsLink}
 use Rattle.link_tables.specs.Adding.{Adds}
 use Rattle.link_tables.specs.Passing.{id_at, link_row}
 
-all_joined : {X : Type 0} (P : X → Type 0) (xs ys : List X) → AllByRecursion P xs → AllByRecursion P ys → AllByRecursion P (xs ++ ys)
+pub all_joined : {X : Type 0} (P : X → Type 0) (xs ys : List X) → AllByRecursion P xs → AllByRecursion P ys → AllByRecursion P (xs ++ ys)
 all_joined P [] ys h k = k
 all_joined P (x ∷ xs) ys h k = (h.0, all_joined P xs ys h.1 k)
 

@@ -4,3 +4,12 @@ pub mod Choosing
 pub mod Pairs
 pub mod Numbers
 pub mod Venues
+pub mod Everywhere
+pub mod FirstRows
+pub mod Rising
+pub mod PairPlaces
+pub mod Keys
+pub mod UnitPlaces
+pub mod Units
+pub mod UnitStarts
+pub mod AllPlaces

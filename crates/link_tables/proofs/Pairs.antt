@@ -53,7 +53,7 @@ one_less (x ∷ xs) (suc k) a is there =
     omega (arith, kept, rest)
 
 -- pieces that are as long as each other
-even : (g : ℕ → List TableLink) (n : ℕ) (xs : List ℕ) → AllByRecursion (λ (x : ℕ). length (g x) ≡ n) xs → length (flat_map g xs) ≡ length xs * n
+pub even : (g : ℕ → List TableLink) (n : ℕ) (xs : List ℕ) → AllByRecursion (λ (x : ℕ). length (g x) ≡ n) xs → length (flat_map g xs) ≡ length xs * n
 even g n [] all = omega arith
 even g n (x ∷ xs) all =
     let both = length-append (g x) (flat_map g xs) in
@@ -62,12 +62,15 @@ even g n (x ∷ xs) all =
     let product = suc-mul (length xs) n in
     omega (arith, both, rest, first, product)
 
-pub pair_count : (f : ℕ → ℕ → TableLink) (xs : List ℕ) → IsStrictlyIncreasing xs → length (flat_map (λ (a : ℕ). map (f a) (filter (are_joined a) xs)) xs) ≡ length xs * (length xs - 1)
-pair_count f xs rise =
+-- each goes with all the others
+pub each_less : (f : ℕ → ℕ → TableLink) (xs : List ℕ) → IsStrictlyIncreasing xs → AllByRecursion (λ (a : ℕ). length (map (f a) (filter (are_joined a) xs)) ≡ length xs - 1) xs
+each_less f xs rise =
     let differ = apart xs (AllPairs-from_increasing xs rise) in
-    even (λ (a : ℕ). map (f a) (filter (are_joined a) xs)) (length xs - 1) xs
-    (recursion_from_All (λ (a : ℕ). length (map (f a) (filter (are_joined a) xs)) ≡ length xs - 1) xs (λ k d below.
+    recursion_from_All (λ (a : ℕ). length (map (f a) (filter (are_joined a) xs)) ≡ length xs - 1) xs (λ k d below.
     let a : ℕ = get_or xs k d in
     let mapped = length-map (filter (are_joined a) xs) (f a) in
     let less = one_less xs k a differ (slice_get-get_or xs k d below) in
-    omega (arith, mapped, less)))
+    omega (arith, mapped, less))
+
+pub pair_count : (f : ℕ → ℕ → TableLink) (xs : List ℕ) → IsStrictlyIncreasing xs → length (flat_map (λ (a : ℕ). map (f a) (filter (are_joined a) xs)) xs) ≡ length xs * (length xs - 1)
+pair_count f xs rise = even (λ (a : ℕ). map (f a) (filter (are_joined a) xs)) (length xs - 1) xs (each_less f xs rise)

@@ -23,11 +23,11 @@ chosen_same t u (x ∷ xs) agree =
     ap (λ (b : Bool). cond b (x ∷ filter t xs) (filter t xs)) (agree x (Contains-first x xs))
     ∙ ap (λ (rest : List Link). cond (u x) (x ∷ rest) rest) (chosen_same t u xs (λ link there. agree link (Contains-later x xs link there)))
 
-row_same : (features : Features) (settings : Settings) (given : Network) (link : Link) → IsNetworkOf features settings given → link_row given link ≡ row_of features link
+pub row_same : (features : Features) (settings : Settings) (given : Network) (link : Link) → IsNetworkOf features settings given → link_row given link ≡ row_of features link
 unfolding link_row way_id id_at
 row_same features settings given link is = ap (λ (ids : List FeatureId). record { from = link.from; to = link.to; cost = link.cost; via = id_at ids link.via }) is.closables_are
 
-mapped_same : (f g : Link → TableLink) (xs : List Link) → ((link : Link) → f link ≡ g link) → map f xs ≡ map g xs
+pub mapped_same : (f g : Link → TableLink) (xs : List Link) → ((link : Link) → f link ≡ g link) → map f xs ≡ map g xs
 mapped_same f g [] same = refl
 mapped_same f g (x ∷ xs) same = ap (λ (row : TableLink). row ∷ map f xs) (same x) ∙ ap (λ (rest : List TableLink). g x ∷ rest) (mapped_same f g xs same)
 

@@ -2,3 +2,4 @@ pub mod Tables
 pub mod Places
 pub mod Passing
 pub mod Adding
+pub mod Placing

@@ -35,8 +35,8 @@ fn across_count(graph: &Graph, profile: &Profile) -> usize
     count
 }
 
-// How many of those across one unit: one for each pair of its members that pass.
-fn area_count(graph: &Graph, profile: &Profile, w: u32) -> usize
+/// How many of those across one unit: one for each pair of its members that pass.
+pub(crate) fn area_count(graph: &Graph, profile: &Profile, w: u32) -> usize
     requires { w < length (areas graph.now) }
     ensures { (area : AnArea × List ℕ) → slice_get (areas graph.now) w ≡ Some area → result ≡ length (rows_of (network graph.now) profile.now (area_links graph.now area)) }
 {
@@ -57,8 +57,8 @@ fn pairs(count: usize) -> usize
     count * count.saturating_sub(1)
 }
 
-// How many of these members pass.
-fn passing_count(graph: &Graph, profile: &Profile, members: &[u32]) -> usize
+/// How many of these members pass.
+pub(crate) fn passing_count(graph: &Graph, profile: &Profile, members: &[u32]) -> usize
     requires { All (λ m. m < length (network graph.now).nodes) members.now }
     ensures number { result ≡ length (filter (passes_node (network graph.now) profile.now) members.now) }
     ensures few { result ≤ length members.now }

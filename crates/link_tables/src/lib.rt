@@ -2,10 +2,13 @@
 #![tactic(auto)]
 
 mod counts;
+mod firsts;
 mod ids;
+mod inside;
 mod passing;
 mod places;
 mod rows;
+mod starts;
 mod tables;
 
 pub use places::row_places;
