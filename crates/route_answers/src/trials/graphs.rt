@@ -108,14 +108,13 @@ fn judge_out<L: Ledger>(
 // From a node that costs 100, where each node is listed at this entry, whether the first link out of node 0 is told.
 fn is_lower<L: Ledger>(
     rt: &impl Abort,
-    alloc: Global,
     graph: &Graph,
-    entry: u64,
+    listed: &[u64],
     steps: &mut Steps<L>,
-) -> Result<bool, Fail> {
-    let listed = vec![in alloc; entry; graph.nodes() as usize]?;
+) -> bool {
     assert!(rt; 0 < graph.nodes() && 0 < graph.out_count(0));
-    Ok(graph.lower_link(0, 0, 100, &listed, steps).is_some())
+    assert!(rt; listed.len() == graph.nodes() as usize);
+    graph.lower_link(0, 0, 100, listed, steps).is_some()
 }
 
 fn judge_lower<L: Ledger>(
@@ -126,8 +125,11 @@ fn judge_lower<L: Ledger>(
     steps: &mut Steps<L>,
 ) -> Result<(), Fail> {
     let there = u64::from(cost) + 100;
-    assert!(rt; is_lower(rt, alloc, graph, there + 1, steps)?);
-    assert!(rt; !is_lower(rt, alloc, graph, there, steps)?);
+    let equal = vec![in alloc; there; graph.nodes() as usize]?;
+    let above = vec![in alloc; there + 1; graph.nodes() as usize]?;
+    let is_equal_told = is_lower(rt, graph, &equal, steps);
+    let is_above_told = is_lower(rt, graph, &above, steps);
+    assert!(rt; is_above_told && !is_equal_told);
     Ok(())
 }
 
