@@ -3,6 +3,7 @@ pub mod Commands
 pub mod Verified
 pub mod Checked
 pub mod Linked
+pub mod Routed
 pub mod Output
 pub mod Steps
 pub mod Ends
