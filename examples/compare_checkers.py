@@ -119,7 +119,7 @@ def station_bases(program, folder, chance):
         table = printed(program, ["links", HERE, "station", profile])
         nodes, links = links_in(table)
         for number in range(PAIRS):
-            places = [NODE.format(0).replace("0" * 12, f"{place:012x}") for place in chance.sample(PLACES, 2)]
+            places = [NODE.format(place) for place in chance.sample(PLACES, 2)]
             answer = printed(program, ["route", HERE, "station", profile] + places)
             base = os.path.join(folder, f"{profile}-{number}")
             os.mkdir(base)
@@ -143,7 +143,7 @@ def main():
     bases = sorted(entry.path for entry in os.scandir(HERE) if entry.is_dir())
     chance, seen, differ = random.Random(7), {}, 0
     with tempfile.TemporaryDirectory() as folder:
-        routes, wrong = station_bases(program, folder, chance)
+        routes, wrong = station_bases(program, folder, random.Random(11))
         bases += routes
         bases.append(os.path.join(folder, "missing"))
         for table in range(TABLES):

@@ -85,7 +85,7 @@ abbrev pub OneVenue : Type 0
 OneVenue = (files : Files) (settings : Settings) (one other : Venue) → length files.slots ≡ 17 → IsVenueOf files settings one → IsVenueOf files settings other → one ≡ other
 
 seventeen : (fs : List StoredFile) (path : List ℕ) → length (folder_files fs path).slots ≡ 17
-seventeen fs path = length-map (slot_at fs path) all_files
+seventeen fs path = length-map all_files (slot_at fs path)
 
 settings_same : (fs : List StoredFile) (base : List ℕ) (a b : Settings) → Reads SettingsForm settings_limit (file_at fs base settings_name) a
     → Reads SettingsForm settings_limit (file_at fs base settings_name) b → a ≡ b
