@@ -1,9 +1,10 @@
 -- From the venue of a folder to what `route` prints.
-use Rattle.std.proofs.Common.{◌≡◌, ℕ, List, Option, Some, None, Result, Ok, Err, refl, subst, codes}
+use Rattle.std.proofs.Common.{◌≡◌, ℕ, ◌<◌, List, length, Option, Some, None, Result, Ok, Err, refl, sym, subst, codes}
 use Rattle.std.specs.Prelude.{IfOk, IfSome}
 use Rattle.venue_types.specs.declared.feature_id.FeatureId.{FeatureId}
 use Rattle.venue_types.specs.declared.settings.Profile.{Profile}
-use Rattle.venue_nodes.specs.Nodes.{place_of}
+use Rattle.venue_types.specs.declared.features.Features.{Features}
+use Rattle.venue_nodes.specs.Nodes.{nodes, place_of}
 use Rattle.line_forms.specs.Lines.{line}
 use Rattle.route_certificate.specs.Answers.{answer_text}
 use Rattle.venue_build.specs.Venues.{SeenVenue as Venue}
@@ -59,3 +60,15 @@ is_routed files base folder name from to m venue (Err e) told is printed = tt
 is_routed None base folder name from to m venue (Ok a) told is printed = tt
 is_routed (Some fs) base folder name from to m venue (Ok a) told is printed =
     routed_for fs base folder name from to venue a (profile_named venue.settings name) (venue_as fs base folder m venue told is) refl printed
+
+-- a place that was found is a node
+pub place_below : ((features : Features) (id : FeatureId) (n : ℕ) → place_of features id ≡ Some n → n < length (nodes features)) → (features : Features) (id : FeatureId) (found : Option ℕ)
+    → found ≡ place_of features id → IfSome found (λ n. n < length (nodes features))
+place_below law features id None e = tt
+place_below law features id (Some n) e = law features id n (sym e)
+
+-- what is printed for a profile is what is printed for its name
+pub routed_named : (venue : Venue) (name : List ℕ) (from to : FeatureId) (profile : Profile) (r : Result Answer ReadFault) → Some profile ≡ profile_named venue.settings name
+    → IfOk r (λ answer. IsRoutedFrom venue profile to answer (place_of venue.features from)) → IfOk r (IsRouted venue name from to)
+routed_named venue name from to profile (Err e) is told = tt
+routed_named venue name from to profile (Ok answer) is told = subst (IsRoutedFor venue from to answer) is told

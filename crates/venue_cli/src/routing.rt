@@ -15,6 +15,7 @@ use route_answers::route_answer;
 use route_certificate::{Claim, answer_law, write_answer};
 use std::alloc::Global;
 use venue_build::Venue;
+use venue_nodes::number_law;
 use venue_ports::{Folders, ReadFault};
 use venue_types::{FeatureId, OutOfMemory, Profile};
 
@@ -34,6 +35,7 @@ fn node_of(venue: &Venue, id: FeatureId) -> Option<u32>
     ensures node { result ≡ place_of venue.now.features id }
     ensures within { IfSome result (λ n. n < length (nodes venue.now.features)) }
 {
+    number_law();
     venue.graph().node_of(id)
 }
 
