@@ -46,13 +46,28 @@ fn route(rt: &impl Abort, alloc: Global, asked: &RouteStop) -> Result<Output, Fa
 }
 
 // What `verify` prints of a table and an answer.
-fn verdict(rt: &impl Abort, alloc: Global, table: &[u8], answer: &[u8]) -> Result<Output, Fail> {
-    let table = Vec::from_slice(alloc, table)?;
-    let answer = Vec::from_slice(alloc, answer)?;
+fn verdict(
+    rt: &impl Abort,
+    alloc: Global,
+    table: Vec<u8>,
+    answer: Vec<u8>,
+) -> Result<Output, Fail> {
     let mut files = Vec::new(alloc);
     files.push(base_file(alloc, "links.txt", table)?)?;
     files.push(base_file(alloc, "answer.txt", answer)?)?;
     ending(rt, alloc, files, 0, &["verify", "base"])
+}
+
+// This was printed, with this status.
+fn judge_printed(
+    rt: &impl Abort,
+    printed: &Output,
+    text: &str,
+    status: u8,
+) -> Result<(), Fail> {
+    assert_eq!(rt; str::from_utf8(printed.text.as_slice()), Ok(text));
+    assert_eq!(rt; printed.status, status, "at {text}");
+    Ok(())
 }
 
 // Whether a line of the text is this one.
@@ -90,19 +105,14 @@ fn judge_route(rt: &impl Abort, alloc: Global, row: &RouteRow) -> Result<(), Fai
     judge_text(rt, text, row)?;
     assert_eq!(rt; printed.status, row.status);
     let table = links(rt, alloc, row.edits, row.profile)?;
-    let proved = verdict(rt, alloc, table.text.as_slice(), text.as_bytes())?;
-    assert_eq!(rt; str::from_utf8(proved.text.as_slice()), Ok("proved\n"));
-    assert_eq!(rt; proved.status, 0);
-    Ok(())
+    let proved = verdict(rt, alloc, table.text, printed.text)?;
+    judge_printed(rt, &proved, "proved\n", 0)
 }
 
 // Where the command stops, or the words ask for none.
 fn judge_stop(rt: &impl Abort, alloc: Global, asked: &RouteStop) -> Result<(), Fail> {
-    let text = asked.text;
     let printed = route(rt, alloc, asked)?;
-    assert_eq!(rt; str::from_utf8(printed.text.as_slice()), Ok(text));
-    assert_eq!(rt; printed.status, status_of(text), "at {text}");
-    Ok(())
+    judge_printed(rt, &printed, asked.text, status_of(asked.text))
 }
 
 #[test]
@@ -149,8 +159,6 @@ fn a_cheaper_route_fails(rt: HostRuntime) -> Result<(), Fail> {
     let (front, back) = text.split_once("route 9040\n").expect(&rt, "the cost");
     let cheaper = format!(in alloc; "{front}route 9039\n{back}")?;
     let table = links(&rt, alloc, &[], "wheelchair")?;
-    let failed = verdict(&rt, alloc, table.text.as_slice(), cheaper.as_bytes())?;
-    assert_eq!(rt; str::from_utf8(failed.text.as_slice()), Ok("fails sum\n"));
-    assert_eq!(rt; failed.status, 1);
-    Ok(())
+    let failed = verdict(&rt, alloc, table.text, cheaper.into_bytes())?;
+    judge_printed(&rt, &failed, "fails sum\n", 1)
 }
