@@ -1,5 +1,6 @@
 #!/usr/bin/env python3
-"""Compares `venue verify` with check_route.py over the examples and over some hundred made answers, right and wrong.
+"""Compares `venue verify` with check_route.py over the examples, over what `venue route` prints between places of the station, and
+over some hundred made answers, right and wrong. The costs of the routes are compared with a plain search over the printed table.
 
 usage: compare_checkers.py [PROGRAM]   (without PROGRAM the launcher ./venue, which builds the program if need be)
 It prints one line, and ends with status 1 at a difference.
@@ -15,6 +16,8 @@ HERE = os.path.dirname(os.path.abspath(__file__))
 CHECKER = [sys.executable, os.path.join(HERE, "check_route.py")]
 NODE = "00000000-0000-4000-8000-{:012x}"
 TABLES, ANSWERS = 25, 14
+# Places of the station by the last digits of their identifiers, and how many pairs of them are asked for each profile.
+PLACES, PAIRS = [0x31, 0x41, 0x42, 0x51, 0x52, 0x101, 0x103, 0x107, 0x112, 0x203, 0x204, 0x300, 0x301, 0x302, 0x305, 0x404], 12
 
 
 def made_table(chance):
@@ -92,6 +95,44 @@ def cheaper(chance, links_text):
     return text
 
 
+def printed(program, words):
+    return subprocess.run(program + words, capture_output=True).stdout.decode()
+
+
+def links_in(text):
+    """The number of nodes of a table's text, and its links as (from, to, cost)."""
+    lines = text.splitlines()
+    links = [tuple(int(word) for word in line.split(" ")[1:4]) for line in lines if line.startswith("link ")]
+    return sum(line.startswith("node ") for line in lines), links
+
+
+def cost_in(text):
+    """From where to where an answer's text leads, and its cost, None where there is no walk."""
+    lines = [line.split(" ") for line in text.splitlines()]
+    return int(lines[1][1]), int(lines[2][1]), int(lines[3][1]) if lines[3][0] == "route" else None
+
+
+def station_bases(program, folder, chance):
+    """Bases with what `links` and `route` print of the station, and those of them whose cost isn't least."""
+    bases, wrong = [], []
+    for profile in ("walk", "wheelchair"):
+        table = printed(program, ["links", HERE, "station", profile])
+        nodes, links = links_in(table)
+        for number in range(PAIRS):
+            places = [NODE.format(place) for place in chance.sample(PLACES, 2)]
+            answer = printed(program, ["route", HERE, "station", profile] + places)
+            base = os.path.join(folder, f"{profile}-{number}")
+            os.mkdir(base)
+            for name, text in (("links.txt", table), ("answer.txt", answer)):
+                with open(os.path.join(base, name), "w") as file:
+                    file.write(text)
+            bases.append(base)
+            start, end, cost = cost_in(answer)
+            if cost != least_walks(nodes, links, start)[0].get(end):
+                wrong.append(f"{base}: route from {start} to {end} printed the cost {cost}")
+    return bases, wrong
+
+
 def answers_of(command, base):
     ran = subprocess.run(command + [base], capture_output=True)
     return ran.stdout, ran.returncode
@@ -102,6 +143,8 @@ def main():
     bases = sorted(entry.path for entry in os.scandir(HERE) if entry.is_dir())
     chance, seen, differ = random.Random(7), {}, 0
     with tempfile.TemporaryDirectory() as folder:
+        routes, wrong = station_bases(program, folder, random.Random(11))
+        bases += routes
         bases.append(os.path.join(folder, "missing"))
         for table in range(TABLES):
             nodes, links, table_text = made_table(chance)
@@ -128,9 +171,13 @@ def main():
             if found != wanted:
                 differ += 1
                 print(f"{base}: the program {found}, check_route.py {wanted}", file=sys.stderr)
+            if base in routes and found[0] != b"proved\n":
+                wrong.append(f"{base}: of a printed route verify says {found}")
     kinds = ", ".join(f"{count} {kind}" for kind, count in sorted(seen.items()))
+    for line in wrong:
+        print(line, file=sys.stderr)
     print(f"compare_checkers: {len(bases)} answers, {differ} differences ({kinds})")
-    return 1 if differ else 0
+    return 1 if differ or wrong else 0
 
 
 sys.exit(main())

@@ -20,11 +20,11 @@ use Rattle.venue_cli.specs.Linked.{profile_named, LinksOutput, no_venue as no_li
 use Rattle.venue_cli.proofs.VenueMaking.{printed_as}
 
 -- there is no venue, and this answer was given
-stopped_as : (fs : List StoredFile) (base folder : List ℕ) (m : Made) (answer : Answer) → IsMade fs base folder m → m ≡ made.Stopped answer → NoVenue fs base folder answer.text answer.status
+pub stopped_as : (fs : List StoredFile) (base folder : List ℕ) (m : Made) (answer : Answer) → IsMade fs base folder m → m ≡ made.Stopped answer → NoVenue fs base folder answer.text answer.status
 stopped_as fs base folder m answer told is = subst (IsMade fs base folder) is told
 
 -- there is this venue
-venue_as : (fs : List StoredFile) (base folder : List ℕ) (m : Made) (venue : Venue) → IsMade fs base folder m → m ≡ made.Venue venue → HasVenue fs base folder venue
+pub venue_as : (fs : List StoredFile) (base folder : List ℕ) (m : Made) (venue : Venue) → IsMade fs base folder m → m ≡ made.Venue venue → HasVenue fs base folder venue
 venue_as fs base folder m venue told is = subst (IsMade fs base folder) is told
 
 pub check_stopped : (files : Option (List StoredFile)) (base folder : List ℕ) (m : Made) (answer : Answer) → IfSome files (λ fs. IsMade fs base folder m) → m ≡ made.Stopped answer
@@ -52,7 +52,7 @@ linked_for : (fs : List StoredFile) (base folder name : List ℕ) (venue : Venue
 linked_for fs base folder name venue answer None has is printed =
     printed_as (LinksOutput fs base folder name) (line (codes "profile")) Wrong answer printed.0 printed.1 (no_profile venue has is)
 linked_for fs base folder name venue answer (Some profile) has is printed =
-    printed_as (LinksOutput fs base folder name) (table_text (table_of venue.features venue.settings profile)) Done answer printed.0 printed.1 (linked venue profile has is)
+    printed_as (LinksOutput fs base folder name) (table_text (table_of venue.features venue.settings profile)) Done answer printed.0 printed.1 (linked venue profile has is printed.2)
 
 pub is_linked : (files : Option (List StoredFile)) (base folder name : List ℕ) (m : Made) (venue : Venue) (r : Result Answer ReadFault) → IfSome files (λ fs. IsMade fs base folder m)
     → m ≡ made.Venue venue → IfOk r (IsLinked venue name) → IfOk r (λ a. IfSome files (λ fs. LinksOutput fs base folder name a.text a.status))

@@ -9,12 +9,14 @@ use Rattle.line_forms.specs.Lines.{line}
 use Rattle.venue_cli.specs.declared.answer.Answer.{Answer}
 use Rattle.venue_cli.specs.declared.status.Status.{Status}
 use Rattle.venue_cli.specs.declared.status.Status.TheVariants.{Done, Negative, Wrong, Fault, Memory}
-use Rattle.venue_cli.specs.Steps.{IsPrinted}
-use Rattle.venue_cli.specs.Commands.{Asked, Price, Verify, Check, Links, IsBase, IsFolder, IsAsked, AskFor, words_of}
-use Rattle.venue_cli.specs.Output.{PriceOutput, Output, other_words, answers_price, answers_verify, answers_check, answers_links}
+use Rattle.venue_cli.specs.Steps.{IsPrinted, AsksRoute}
+use Rattle.venue_types.specs.declared.feature_id.FeatureId.{FeatureId}
+use Rattle.venue_cli.specs.Commands.{Asked, Price, Verify, Check, Links, Route, IsBase, IsFolder, IsIdentifier, IsAsked, AskFor, words_of}
+use Rattle.venue_cli.specs.Output.{PriceOutput, Output, other_words, answers_price, answers_verify, answers_check, answers_links, answers_route}
 use Rattle.venue_cli.specs.Verified.{VerifyOutput}
 use Rattle.venue_cli.specs.Checked.{CheckOutput}
 use Rattle.venue_cli.specs.Linked.{LinksOutput}
+use Rattle.venue_cli.specs.Routed.{RouteOutput}
 use Rattle.venue_cli.proofs.VenueMaking.{printed_as}
 use Rattle.venue_cli.specs.Ends.{Wrote, Run, NoFault, folder_fault, Ends}
 
@@ -43,14 +45,29 @@ links_told words files base folder profile (Err e) is-base is-folder is told = t
 links_told words None base folder profile (Ok a) is-base is-folder is told = tt
 links_told words (Some fs) base folder profile (Ok a) is-base is-folder is told = answers_links base folder profile (is-base, is-folder) is told
 
+pub route_told : (words : List (List ℕ)) (files : Option (List StoredFile)) (base folder profile : List ℕ) (a b : FeatureId) (r : Result Answer ReadFault)
+    → AsksRoute words base folder profile a b → IfOk r (λ x. IfSome files (λ fs. RouteOutput fs base folder profile a b x.text x.status))
+    → IfOk r (λ x. IfSome files (λ fs. Output words fs x.text x.status))
+route_told words files base folder profile a b (Err e) asks told = tt
+route_told words None base folder profile a b (Ok x) asks told = tt
+route_told words (Some fs) base folder profile a b (Ok x) asks told =
+    answers_route base folder profile asks.from asks.to a b (asks.base_is, asks.folder_is, (a, asks.from_is), (b, asks.to_is)) asks.spelled asks.from_is asks.to_is told
+
+-- the words ask for a way
+pub route_asked : (words : List (List ℕ)) (base folder profile : List ℕ) (a b : FeatureId) → AsksRoute words base folder profile a b → AskFor words
+route_asked words base folder profile a b asks =
+    record { asked = Route base folder profile asks.from asks.to; form = (asks.base_is, asks.folder_is, (a, asks.from_is), (b, asks.to_is)); spelled = asks.spelled }
+
 -- the words ask for nothing
 pub asks_nothing : (words : List (List ℕ)) → ((base : List ℕ) → IsBase base → words ≡ words_of (Price base) → ⊥) → ((base : List ℕ) → IsBase base → words ≡ words_of (Verify base) → ⊥)
     → ((base folder : List ℕ) → IsBase base → IsFolder folder → words ≡ words_of (Check base folder) → ⊥)
-    → ((base folder profile : List ℕ) → IsBase base → IsFolder folder → words ≡ words_of (Links base folder profile) → ⊥) → (asked : Asked) → IsAsked asked → words ≡ words_of asked → ⊥
-asks_nothing words no_price no_verify no_check no_links (Price base) is-asked is = no_price base is-asked is
-asks_nothing words no_price no_verify no_check no_links (Verify base) is-asked is = no_verify base is-asked is
-asks_nothing words no_price no_verify no_check no_links (Check base folder) is-asked is = no_check base folder is-asked.0 is-asked.1 is
-asks_nothing words no_price no_verify no_check no_links (Links base folder profile) is-asked is = no_links base folder profile is-asked.0 is-asked.1 is
+    → ((base folder profile : List ℕ) → IsBase base → IsFolder folder → words ≡ words_of (Links base folder profile) → ⊥)
+    → ((base folder profile from to : List ℕ) → IsBase base → IsFolder folder → IsIdentifier from → IsIdentifier to → words ≡ words_of (Route base folder profile from to) → ⊥) → (asked : Asked) → IsAsked asked → words ≡ words_of asked → ⊥
+asks_nothing words no_price no_verify no_check no_links no_route (Price base) is-asked is = no_price base is-asked is
+asks_nothing words no_price no_verify no_check no_links no_route (Verify base) is-asked is = no_verify base is-asked is
+asks_nothing words no_price no_verify no_check no_links no_route (Check base folder) is-asked is = no_check base folder is-asked.0 is-asked.1 is
+asks_nothing words no_price no_verify no_check no_links no_route (Links base folder profile) is-asked is = no_links base folder profile is-asked.0 is-asked.1 is
+asks_nothing words no_price no_verify no_check no_links no_route (Route base folder profile from to) is-asked is = no_route base folder profile from to is-asked.0 is-asked.1 is-asked.2 is-asked.3 is
 
 pub other_told : (words : List (List ℕ)) (files : Option (List StoredFile)) (answer : Answer) → ((asked : Asked) → IsAsked asked → words ≡ words_of asked → ⊥) → answer.text ≡ line (codes "words")
     → answer.status ≡ Wrong → IfSome files (λ fs. Output words fs answer.text answer.status)

@@ -1,12 +1,15 @@
 -- What the words of the command line can ask for.
-use Rattle.std.specs.Prelude.{◌≡◌, ℕ, ◌<◌, ◌≤◌, Bool, true, List, [], ◌∷◌, length, codes, nat_le, ◌==◌, ◌&&◌, ◌||◌}
+use Rattle.std.specs.Prelude.{◌≡◌, ℕ, ◌<◌, ◌≤◌, Bool, true, List, [], ◌∷◌, length, Some, codes, nat_le, ◌==◌, ◌&&◌, ◌||◌}
 use Rattle.std.specs.List.{Contains, list_all}
+use Rattle.venue_types.specs.declared.feature_id.FeatureId.{FeatureId}
+use Rattle.venue_types.specs.Identifier.{identifier_read}
 
 pub data Asked : Type 0 where
   Price : List ℕ → Asked
   Verify : List ℕ → Asked
   Check : List ℕ → List ℕ → Asked
   Links : List ℕ → List ℕ → List ℕ → Asked
+  Route : List ℕ → List ℕ → List ℕ → List ℕ → List ℕ → Asked
 
 -- the name of a base: 1 to 1,024 bytes without a zero byte
 pub record IsBase (base : List ℕ) : Type 0 where
@@ -24,12 +27,17 @@ pub record IsFolder (folder : List ℕ) : Type 0 where
   pub short : length folder ≤ 64
   pub plain : list_all is_folder_byte folder ≡ true
 
+-- an identifier in one of its four forms
+abbrev pub IsIdentifier : List ℕ → Type 0
+IsIdentifier text = (id : FeatureId) × (identifier_read text ≡ Some id)
+
 -- the words of a command
 abbrev pub words_of : Asked → List (List ℕ)
 words_of (Price base) = codes "price" ∷ base ∷ []
 words_of (Verify base) = codes "verify" ∷ base ∷ []
 words_of (Check base folder) = codes "check" ∷ base ∷ folder ∷ []
 words_of (Links base folder profile) = codes "links" ∷ base ∷ folder ∷ profile ∷ []
+words_of (Route base folder profile from to) = codes "route" ∷ base ∷ folder ∷ profile ∷ from ∷ to ∷ []
 
 -- its words are of their form; any word may be a profile's name
 abbrev pub IsAsked : Asked → Type 0
@@ -37,6 +45,7 @@ IsAsked (Price base) = IsBase base
 IsAsked (Verify base) = IsBase base
 IsAsked (Check base folder) = IsBase base × IsFolder folder
 IsAsked (Links base folder profile) = IsBase base × IsFolder folder
+IsAsked (Route base folder profile from to) = IsBase base × IsFolder folder × IsIdentifier from × IsIdentifier to
 
 -- the words ask for a command
 pub record AskFor (words : List (List ℕ)) : Type 0 where

@@ -3,6 +3,8 @@ pub mod Commands
 pub mod Verified
 pub mod Checked
 pub mod Linked
+pub mod Routed
+pub mod Kept
 pub mod Output
 pub mod Steps
 pub mod Ends

@@ -6,7 +6,7 @@ use Rattle.venue_types.specs.declared.settings.Profile.{Profile}
 use Rattle.venue_types.specs.declared.settings.Settings.{Settings}
 use Rattle.venue_ports.specs.Files.{StoredFile}
 use Rattle.line_forms.specs.Lines.{line}
-use Rattle.route_certificate.specs.Forms.{table_text}
+use Rattle.route_certificate.specs.Forms.{table_text, FitsTable}
 use Rattle.venue_build.specs.Venues.{SeenVenue as Venue}
 use Rattle.link_tables.specs.Tables.{table_of}
 use Rattle.venue_cli.specs.declared.status.Status.{Status}
@@ -17,10 +17,10 @@ use Rattle.venue_cli.specs.Checked.{NoVenue, HasVenue}
 abbrev pub profile_named : Settings → List ℕ → Option Profile
 profile_named settings name = find (λ (profile : Profile). bytes_eq profile.name name) settings.profiles
 
--- `links BASE FOLDER PROFILE`: the folder is judged before the profile is looked up
+-- `links BASE FOLDER PROFILE`: the folder is judged before the profile is looked up, and a table that is printed is within the ranges of its form
 pub data LinksOutput (files : List StoredFile) (base folder name : List ℕ) : List ℕ → Status → Type 0 where
   no_venue : {text : List ℕ} {status : Status} → NoVenue files base folder text status → LinksOutput files base folder name text status
   no_profile : (venue : Venue) → HasVenue files base folder venue → profile_named venue.settings name ≡ None
       → LinksOutput files base folder name (line (codes "profile")) Wrong
   linked : (venue : Venue) (profile : Profile) → HasVenue files base folder venue → profile_named venue.settings name ≡ Some profile
-      → LinksOutput files base folder name (table_text (table_of venue.features venue.settings profile)) Done
+      → FitsTable (table_of venue.features venue.settings profile) → LinksOutput files base folder name (table_text (table_of venue.features venue.settings profile)) Done

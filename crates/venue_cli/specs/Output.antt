@@ -1,6 +1,8 @@
 -- What the program prints, and the status with which it ends, over the files that are told.
-use Rattle.std.specs.Prelude.{◌≡◌, ℕ, List, ◌++◌, codes}
+use Rattle.std.specs.Prelude.{◌≡◌, ℕ, List, ◌++◌, Some, codes}
 use Rattle.std.specs.Fmt.{decimal}
+use Rattle.venue_types.specs.declared.feature_id.FeatureId.{FeatureId}
+use Rattle.venue_types.specs.Identifier.{identifier_read}
 use Rattle.venue_ports.specs.Files.{StoredFile, file_at}
 use Rattle.line_forms.specs.Lines.{line}
 use Rattle.route_certificate.specs.declared.table.Table.{Table}
@@ -11,11 +13,12 @@ use Rattle.route_certificate.specs.Forms.{IsTable, IsWalkText}
 use Rattle.route_certificate.specs.Prices.{IsPriced}
 use Rattle.venue_cli.specs.declared.status.Status.{Status}
 use Rattle.venue_cli.specs.declared.status.Status.TheVariants.{Done, Negative, Wrong}
-use Rattle.venue_cli.specs.Commands.{Asked, Price, Verify, Check, Links, IsAsked, words_of}
+use Rattle.venue_cli.specs.Commands.{Asked, Price, Verify, Check, Links, Route, IsAsked, words_of}
 use Rattle.venue_cli.specs.Files.{Reads, Stops, links_limit, links_name, walk_limit, walk_name}
 use Rattle.venue_cli.specs.Verified.{VerifyOutput}
 use Rattle.venue_cli.specs.Checked.{CheckOutput}
 use Rattle.venue_cli.specs.Linked.{LinksOutput}
+use Rattle.venue_cli.specs.Routed.{RouteOutput}
 
 -- a walk's text over a table
 abbrev pub WalkForm : Table → List ℕ → WalkIn → Type 0
@@ -49,3 +52,6 @@ pub data Output (words : List (List ℕ)) (files : List StoredFile) : List ℕ �
       → Output words files text status
   answers_links : {text : List ℕ} {status : Status} (base folder profile : List ℕ) → IsAsked (Links base folder profile) → words ≡ words_of (Links base folder profile)
       → LinksOutput files base folder profile text status → Output words files text status
+  answers_route : {text : List ℕ} {status : Status} (base folder profile from to : List ℕ) (a b : FeatureId) → IsAsked (Route base folder profile from to)
+      → words ≡ words_of (Route base folder profile from to) → identifier_read from ≡ Some a → identifier_read to ≡ Some b
+      → RouteOutput files base folder profile a b text status → Output words files text status

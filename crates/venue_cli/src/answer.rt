@@ -11,9 +11,10 @@ use crate::base::{table_of, walk_of};
 use crate::checking::check_answer;
 use crate::linking::links_answer;
 use crate::load::Cause;
+use crate::routing::routing_answer;
 use crate::status::Status;
 use crate::verifying::verify_answer;
-use crate::words::{base_of, folder_of, links_of};
+use crate::words::{base_of, folder_of, links_of, route_of};
 use route_certificate::{Priced, price};
 use std::alloc::{AllocError, Global};
 use venue_ports::{Folders, ReadFault};
@@ -108,6 +109,9 @@ pub(crate) fn answer_to<F: Folders>(
     }
     if let Some((base, folder, profile)) = links_of(words) {
         return links_answer(alloc, base, folder, profile, folders);
+    }
+    if let Some((base, folder, profile, from, to)) = route_of(words) {
+        return routing_answer(alloc, base, folder, profile, from, to, folders);
     }
     Ok(printed(Status::Wrong, String::from_str(alloc, "words\n")?))
 }

@@ -6,7 +6,7 @@ ghost use Rattle.std.specs.Option.{option_copied};
 ghost use Rattle.std.specs.Str.{bytes_eq};
 ghost use Rattle.venue_ports.specs.Files.{HasReadCause};
 ghost use Rattle.venue_ports.specs.declared.folders.ReadFault.TheVariants.{OutOfMemory as NoMemory};
-ghost use Rattle.route_certificate.specs.Forms.{table_text};
+ghost use Rattle.route_certificate.specs.Forms.{table_text, FitsTable};
 ghost use Rattle.link_tables.specs.Tables.{table_of};
 ghost use Rattle.venue_cli.specs.Linked.{LinksOutput};
 ghost use Rattle.venue_cli.specs.Steps.{IsLinked, IsPrinted};
@@ -21,8 +21,8 @@ use venue_build::Venue;
 use venue_ports::{Folders, ReadFault};
 use venue_types::{Bytes, OutOfMemory, Profile, Settings};
 
-// The profile of the settings that has this name.
-fn profile_named<'a>(settings: &'a Settings, name: &str) -> Option<&'a Profile>
+/// The profile of the settings that has this name.
+pub(crate) fn profile_named<'a>(settings: &'a Settings, name: &str) -> Option<&'a Profile>
     ensures { option_copied result ≡ find (λ profile. bytes_eq profile.name name.now) settings.now.profiles }
 {
     settings
@@ -34,7 +34,8 @@ fn profile_named<'a>(settings: &'a Settings, name: &str) -> Option<&'a Profile>
 
 // The text of the links of a venue that a profile may use.
 fn links_text(alloc: Global, venue: &Venue, profile: &Profile) -> Result<Bytes, OutOfMemory>
-    ensures { IfOk result (λ text. text ≡ table_text (table_of venue.now.features venue.now.settings profile.now)) }
+    ensures text { IfOk result (λ text. text ≡ table_text (table_of venue.now.features venue.now.settings profile.now)) }
+    ensures fits { IfOk result (λ text. FitsTable (table_of venue.now.features venue.now.settings profile.now)) }
 {
     let table = allowed_table(alloc, venue.graph(), profile)?;
     write_table(alloc, &table)

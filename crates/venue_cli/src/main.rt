@@ -9,6 +9,8 @@ mod linking;
 mod load;
 mod making;
 mod printing;
+mod route_law;
+mod routing;
 mod running;
 mod settings;
 mod status;
@@ -20,6 +22,7 @@ mod verifying;
 mod words;
 
 pub use exit::{Exit, WordsFault, exit_after, words_fault};
+pub use route_law::route_is_proved;
 pub use running::run;
 pub use status::{Outcome, Status};
 use std::env;

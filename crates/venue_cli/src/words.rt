@@ -3,7 +3,10 @@
 ghost use Rattle.std.specs.Prelude.{◌≡◌, ℕ, List, [], ◌∷◌, map, codes, string_bytes, IfSome, IfNone};
 ghost use Rattle.std.specs.Bool.{OnTrue, OnFalse};
 ghost use Rattle.std.specs.List.{list_all};
-ghost use Rattle.venue_cli.specs.Commands.{IsBase, IsFolder, is_folder_byte};
+ghost use Rattle.venue_cli.specs.Commands.{IsBase, IsFolder, IsIdentifier, is_folder_byte};
+ghost use Rattle.venue_cli.specs.Steps.{AsksRoute};
+
+use venue_types::FeatureId;
 
 // Whether a word names a base.
 fn is_base(word: &str) -> bool
@@ -102,6 +105,42 @@ pub(crate) fn links_of(words: &[String]) -> Option<(&str, &str, &str)>
     let (command, base, folder, profile) = four_words(words)?;
     if command == "links" && is_base(base) && is_folder(folder) {
         Some((base, folder, profile))
+    } else {
+        None
+    }
+}
+
+// The words, where they are six.
+fn six_words(words: &[String]) -> Option<(&str, &str, &str, &str, &str, &str)>
+    ensures found { IfSome result (λ six. map string_bytes words.now ≡ six.0.now ∷ six.1.now ∷ six.2.now ∷ six.3.now ∷ six.4.now ∷ six.5.now ∷ []) }
+    ensures none { IfNone result ((first second third fourth fifth sixth : List ℕ) → map string_bytes words.now ≡ first ∷ second ∷ third ∷ fourth ∷ fifth ∷ sixth ∷ [] → ⊥) }
+{
+    match words {
+        [first, second, third, fourth, fifth, sixth] => {
+            Some((
+                first.as_str(),
+                second.as_str(),
+                third.as_str(),
+                fourth.as_str(),
+                fifth.as_str(),
+                sixth.as_str(),
+            ))
+        }
+        _ => None,
+    }
+}
+
+/// The base, the folder, the name of a profile and two identifiers, where the words ask for a way.
+pub(crate) fn route_of(words: &[String]) -> Option<(&str, &str, &str, FeatureId, FeatureId)>
+    ensures found { IfSome result (λ five. AsksRoute (map string_bytes words.now) five.0.now five.1.now five.2.now five.3 five.4) }
+    ensures none { IfNone result ((base folder profile from to : List ℕ) → IsBase base → IsFolder folder → IsIdentifier from → IsIdentifier to
+        → map string_bytes words.now ≡ codes "route" ∷ base ∷ folder ∷ profile ∷ from ∷ to ∷ [] → ⊥) }
+{
+    let (command, base, folder, profile, from, to) = six_words(words)?;
+    let from = FeatureId::read(from.as_bytes())?;
+    let to = FeatureId::read(to.as_bytes())?;
+    if command == "route" && is_base(base) && is_folder(folder) {
+        Some((base, folder, profile, from, to))
     } else {
         None
     }

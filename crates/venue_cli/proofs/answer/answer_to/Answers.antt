@@ -1,7 +1,7 @@
 use Rattle.std.proofs.Common.{◌∙◌}
 use Rattle.std.specs.Prelude.{string_bytes, map}
 use Rattle.venue_cli.specs.Commands.{Price, Verify, Check, Links}
-use Rattle.venue_cli.proofs.Ending.{price_told, verify_told, check_told, links_told, other_told, asks_nothing}
+use Rattle.venue_cli.proofs.Ending.{price_told, verify_told, check_told, links_told, route_told, route_asked, other_told, asks_nothing}
 use Rattle.venue_cli.proofs.answer.answer_to.Goals as goal
 
 pub returns-in-Some-clause-told : goal.returns-in-Some-clause-told
@@ -24,10 +24,15 @@ returns-in-Some-links_of-clause-told g c =
     let found = c.in-Some-links_of.ensures.found in
     links_told (map string_bytes c.args.words.now) (g.F.Folders.files c.args.folders.now) _ _ _ c.links_answer.result found.0 found.1 found.2 c.links_answer.ensures.told
 
+pub returns-in-Some-route_of-clause-told : goal.returns-in-Some-route_of-clause-told
+returns-in-Some-route_of-clause-told g c =
+    route_told (map string_bytes c.args.words.now) (g.F.Folders.files c.args.folders.now) _ _ _ _ _ c.routing_answer.result c.in-Some-route_of.ensures.found c.routing_answer.ensures.told
+
 pub returns-clause-told : goal.returns-clause-told
 returns-clause-told g c =
     other_told (map string_bytes c.args.words.now) (g.F.Folders.files c.args.folders.now) c.printed.result
-    (asks_nothing (map string_bytes c.args.words.now) c.in_default.ensures.none c.in_default-base_of.ensures.none c.in_default-folder_of.ensures.none c.in_default-links_of.ensures.none)
+    (asks_nothing (map string_bytes c.args.words.now) c.in_default.ensures.none c.in_default-base_of.ensures.none c.in_default-folder_of.ensures.none c.in_default-links_of.ensures.none
+    c.in_default-route_of.ensures.none)
     (c.printed.ensures.text ∙ c.in_ok-from_str.ensures.ok) c.printed.ensures.status
 
 pub returns-in-Some-clause-asked : goal.returns-in-Some-clause-asked
@@ -49,3 +54,6 @@ pub returns-in-Some-links_of-clause-asked : goal.returns-in-Some-links_of-clause
 returns-in-Some-links_of-clause-asked g c failed =
     let found = c.in-Some-links_of.ensures.found in
     record { asked = Links c.in-Some-links_of.base.now c.in-Some-links_of.folder.now c.in-Some-links_of.profile.now; form = (found.0, found.1); spelled = found.2 }
+
+pub returns-in-Some-route_of-clause-asked : goal.returns-in-Some-route_of-clause-asked
+returns-in-Some-route_of-clause-asked g c failed = route_asked (map string_bytes c.args.words.now) _ _ _ _ _ c.in-Some-route_of.ensures.found
