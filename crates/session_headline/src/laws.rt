@@ -18,6 +18,8 @@ ghost use Rattle.venue_session.specs.declared.ends.End.{End};
 ghost use Rattle.session_headline.specs.Headline.{Headline, IsWhole};
 ghost use Rattle.session_headline.specs.Complete.{CanBeMade, HasRoom, IsMadeKind, IsOfKind, IsThere};
 
+use venue_build::one_outcome;
+
 /// The bytes that a session wrote answer its messages, one for one and in order, each at a legal history that begins with the one
 /// before; a route costs what it says and no way costs less, and where it is said that there is none there is none. That is said of
 /// sessions that ended by themselves, over a link that tells its bytes.
@@ -35,4 +37,6 @@ pub fn complete_law()
         → IsOfKind query.what (kind_of r) ⊎ (kind_of r ≡ out_of_memory) }
     ensures changes { (shelf : Shelf) (worker : ℕ) (asked : Change) (h k : List Entry) (v : Version) (r : Reply) → Replays h v → HasRoom v
         → CanBeMade (Some shelf) v asked → Changes (Some shelf) worker asked h r k → IsMadeKind asked (kind_of r) ⊎ (kind_of r ≡ out_of_memory) }
-{}
+{
+    one_outcome();
+}
