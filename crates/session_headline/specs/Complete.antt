@@ -1,5 +1,5 @@
 -- What a request gets to which no refusal applies.
-use Rattle.std.specs.Prelude.{◌≡◌, ◌⊎◌, ℕ, ◌<◌, true, Contains, Option}
+use Rattle.std.specs.Prelude.{◌≡◌, ◌⊎◌, ℕ, ◌<◌, ◌≤◌, Contains, Option}
 use Rattle.venue_types.specs.declared.query.Ask.{Ask}
 use Rattle.venue_types.specs.declared.query.Ask.TheVariants as ask
 use Rattle.venue_types.specs.declared.query.Change.{Change}
