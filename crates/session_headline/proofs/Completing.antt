@@ -1,6 +1,5 @@
 -- What is asked for gets what it asks for.
 use Rattle.std.proofs.Common.{◌≡◌, ◌∙◌, ◌⊎◌, ℕ, ◌<◌, inl, inr, List, length, refl, sym, subst, arith, Option, Some, Bool, true, false}
-use Rattle.std.specs.Prelude.{Contains}
 use Rattle.venue_types.specs.declared.feature_id.FeatureId.{FeatureId}
 use Rattle.venue_types.specs.declared.files.Files.{Files}
 use Rattle.venue_types.specs.declared.finding.Report.{Report}
@@ -13,7 +12,6 @@ use Rattle.venue_types.specs.declared.reply.Reply.{Reply}
 use Rattle.venue_types.specs.declared.reply.Reply.TheVariants as reply
 use Rattle.venue_types.specs.declared.reply.Which.TheVariants as which
 use Rattle.venue_types.specs.declared.settings.Settings.{Settings}
-use Rattle.venue_nodes.specs.Nodes.{closables}
 use Rattle.venue_build.specs.Venues.{SeenVenue as Venue}
 use Rattle.venue_build.specs.Built.{IsRejected, IsVenueOf}
 use Rattle.venue_folder.specs.Shelves.{Shelf}
@@ -21,10 +19,10 @@ use Rattle.venue_history.specs.declared.entry.Act.{Act}
 use Rattle.venue_history.specs.declared.entry.Act.TheVariants as act
 use Rattle.venue_history.specs.declared.entry.Entry.{Entry}
 use Rattle.venue_history.specs.Answers.{IsTooEarly, AnswersAsk, Answers}
-use Rattle.venue_history.specs.Changes.{Makes, Breaks, IsActOf, TellsOf, Refuses, Changes}
+use Rattle.venue_history.specs.Changes.{Makes, Breaks, IsActOf, TellsOf, Refuses, StandsSo, Changes}
 use Rattle.venue_history.specs.Closed.{Version}
 use Rattle.venue_history.specs.Histories.{Replays}
-use Rattle.venue_history.specs.Replies.{kind_of, out_of_memory}
+use Rattle.venue_history.specs.Replies.{kind_of, closure_done, out_of_memory}
 use Rattle.session_headline.specs.Complete.{CanBeMade, HasRoom, IsMadeKind, IsOfKind, IsThere}
 
 told_kind : (v : Version) (asked : Ask) (r : Reply) → IsThere v asked → AnswersAsk v asked r → IsOfKind asked (kind_of r)
@@ -97,3 +95,20 @@ change_told outcome shelf worker asked h k v (reply.Published number dropped) st
     inl (act_told (Some shelf) is.version asked is.entry.act (reply.Published number dropped) is.of_change is.tells)
 change_told outcome shelf worker asked h k v r stands room can is =
     inl (not_refused outcome shelf v asked r room can (refused_here (Some shelf) asked h is.version v r is.stands stands is.cause))
+
+-- a closure that stands so already is told so
+not_moved : (shelf : Option Shelf) (v : Version) (feature : FeatureId) (closed : Bool) (r : Reply) → StandsSo v feature closed → Refuses shelf v (change.Closure feature closed) r
+    → kind_of r ≡ closure_done
+not_moved shelf v feature closed reply.NoFeature so is = absurd (is so.0)
+not_moved shelf v feature closed (reply.ClosureDone number feature' closed' false) so is = refl
+not_moved shelf v feature closed (reply.HistoryFull number) so is = absurd (is.0.1 so.1)
+not_moved shelf v feature closed _ so is = absurd is.1
+
+pub standing_told : (shelf : Option Shelf) (worker : ℕ) (feature : FeatureId) (closed : Bool) (h k : List Entry) (v : Version) (r : Reply) → Replays h v
+    → StandsSo v feature closed → Changes shelf worker (change.Closure feature closed) h r k → (kind_of r ≡ closure_done) ⊎ (kind_of r ≡ out_of_memory)
+standing_told shelf worker feature closed h k v reply.OutOfMemory stands so is = inr refl
+standing_told shelf worker feature closed h k v (reply.ClosureDone number feature' closed' true) stands so is = inl refl
+standing_told shelf worker feature closed h k v (reply.Published number dropped) stands so is =
+    inl (act_told shelf is.version (change.Closure feature closed) is.entry.act (reply.Published number dropped) is.of_change is.tells)
+standing_told shelf worker feature closed h k v r stands so is =
+    inl (not_moved shelf v feature closed r so (refused_here shelf (change.Closure feature closed) h is.version v r is.stands stands is.cause))

@@ -1,5 +1,5 @@
 -- The messages that were acted on, told again as exchanges.
-use Rattle.std.proofs.Common.{◌≡◌, ◌∙◌, ◌⊎◌, ℕ, inl, inr, true, false, List, [], ◌∷◌, ◌++◌, length, drop, refl, ap, subst, arith, length-append, Option}
+use Rattle.std.proofs.Common.{◌≡◌, ◌∙◌, ◌⊎◌, ℕ, inl, inr, false, List, [], ◌∷◌, ◌++◌, length, drop, refl, ap, subst, arith, length-append, Option}
 use Rattle.std.specs.List.{flat_map}
 use Rattle.venue_folder.specs.Shelves.{Shelf}
 use Rattle.venue_history.specs.declared.entry.Entry.{Entry}

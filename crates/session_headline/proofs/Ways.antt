@@ -1,12 +1,11 @@
 -- What a reply with a route, or that there is none, tells.
-use Rattle.std.proofs.Common.{◌≡◌, ◌∙◌, ℕ, List, ap, Option, Bool}
+use Rattle.std.proofs.Common.{◌∙◌, ℕ, List, ap, Option}
 use Rattle.venue_types.specs.declared.feature_id.FeatureId.{FeatureId}
 use Rattle.venue_types.specs.declared.query.Ask.{Ask}
 use Rattle.venue_types.specs.declared.query.Ask.TheVariants as ask
 use Rattle.venue_types.specs.declared.query.Change.{Change}
 use Rattle.venue_types.specs.declared.query.Change.TheVariants as change
 use Rattle.venue_types.specs.declared.reply.Mark.{Mark}
-use Rattle.venue_types.specs.declared.reply.Reply.{Reply}
 use Rattle.venue_types.specs.declared.reply.Reply.TheVariants as reply
 use Rattle.venue_types.specs.declared.reply.StepRow.{StepRow}
 use Rattle.venue_types.specs.declared.settings.Profile.{Profile}
@@ -21,7 +20,7 @@ use Rattle.venue_history.specs.Ways.{profile_of}
 use Rattle.version_board.specs.Facts.{Facts}
 use Rattle.venue_wire.specs.declared.messages.Message.{Message}
 use Rattle.wire_replies.specs.declared.answer.Answer.{Answer}
-use Rattle.wire_replies.specs.declared.answer.Answer.TheVariants.{Of, No}
+use Rattle.wire_replies.specs.declared.answer.Answer.TheVariants.{Of}
 use Rattle.venue_session.specs.Steps.{IsRight}
 use Rattle.session_headline.specs.Headline.{TellsTheWay}
 
