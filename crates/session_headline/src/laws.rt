@@ -22,9 +22,9 @@ ghost use Rattle.session_headline.specs.Complete.{CanBeMade, HasRoom, IsMadeKind
 
 use venue_build::one_outcome;
 
-/// The bytes that a session wrote answer its messages, one for one and in order, each at a legal history that begins with the one
-/// before; a route costs what it says and no way costs less, and where it is said that there is none there is none. That is said of
-/// sessions that ended by themselves, over a link that tells its bytes.
+/// The bytes that a session wrote answer its messages, one for one and in order, none left over, each at a legal history that begins
+/// with the one before; a route costs what it says and no way costs less, and where it is said that there is none there is none. That
+/// is said of sessions that ended by themselves, over a link that tells its bytes.
 pub fn headline_law()
     ensures { (keys : List (List ℕ)) (old new : Facts) (link : Measured) (end : End) (came left before written : List ℕ)
         → IsSession keys old new link end → IsWhole end
