@@ -11,16 +11,18 @@ at_place x y = record { x = x; y = y }
 unfoldable pub position : Place → List ℕ
 position p = codes "[10.00" ++ padded 3 p.x ++ codes ",50.00" ++ padded 3 p.y ++ codes "]"
 
--- a polygon of one ring, from its first corner east, north, west and back
-unfoldable pub box_text : Place → Place → List ℕ
-box_text from to =
-    codes "{\"type\":\"Polygon\",\"coordinates\":[["
-    ++ position from
+-- the corners of a box, from its first one east, north, west and back
+unfoldable pub ring : Place → Place → List ℕ
+ring from to =
+    position from
     ++ codes "," ++ position (at_place to.x from.y)
     ++ codes "," ++ position to
     ++ codes "," ++ position (at_place from.x to.y)
     ++ codes "," ++ position from
-    ++ codes "]]}"
+
+-- a polygon of one ring
+unfoldable pub box_text : Place → Place → List ℕ
+box_text from to = codes "{\"type\":\"Polygon\",\"coordinates\":[[" ++ ring from to ++ codes "]]}"
 
 -- a line of two positions
 unfoldable pub line_text : Place → Place → List ℕ

@@ -1,5 +1,5 @@
 -- The text of a building's files: a folder that has neither white space nor line ends.
-use Rattle.std.specs.Prelude.{ℕ, ◌+◌, ◌-◌, ◌*◌, ◌-ℤ◌, pos, List, [], ◌∷◌, ◌++◌, map, flat_map, codes}
+use Rattle.std.specs.Prelude.{ℕ, ◌+◌, ◌-◌, ◌*◌, ℤ, ◌-ℤ◌, pos, List, [], ◌∷◌, ◌++◌, map, flat_map, codes}
 use Rattle.std.specs.List.{range_with_len, join_with_byte}
 use Rattle.std.specs.Fmt.{signed_decimal}
 use Rattle.venue_types.specs.declared.files.Files.{Files}
@@ -25,9 +25,12 @@ item feature_type number geometry properties =
     ++ codes ",\"properties\":" ++ properties
     ++ codes "}"
 
--- the ordinal of a level is its number from 0, less 100
+-- the ordinal of a level, which is negative below level 100
+unfoldable pub ordinal : ℕ → ℤ
+ordinal level = pos level -ℤ pos 100
+
 unfoldable pub level_properties : ℕ → List ℕ
-level_properties level = codes "{\"ordinal\":" ++ signed_decimal (pos level -ℤ pos 100) ++ codes "}"
+level_properties level = codes "{\"ordinal\":" ++ signed_decimal (ordinal level) ++ codes "}"
 
 unfoldable pub opening_properties : ℕ → List ℕ
 opening_properties level = codes "{\"level_id\":\"" ++ identifier (level_number level) ++ codes "\"}"
@@ -55,6 +58,10 @@ relationship_properties category feature_type origin destination =
 
 -- ---- the features of a level
 
+-- the rooms of a level
+unfoldable pub rooms : List ℕ
+rooms = range_with_len 0 100
+
 unfoldable pub level_item : ℕ → List ℕ
 level_item level = item (codes "level") (level_number level) (box_text (at_place 0 0) (at_place 400 18)) (level_properties level)
 
@@ -68,7 +75,7 @@ room_opening_item levels level room =
 
 unfoldable pub opening_items : ℕ → ℕ → List (List ℕ)
 opening_items levels level =
-    map (room_opening_item levels level) (range_with_len 0 100)
+    map (room_opening_item levels level) rooms
     ++ opening_item levels level lift_opening (at_place 1 14) (at_place 3 14)
     ∷ opening_item levels level stairs_opening (at_place 397 14) (at_place 399 14)
     ∷ []
@@ -84,7 +91,7 @@ room_unit_item levels level room =
 unfoldable pub unit_items : ℕ → ℕ → List (List ℕ)
 unit_items levels level =
     unit_item levels level corridor_unit (codes "walkway") (at_place 0 10) (at_place 400 14)
-    ∷ map (room_unit_item levels level) (range_with_len 0 100)
+    ∷ map (room_unit_item levels level) rooms
     ++ unit_item levels level lift_unit (codes "elevator") (at_place 0 14) (at_place 4 18)
     ∷ unit_item levels level stairs_unit (codes "stairs") (at_place 396 14) (at_place 400 18)
     ∷ []
@@ -107,7 +114,7 @@ stairs_relationship_item levels level =
     relationship_item levels level stairs_relationship
     (relationship_properties (codes "stairs") (codes "opening") (opening_number levels level stairs_opening) (opening_number levels (level + 1) stairs_opening))
 
-abbrev pub relationship_items : ℕ → ℕ → List (List ℕ)
+unfoldable pub relationship_items : ℕ → ℕ → List (List ℕ)
 relationship_items levels level = lift_relationship_item levels level ∷ stairs_relationship_item levels level ∷ []
 
 unfoldable pub venue_item : ℕ → List ℕ
@@ -118,9 +125,13 @@ venue_item levels = item (codes "venue") (venue_number levels) (box_text (at_pla
 abbrev pub manifest_text : List ℕ
 manifest_text = codes "{\"version\":\"1.0.0\",\"created\":\"\",\"language\":\"en\"}"
 
--- the text of a file of features
+-- what a file of features begins with
+unfoldable pub collection_front : List ℕ
+collection_front = codes "{\"type\":\"FeatureCollection\",\"features\":["
+
+-- the text of a file of features, parted by commas
 unfoldable pub collection : List (List ℕ) → List ℕ
-collection items = codes "{\"type\":\"FeatureCollection\",\"features\":[" ++ join_with_byte 44 items ++ codes "]}"
+collection items = collection_front ++ join_with_byte 44 items ++ codes "]}"
 
 -- a type without features has no file
 abbrev pub feature_file : List (List ℕ) → Slot
@@ -135,17 +146,17 @@ levels_from_0 levels = range_with_len 0 levels
 unfoldable pub building_files : ℕ → Files
 building_files levels = record {
   slots =
-    Held manifest_text
-    -- address, amenity, anchor, building, detail, fixture, footprint, geofence, kiosk
-    ∷ Absent ∷ Absent ∷ Absent ∷ Absent ∷ Absent ∷ Absent ∷ Absent ∷ Absent ∷ Absent
-    -- level, occupant, opening
-    ∷ feature_file (map level_item (levels_from_0 levels))
-    ∷ Absent
-    ∷ feature_file (flat_map (opening_items levels) (levels_from_0 levels))
-    -- relationship, section, unit, venue
-    ∷ feature_file (flat_map (relationship_items levels) (levels_from_0 (levels - 1)))
-    ∷ Absent
-    ∷ feature_file (flat_map (unit_items levels) (levels_from_0 levels))
-    ∷ feature_file (venue_item levels ∷ [])
-    ∷ [];
+      Held manifest_text
+      -- address, amenity, anchor, building, detail, fixture, footprint, geofence, kiosk
+      ∷ Absent ∷ Absent ∷ Absent ∷ Absent ∷ Absent ∷ Absent ∷ Absent ∷ Absent ∷ Absent
+      -- level, occupant, opening
+      ∷ feature_file (map level_item (levels_from_0 levels))
+      ∷ Absent
+      ∷ feature_file (flat_map (opening_items levels) (levels_from_0 levels))
+      -- relationship, section, unit, venue
+      ∷ feature_file (flat_map (relationship_items levels) (levels_from_0 (levels - 1)))
+      ∷ Absent
+      ∷ feature_file (flat_map (unit_items levels) (levels_from_0 levels))
+      ∷ feature_file (venue_item levels ∷ [])
+      ∷ [];
 }

@@ -1,8 +1,9 @@
 //! The files of a building.
 
-ghost use Rattle.std.specs.Prelude.{◌≡◌, ℕ, ◌-◌, ◌<◌, ◌≤◌, List, [], ◌∷◌, ◌++◌, map, flat_map, codes, OnOk, IfOk};
-ghost use Rattle.gen_text.specs.Texts.{level_item, opening_items, relationship_items, unit_items, venue_item, manifest_text, feature_file, levels_from_0, building_files};
-ghost use Rattle.gen_text.specs.Ended.{ended};
+ghost use Rattle.std.specs.Prelude.{◌≡◌, ◌-◌, ◌<◌, ◌≤◌, [], ◌∷◌, map, flat_map, IfOk};
+ghost use Rattle.gen_text.specs.Texts.{level_item, opening_items, relationship_items, unit_items, venue_item, manifest_text, collection_front, feature_file, levels_from_0, building_files};
+ghost use Rattle.gen_text.specs.Ended.{IsEndOf};
+ghost use Rattle.venue_types.specs.declared.files.Slot.TheVariants.{Held};
 
 use crate::items::{push_level, push_openings, push_relationships, push_units, push_venue};
 use crate::numbers::{opening_count, relationship_count, unit_count};
@@ -14,7 +15,7 @@ const ITEM_ROOM: usize = 360;
 
 // Begins a file of so many features, with room for all.
 fn begun(alloc: Global, features: u32) -> Result<Vec<u8>, AllocError>
-    ensures { IfOk result (λ out. out.items ≡ codes "{\"type\":\"FeatureCollection\",\"features\":[") }
+    ensures { IfOk result (λ out. out.items ≡ collection_front) }
 {
     let mut out = Vec::with_capacity(alloc, (features as usize + 1) * ITEM_ROOM)?;
     out.extend_from_slice(br#"{"type":"FeatureCollection","features":["#)?;
@@ -22,12 +23,10 @@ fn begun(alloc: Global, features: u32) -> Result<Vec<u8>, AllocError>
 }
 
 // Takes the last comma back and ends the file.
-fn ended_file(out: Vec<u8>) -> Result<Slot, AllocError>
-    ensures { (item : List ℕ) (items : List (List ℕ))
-        → out.items ≡ codes "{\"type\":\"FeatureCollection\",\"features\":[" ++ ended (item ∷ items)
-        → IfOk result (λ slot. slot ≡ feature_file (item ∷ items)) }
+fn ended_file(text: Vec<u8>) -> Result<Slot, AllocError>
+    ensures { IfOk result (λ slot. IsEndOf text.items slot) }
 {
-    let mut out = out;
+    let mut out = text;
     let _comma = out.pop();
     out.extend_from_slice(b"]}")?;
     Ok(Slot::Held(Bytes::from_vec(out)))
@@ -36,7 +35,10 @@ fn ended_file(out: Vec<u8>) -> Result<Slot, AllocError>
 fn manifest_file(alloc: Global) -> Result<Slot, AllocError>
     ensures { IfOk result (λ slot. slot ≡ Held manifest_text) }
 {
-    let text = Vec::from_slice(alloc, br#"{"version":"1.0.0","created":"","language":"en"}"#)?;
+    let text = Vec::from_slice(
+        alloc,
+        br#"{"version":"1.0.0","created":"","language":"en"}"#,
+    )?;
     Ok(Slot::Held(Bytes::from_vec(text)))
 }
 

@@ -1,7 +1,7 @@
 //! Writing geometries.
 
 ghost use Rattle.std.specs.Prelude.{◌≡◌, ◌++◌, OnOk, codes};
-ghost use Rattle.gen_text.specs.Geometry.{position, box_text, line_text};
+ghost use Rattle.gen_text.specs.Geometry.{position, ring, box_text, line_text};
 
 use crate::identifiers::push_padded;
 use std::alloc::AllocError;
@@ -11,15 +11,6 @@ use std::alloc::AllocError;
 pub(crate) struct Place {
     pub(crate) x: u16,
     pub(crate) y: u16,
-}
-
-impl Place {
-    pub(crate) const fn new(x: u16, y: u16) -> Place
-        ensures x { result.x ≡ x }
-        ensures y { result.y ≡ y }
-    {
-        Place { x, y }
-    }
 }
 
 fn push_position(out: &mut Vec<u8>, place: Place) -> Result<(), AllocError>
@@ -38,7 +29,20 @@ fn push_next(out: &mut Vec<u8>, place: Place) -> Result<(), AllocError>
     ensures { OnOk result (out.new.items ≡ out.old.items ++ codes "," ++ position place) }
 {
     out.push(b',')?;
-    push_position(out, place)
+    push_position(out, place)?;
+    Ok(())
+}
+
+// The corners of the box between two of them, and the first one again.
+fn push_ring(out: &mut Vec<u8>, from: Place, to: Place) -> Result<(), AllocError>
+    ensures { OnOk result (out.new.items ≡ out.old.items ++ ring from to) }
+{
+    push_position(out, from)?;
+    push_next(out, Place { x: to.x, y: from.y })?;
+    push_next(out, to)?;
+    push_next(out, Place { x: from.x, y: to.y })?;
+    push_next(out, from)?;
+    Ok(())
 }
 
 /// Adds a polygon of one ring, the box between two corners.
@@ -46,12 +50,9 @@ pub(crate) fn push_box(out: &mut Vec<u8>, from: Place, to: Place) -> Result<(), 
     ensures { OnOk result (out.new.items ≡ out.old.items ++ box_text from to) }
 {
     out.extend_from_slice(br#"{"type":"Polygon","coordinates":[["#)?;
-    push_position(out, from)?;
-    push_next(out, Place { x: to.x, y: from.y })?;
-    push_next(out, to)?;
-    push_next(out, Place { x: from.x, y: to.y })?;
-    push_next(out, from)?;
-    out.extend_from_slice(b"]]}")
+    push_ring(out, from, to)?;
+    out.extend_from_slice(b"]]}")?;
+    Ok(())
 }
 
 /// Adds a line from one place to another.
@@ -61,5 +62,6 @@ pub(crate) fn push_line(out: &mut Vec<u8>, from: Place, to: Place) -> Result<(),
     out.extend_from_slice(br#"{"type":"LineString","coordinates":["#)?;
     push_position(out, from)?;
     push_next(out, to)?;
-    out.extend_from_slice(b"]}")
+    out.extend_from_slice(b"]}")?;
+    Ok(())
 }

@@ -24,7 +24,8 @@ pub(crate) fn push_identifier(out: &mut Vec<u8>, number: u32) -> Result<(), Allo
     ensures { OnOk result (out.new.items ≡ out.old.items ++ identifier number) }
 {
     out.extend_from_slice(b"00000000-0000-4000-8000-")?;
-    push_padded(out, 12, number)
+    push_padded(out, 12, number)?;
+    Ok(())
 }
 
 /// Adds a number with its sign, where it has one.
@@ -35,5 +36,6 @@ pub(crate) fn push_signed(out: &mut Vec<u8>, n: i16) -> Result<(), AllocError>
         out.push(b'-')?;
         return push_number(out, n.unsigned_abs() as u64);
     }
-    push_number(out, n as u64)
+    push_number(out, n as u64)?;
+    Ok(())
 }

@@ -65,7 +65,11 @@ fn judge_sizes(
     for file in 0..17 {
         let wanted = sizes.iter().find(|size| size.0 == file);
         let text = text_of(&files, file);
-        assert_eq!(rt; text.map(|text| text.len()), wanted.map(|size| size.1), "{file}");
+        assert_eq!(rt;
+            text.map(|text| text.len()),
+            wanted.map(|size| size.1),
+            "{file}"
+        );
     }
     Ok(())
 }
@@ -79,7 +83,11 @@ fn files_are_as_counted(rt: HostRuntime) -> Result<(), Fail> {
     let files = gen_files(alloc, 2)?;
     for (file, first, wanted) in PARTS {
         let text = text_of(&files, file).expect(&rt, "a file");
-        let stands = if first { text.starts_with(wanted) } else { text.ends_with(wanted) };
+        let stands = if first {
+            text.starts_with(wanted)
+        } else {
+            text.ends_with(wanted)
+        };
         assert!(rt; stands, "{file}");
     }
     Ok(())
