@@ -1,5 +1,7 @@
 //! The sizes of two buildings' files, and three of their features, worked out by hand.
 
+ghost use Rattle.std.specs.Prelude.{◌<◌, ◌≤◌};
+
 use crate::gen_files;
 use std::alloc::Global;
 use std::process::Abort;
