@@ -1,5 +1,5 @@
 -- A file whose items each have a comma, and that is then ended.
-use Rattle.std.proofs.Common.{◌≡◌, ℕ, ◌+◌, ◌-◌, ◌<◌, ◌≤◌, zero, suc, List, [], ◌∷◌, ◌++◌, map, length, take, sym, ap, subst, refl, ◌∙◌, append_assoc, codes, arith}
+use Rattle.std.proofs.Common.{◌≡◌, ℕ, ◌+◌, ◌-◌, ◌<◌, zero, suc, List, [], ◌∷◌, ◌++◌, map, length, take, sym, ap, refl, ◌∙◌, append_assoc, codes, arith}
 use Rattle.std.specs.Prelude.{IfOk, Result, Ok, Err}
 use Rattle.std.specs.List.{flat_map, range_with_len, join_with_byte}
 use Rattle.std.proofs.lemmas.List.{length-append, take-append-le, take_all}
@@ -7,7 +7,7 @@ use Rattle.std.proofs.lemmas.List.FromFn.{length-map-range_with_len}
 use Rattle.venue_types.specs.declared.files.Slot.{Slot}
 use Rattle.venue_types.specs.declared.files.Slot.TheVariants.{Absent, Held}
 use Rattle.gen_text.specs.Ended.{ended, IsEndOf}
-use Rattle.gen_text.specs.Texts.{collection, collection_front, feature_file, rooms, level_item, opening_items, relationship_items, unit_items, venue_item, manifest_text, levels_from_0, building_files}
+use Rattle.gen_text.specs.Texts.{collection, collection_front, feature_file, level_item, opening_items, relationship_items, unit_items, venue_item, manifest_text, levels_from_0, building_files}
 use Rattle.gen_text.proofs.EndedLemmas.{ended_joined}
 
 without_last : (xs : List ℕ) (last n : ℕ) → n ≡ length xs → take n (xs ++ last ∷ []) ≡ xs

@@ -1,5 +1,4 @@
 use Rattle.std.proofs.Common.{◌≡◌, ℕ, List, length, ap, ◌∙◌, arith}
-use Rattle.venue_types.specs.declared.files.Slot.{Slot}
 use Rattle.venue_types.specs.declared.files.Slot.TheVariants.{Held}
 use Rattle.gen_text.proofs.FileLemmas.{file_ended}
 use Rattle.gen_text.proofs.files.ended_file.Goals as goal

@@ -1,7 +1,7 @@
-use Rattle.std.proofs.Common.{◌≡◌, ℕ, ◌-◌, ◌++◌, List, map, sym, ap, subst, arith}
-use Rattle.std.specs.List.{flat_map, range_with_len}
+use Rattle.std.proofs.Common.{◌≡◌, ℕ, ◌++◌, map, subst, arith}
+use Rattle.std.specs.List.{range_with_len}
 use Rattle.gen_text.specs.Ended.{ended}
-use Rattle.gen_text.specs.Texts.{collection_front, feature_file, level_item}
+use Rattle.gen_text.specs.Texts.{collection_front, level_item}
 use Rattle.gen_text.proofs.EndedLemmas.{ended_map_more}
 use Rattle.gen_text.proofs.FileLemmas.{end_of, some_levels}
 use Rattle.gen_text.proofs.files.level_file.Goals as goal

@@ -1,7 +1,7 @@
-use Rattle.std.proofs.Common.{◌≡◌, ℕ, ◌-◌, ◌++◌, List, map, sym, ap, subst, arith}
+use Rattle.std.proofs.Common.{◌≡◌, ℕ, ◌++◌, subst, arith}
 use Rattle.std.specs.List.{flat_map, range_with_len}
 use Rattle.gen_text.specs.Ended.{ended}
-use Rattle.gen_text.specs.Texts.{collection_front, feature_file, opening_items}
+use Rattle.gen_text.specs.Texts.{collection_front, opening_items}
 use Rattle.gen_text.proofs.EndedLemmas.{ended_lists_more}
 use Rattle.gen_text.proofs.FileLemmas.{end_of, some_openings}
 use Rattle.gen_text.proofs.files.opening_file.Goals as goal

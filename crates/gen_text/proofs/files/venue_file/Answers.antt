@@ -1,4 +1,4 @@
-use Rattle.std.proofs.Common.{◌≡◌, List, [], ◌∷◌, ◌++◌, ◌∙◌, append-nil, sym, ap, refl, arith}
+use Rattle.std.proofs.Common.{◌≡◌, [], ◌∷◌, ◌++◌, append-nil, refl, arith}
 use Rattle.gen_text.specs.Ended.{ended, with_comma}
 use Rattle.gen_text.specs.Texts.{collection_front, venue_item}
 use Rattle.gen_text.proofs.FileLemmas.{end_of}

@@ -1,4 +1,4 @@
-use Rattle.std.proofs.Common.{◌≡◌, ℕ, ◌+◌, ◌<◌, ◌-◌, ◌/◌, ◌%◌, List, [], ◌∷◌, ◌++◌, sym, ap, ◌∙◌, append-nil, append_assoc, arith}
+use Rattle.std.proofs.Common.{◌≡◌, ◌+◌, ◌-◌, ◌/◌, ◌%◌, [], ◌∷◌, ◌++◌, sym, append-nil, append_assoc, arith}
 use Rattle.gen_text.specs.Numbers.{padded}
 use Rattle.gen_text.proofs.Pieces.{padded_none, padded_step}
 use Rattle.gen_text.proofs.identifiers.+push_padded.Goals as goal

@@ -1,4 +1,4 @@
-use Rattle.std.proofs.Common.{◌≡◌, ℕ, List, ◌++◌, ℤ, subst, codes, to_z, of_z, SFits, w16, ◌∙◌}
+use Rattle.std.proofs.Common.{◌≡◌, ◌++◌, ℤ, subst, codes, to_z, of_z, SFits, w16, ◌∙◌}
 use Rattle.std.specs.Fmt.{signed_decimal}
 use Rattle.std.proofs.lemmas.Int.{to_z-of_z}
 use Rattle.gen_text.specs.Texts.{level_properties, ordinal}

@@ -1,4 +1,4 @@
-use Rattle.std.proofs.Common.{◌≡◌, arith}
+use Rattle.std.proofs.Common.{arith}
 use Rattle.gen_text.specs.Texts.{room_opening_item}
 use Rattle.gen_text.proofs.EndedLemmas.{ended_map_more, all_rooms}
 use Rattle.gen_text.proofs.items.push_room_openings.Goals as goal
