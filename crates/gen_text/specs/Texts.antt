@@ -48,13 +48,17 @@ reference feature_type number =
     ++ codes "\",\"feature_type\":\"" ++ feature_type
     ++ codes "\"}"
 
--- a way either way between two features of one type
+-- a passage either way between two features of one type
 unfoldable pub relationship_properties : List ℕ → List ℕ → ℕ → ℕ → List ℕ
 relationship_properties category feature_type origin destination =
     codes "{\"category\":\"" ++ category
     ++ codes "\",\"direction\":\"undirected\",\"origin\":" ++ reference feature_type origin
     ++ codes ",\"destination\":" ++ reference feature_type destination
     ++ codes "}"
+
+-- the outline of the building, which each level fills
+abbrev pub outline : List ℕ
+outline = box_text (at_place 0 0) (at_place 400 18)
 
 -- ---- the features of a level
 
@@ -63,7 +67,7 @@ unfoldable pub rooms : List ℕ
 rooms = range_with_len 0 100
 
 unfoldable pub level_item : ℕ → List ℕ
-level_item level = item (codes "level") (level_number level) (box_text (at_place 0 0) (at_place 400 18)) (level_properties level)
+level_item level = item (codes "level") (level_number level) outline (level_properties level)
 
 unfoldable pub opening_item : ℕ → ℕ → ℕ → Place → Place → List ℕ
 opening_item levels level place from to =
@@ -118,7 +122,7 @@ unfoldable pub relationship_items : ℕ → ℕ → List (List ℕ)
 relationship_items levels level = lift_relationship_item levels level ∷ stairs_relationship_item levels level ∷ []
 
 unfoldable pub venue_item : ℕ → List ℕ
-venue_item levels = item (codes "venue") (venue_number levels) (box_text (at_place 0 0) (at_place 400 18)) (codes "{}")
+venue_item levels = item (codes "venue") (venue_number levels) outline (codes "{}")
 
 -- ---- the files
 
@@ -129,7 +133,7 @@ manifest_text = codes "{\"version\":\"1.0.0\",\"created\":\"\",\"language\":\"en
 unfoldable pub collection_front : List ℕ
 collection_front = codes "{\"type\":\"FeatureCollection\",\"features\":["
 
--- the text of a file of features, parted by commas
+-- the text of a file of features, which are parted by commas
 unfoldable pub collection : List (List ℕ) → List ℕ
 collection items = collection_front ++ join_with_byte 44 items ++ codes "]}"
 

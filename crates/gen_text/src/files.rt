@@ -97,7 +97,7 @@ fn venue_file(alloc: Global, levels: u8) -> Result<Slot, AllocError>
     ended_file(out)
 }
 
-/// The files of a building of so many levels.
+/// The seventeen files of a building of so many levels.
 pub fn gen_files(alloc: Global, levels: u8) -> Result<Files, OutOfMemory>
     requires { (0 < levels) × (levels ≤ 200) }
     ensures { IfOk result (λ files. files ≡ building_files levels) }
