@@ -1,0 +1,16 @@
+use Rattle.std.proofs.Common.{append_assoc}
+use Rattle.gen_text.specs.Texts.{venue_item, item}
+use Rattle.gen_text.proofs.items.push_venue.Goals as goal
+
+pub returns : goal.returns
+unfolding venue_item item
+returns c =
+    simp (
+      c.venue_number.ensures,
+      c.in_ok-push_front.ensures,
+      c.in_ok-push_box.ensures,
+      c.in_ok-extend_from_slice.ensures.items,
+      c.in_ok-extend_from_slice-2.ensures.items,
+      c.in_ok-extend_from_slice-3.ensures.items,
+      append_assoc,
+    )

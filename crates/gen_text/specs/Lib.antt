@@ -1,0 +1,4 @@
+pub mod Numbers
+pub mod Geometry
+pub mod Texts
+pub mod Ended

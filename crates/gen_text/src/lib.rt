@@ -1,0 +1,12 @@
+//! The files of a building of any number of levels, by a formula: what the program measures itself on.
+#![tactic(auto)]
+
+mod files;
+mod geometry;
+mod identifiers;
+mod items;
+mod numbers;
+#[cfg(test)]
+mod tests;
+
+pub use files::gen_files;
