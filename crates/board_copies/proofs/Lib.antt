@@ -1,0 +1,4 @@
+pub mod Fronts
+pub mod Adding
+pub mod Steps
+pub mod Queued
