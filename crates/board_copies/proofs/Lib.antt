@@ -2,3 +2,4 @@ pub mod Fronts
 pub mod Adding
 pub mod Steps
 pub mod Queued
+pub mod Standing

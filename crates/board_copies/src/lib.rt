@@ -5,15 +5,19 @@ mod absorbing;
 mod counting;
 mod crossing;
 mod ends;
+mod entering;
 mod found;
 mod held;
 mod keeper;
 mod making;
+mod opening;
 mod reading;
 mod roll;
 mod rule;
 mod showing;
 mod stamp;
+#[cfg(test)]
+mod tests;
 mod view;
 mod waiting;
 
