@@ -26,6 +26,7 @@ fn answer(held: &Held, alloc: Global, query: &Query) -> Found
     }
 }
 
+#[tactic(auto, using(crate::proofs::Steps::sees))]
 /// Enters, answers at the copy that is published, and leaves. None where the copies are gone, which callers answer as want of memory;
 /// then nothing more was seen.
 pub fn read(reader: SideReader, alloc: Global, query: &Query) -> (SideReader, Option<Found>)
@@ -57,6 +58,7 @@ pub fn read_in(reader: &mut SideReader, alloc: Global, query: &Query) -> Option<
     )
 }
 
+#[tactic(auto, using(crate::proofs::Steps::sees))]
 /// Enters, tells whether it found this board there, and leaves.
 pub fn meet(reader: SideReader, held: &Held) -> (SideReader, bool)
     requires bound { (view reader.place).bound ≡ true }

@@ -1,5 +1,0 @@
-use Rattle.board_copies.proofs.Steps.{sees}
-use Rattle.board_copies.proofs.reading.meet.Goals as goal
-
-pub enter_as-requires : goal.enter_as-requires
-enter_as-requires c = sees _ _
