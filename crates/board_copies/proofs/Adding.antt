@@ -2,7 +2,7 @@
 use Rattle.board_copies.specs.declared.counting.Tried.{Tried}
 use Rattle.board_copies.specs.Lists.{IsCounted, Adds}
 use Rattle.board_copies.proofs.Fronts.{prefix_whole}
-use Rattle.logbook.specs.Pages.{Cell, View, cell, keeps, no_nib, step, Moves, Goes}
+use Rattle.logbook.specs.Pages.{Cell, cell, keeps, no_nib, step, Moves, Goes}
 use Rattle.std.proofs.Common.{◌≡◌, ℕ, ◌+◌, ◌<◌, ◌==◌, Bool, true, false, List, [], ◌∷◌, ◌++◌, length, length-append, refl, sym, ap, subst, inl, None, arith}
 use Rattle.std.proofs.lemmas.Bool.Decides.{nat_tests}
 use Rattle.std.proofs.lemmas.List.{append-nil}

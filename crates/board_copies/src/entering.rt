@@ -22,7 +22,9 @@ impl Held {
     {
         entry_law();
         let (entry, board) = ready.into_parts();
-        let stamp = roll.stamp(Some(self.stamp.again()), entry).ok_or(OutOfMemory)?;
+        let stamp = roll
+            .stamp(Some(self.stamp.again()), entry)
+            .ok_or(OutOfMemory)?;
         Ok(Held::new(board, stamp))
     }
 }

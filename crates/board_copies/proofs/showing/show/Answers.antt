@@ -4,7 +4,7 @@ use mathlib.Core.List.{IsPrefix}
 use Rattle.board_copies.specs.declared.held.Held.{Held}
 use Rattle.board_copies.specs.declared.held.Ready.{Ready}
 use Rattle.board_copies.specs.Stamps.{entries_of}
-use Rattle.board_copies.specs.Rules.{list_of, book_of}
+use Rattle.board_copies.specs.Rules.{list_of}
 use Rattle.board_copies.proofs.Fronts.{prefix_longer}
 use Rattle.board_copies.proofs.Steps.{publishes}
 use Rattle.board_copies.proofs.Queued.{fold_ends}
