@@ -30,7 +30,7 @@ pub use making::{make_reader, make_writer};
 pub use reading::{meet, meet_in, read, read_in};
 pub use roll::Roll;
 pub use rule::{Law, Notes, Publishing, Seeing, SideReader, SideWriter};
-pub use showing::{queue, settle, show};
+pub use showing::{publish, queue, settle, show};
 pub use stamp::Stamp;
 pub use view::View;
 pub use waiting::wait_for_ever;

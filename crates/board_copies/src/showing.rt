@@ -1,6 +1,6 @@
 //! What the writer does with the two copies.
 
-ghost use Rattle.std.specs.Prelude.{◌≡◌, [], drop, OnOk};
+ghost use Rattle.std.specs.Prelude.{◌≡◌, [], drop, OnOk, OnErr};
 ghost use Rattle.std.specs.Arc.{arc_value};
 ghost use Rattle.left_right.specs.Sides.{view};
 ghost use Rattle.board_copies.specs.Queues.{EndsWith};
@@ -43,6 +43,30 @@ pub fn show<R: Wait>(writer: SideWriter, rt: &R, last: Arc<Held>) -> (SideWriter
         unreachable!()
     }
     (writer, ())
+}
+
+/// Queues a board and publishes it, unless memory ran out: then what is published stays, and what the writer knows. It waits as `show` does.
+pub fn publish<R: Wait>(
+    writer: SideWriter,
+    rt: &R,
+    held: Arc<Held>,
+) -> (SideWriter, Result<(), OutOfMemory>)
+    requires book { (arc_value held).stamp.seen.book ≡ book_of writer.desk.shown.value }
+    requires longer { IsOneLonger (list_of writer.desk.shown.value) (entries_of (arc_value held).stamp) }
+    ensures ok { OnOk result.1 (arc_value result.0.desk.shown.value.held ≡ arc_value held) }
+    ensures err { OnErr result.1 (result.0.desk.shown.value ≡ writer.desk.shown.value) }
+    ensures book { book_of result.0.desk.shown.value ≡ book_of writer.desk.shown.value }
+    ensures known { Knows (view writer.desk.place) writer.desk.shown.value → Knows (view result.0.desk.place) result.0.desk.shown.value }
+{
+    let Ok(last) = Arc::try_clone(&held) else {
+        return (writer, Err(OutOfMemory));
+    };
+    let (writer, queued) = queue(writer, Ready { held });
+    if queued.is_err() {
+        return (writer, Err(OutOfMemory));
+    }
+    let (writer, ()) = show(writer, rt, last);
+    (writer, Ok(()))
 }
 
 /// Publishes nothing new: the writer then knows all of the copy that is published. It waits as a publication does.

@@ -7,8 +7,7 @@ ghost use Rattle.venue_state.specs.Preparing.{HasSettings};
 ghost use Rattle.board_copies.specs.Rules.{book_of, Knows};
 
 use crate::{
-    Held, Keep, Keeper, Ready, Roll, SideReader, make_reader, make_writer, queue, read_in,
-    settle, show,
+    Held, Keep, Keeper, Roll, SideReader, make_reader, make_writer, publish, read_in, settle,
 };
 use core::mem::replace_with;
 use station_folder::{Change, slots_of, station_settings};
@@ -17,7 +16,7 @@ use std::sync::{Arc, Wait};
 use std::test::Fail;
 use venue_build::{Built, Venue, build};
 use venue_history::Act;
-use venue_types::{Ask, FeatureId, Query, Reply, Settings};
+use venue_types::{Ask, FeatureId, OutOfMemory, Query, Reply, Settings};
 
 // The writer and its book.
 #[derive(Drop)]
@@ -70,27 +69,29 @@ fn opened<R: Wait>(rt: &R, alloc: Global) -> Result<Office, Fail> {
 }
 
 impl Office {
-    fn publish<R: Wait>(&mut self, rt: &R, alloc: Global, act: Act) -> Result<(), Fail>
+    fn reader(&mut self) -> Result<SideReader, OutOfMemory> {
+        make_reader(&mut self.keeper.writer)
+    }
+
+    fn publish<R: Wait>(&mut self, rt: &R, alloc: Global, act: Act) -> Result<(), OutOfMemory>
         requires { HasSettings (arc_value self.old.keeper.writer.desk.shown.value.held).board act }
     {
         let held = &*self.keeper.writer.published().held;
-        let ready = held.board.prepare(alloc, act, 1)?;
+        let ready = held.board.prepare(alloc, act, 1).map_err(|_| OutOfMemory)?;
         let held = Arc::new(alloc, held.next(&mut self.roll, ready)?)?;
-        let last = Arc::try_clone(&held)?;
         replace_with(
             &mut self.keeper.writer,
-            Ready { held },
-            |writer, ready| queue(writer, ready),
-        )?;
-        replace_with(
-            &mut self.keeper.writer,
-            (rt, last),
-            |writer, (rt, last)| show(writer, rt, last),
-        );
-        Ok(())
+            (rt, held),
+            |writer, (rt, held)| publish(writer, rt, held),
+        )
     }
 
-    fn publish_lift<R: Wait>(&mut self, rt: &R, alloc: Global, closed: bool) -> Result<(), Fail> {
+    fn publish_lift<R: Wait>(
+        &mut self,
+        rt: &R,
+        alloc: Global,
+        closed: bool,
+    ) -> Result<(), OutOfMemory> {
         if closed {
             self.publish(rt, alloc, Act::Closed(lift()))
         } else {
@@ -127,8 +128,8 @@ const CALLS: [Call; 8] = [
 fn readers_find_what_was_published(rt: HostRuntime) -> Result<(), Fail> {
     let alloc = rt.alloc();
     let mut office = opened(&rt, alloc)?;
-    let mut one = make_reader(&mut office.keeper.writer)?;
-    let mut other = make_reader(&mut office.keeper.writer)?;
+    let mut one = office.reader()?;
+    let mut other = office.reader()?;
     for call in &CALLS {
         match *call {
             Call::Ask(Who::One, number, closed) => {
@@ -148,7 +149,7 @@ fn readers_find_what_was_published(rt: HostRuntime) -> Result<(), Fail> {
 fn a_publication_that_fails_changes_nothing(rt: HostRuntime) -> Result<(), Fail> {
     let alloc = rt.alloc();
     let mut office = opened(&rt, alloc)?;
-    let mut reader = make_reader(&mut office.keeper.writer)?;
+    let mut reader = office.reader()?;
     let published = office.publish_lift(&rt, alloc, true).is_ok();
     let wanted = if published { (2, 1) } else { (1, 0) };
     assert_eq!(rt; asked(&mut reader, alloc), Some(wanted));
