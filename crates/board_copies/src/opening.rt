@@ -32,7 +32,9 @@ impl Held {
         every_venue(&venue);
         let board = Board::first(alloc, Arc::try_clone(&venue)?, settings)?;
         let act = Act::Published(venue);
-        let stamp = roll.stamp(None, Entry { worker: 0, act }).ok_or(OutOfMemory)?;
+        let stamp = roll
+            .stamp(None, Entry { worker: 0, act })
+            .ok_or(OutOfMemory)?;
         Ok(Held::new(board, stamp))
     }
 }

@@ -13,6 +13,6 @@ new-requires c =
     let seen : AreValid c.deref.result.now.features c.deref.result.now.settings = record { sound = c.every_venue.ensures.sound; unbroken = c.every_venue.ensures.silent } in
     let valid = subst (λ (v : Venue). AreValid v.features v.settings) c.deref.ensures seen in
     let at : c.in_ok-board.board ≡ opening (arc_value c.args.venue).features (arc_value c.args.settings) =
-        c.in_ok-board.ensures ∙ ap (λ (v : Venue). opening v.features (arc_value c.args.settings)) c.in_ok-try_clone.ensures in
+    c.in_ok-board.ensures ∙ ap (λ (v : Venue). opening v.features (arc_value c.args.settings)) c.in_ok-try_clone.ensures in
     let one : entries_of c.in_ok-stamp.stamp ≡ record { worker = 0; act = Published c.args.venue } ∷ [] = search rules in
     begins c.args.venue (arc_value c.args.settings) c.in_ok-board.board (entries_of c.in_ok-stamp.stamp) valid c.requires at one
