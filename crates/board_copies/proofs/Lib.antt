@@ -1,0 +1,5 @@
+pub mod Fronts
+pub mod Adding
+pub mod Steps
+pub mod Queued
+pub mod Standing
