@@ -190,6 +190,27 @@ fn judge_first(rt: &impl Abort, links: &[Link], cost: u32) {
     assert!(rt; first.from == 0 && first.to == 3 && first.cost == cost);
 }
 
+fn judge_listed(rt: &impl Abort, graph: &Graph, links: &[Link], row: &Row) {
+    judge_counts(rt, graph, links, row);
+    judge_first(rt, links, row.first);
+    judge_passages(rt, graph, links, row);
+}
+
+fn judge_graph<L: Ledger>(
+    rt: &impl Abort,
+    alloc: Global,
+    graph: &Graph,
+    row: &Row,
+    steps: &mut Steps<L>,
+) -> Result<(), Fail> {
+    assert!(rt; graph.nodes() == 31 && graph.closables() == 33);
+    let listed = graph.listed(alloc)?;
+    let links = listed.as_slice();
+    judge_listed(rt, graph, links, row);
+    judge_nodes(rt, graph, links, steps);
+    judge_marks(rt, alloc, graph, links)
+}
+
 fn judge<L: Ledger>(
     rt: &impl Abort,
     alloc: Global,
@@ -197,15 +218,8 @@ fn judge<L: Ledger>(
     steps: &mut Steps<L>,
 ) -> Result<(), Fail> {
     let venue = venue_of(alloc, row.edits)?;
-    let graph = venue.graph();
-    assert!(rt; graph.nodes() == 31 && graph.closables() == 33);
-    let links = graph.listed(alloc)?;
-    judge_counts(rt, graph, links.as_slice(), row);
-    judge_first(rt, links.as_slice(), row.first);
-    judge_passages(rt, graph, links.as_slice(), row);
-    judge_nodes(rt, graph, links.as_slice(), steps);
-    judge_lower(rt, alloc, graph, row.first, steps)?;
-    judge_marks(rt, alloc, graph, links.as_slice())
+    judge_lower(rt, alloc, venue.graph(), row.first, steps)?;
+    judge_graph(rt, alloc, venue.graph(), row, steps)
 }
 
 fn judge_rows<L: Ledger>(rt: &impl Abort, alloc: Global, blank: Blank) -> Result<(), Fail>

@@ -15,6 +15,7 @@ use std::process::Abort;
 use std::sync::ledger::{Blank, Ledger};
 use std::test::Fail;
 use step_count::Steps;
+use venue_build::Venue;
 use venue_types::{Link, Potential, Profile};
 
 fn node(rt: &impl Abort, graph: &Graph, tail: u128) -> u32
@@ -25,12 +26,7 @@ fn node(rt: &impl Abort, graph: &Graph, tail: u128) -> u32
     n
 }
 
-fn marks_of(
-    rt: &impl Abort,
-    alloc: Global,
-    graph: &Graph,
-    closed: &[u128],
-) -> Result<Marks, Fail> {
+fn marks_of(rt: &impl Abort, alloc: Global, graph: &Graph, closed: &[u128]) -> Result<Marks, Fail> {
     let mut marks = Marks::none(alloc, graph)?;
     for tail in closed {
         let k = graph.closable(id(*tail)).expect(rt, "what can be closed");
@@ -63,7 +59,9 @@ fn is_reached(reached: &[u32], n: u32) -> bool {
 fn speaks_against(found: &Found, link: &Link) -> bool {
     match found {
         Found::Route {
-            cost, potentials, ..
+            cost,
+            potentials,
+            ..
         } => {
             let start = potential(potentials.as_slice(), *cost, link.from);
             let end = potential(potentials.as_slice(), *cost, link.to);
@@ -125,6 +123,22 @@ fn judge_found(rt: &impl Abort, graph: &Graph, found: &Found, row: &Row) {
     }
 }
 
+fn search<L: Ledger>(
+    rt: &impl Abort,
+    alloc: Global,
+    graph: &Graph,
+    marks: &Marks,
+    profile: &Profile,
+    row: &Row,
+    steps: &mut Steps<L>,
+) -> Result<Found, Fail>
+    requires marks { AreMarksOf (network graph.now) marks.now }
+{
+    let from = node(rt, graph, row.from);
+    let to = node(rt, graph, row.to);
+    Ok(least(alloc, graph, marks, profile, from, to, steps)?)
+}
+
 fn judge<L: Ledger>(
     rt: &impl Abort,
     alloc: Global,
@@ -137,11 +151,25 @@ fn judge<L: Ledger>(
     requires { links.now ≡ (network graph.now).links }
 {
     let marks = marks_of(rt, alloc, graph, row.closed)?;
-    let from = node(rt, graph, row.from);
-    let to = node(rt, graph, row.to);
-    let found = least(alloc, graph, &marks, profile, from, to, steps)?;
+    let found = search(rt, alloc, graph, &marks, profile, row, steps)?;
     judge_found(rt, graph, &found, row);
     judge_links(rt, graph, links, &marks, profile, &found);
+    Ok(())
+}
+
+fn judge_venue<L: Ledger>(
+    rt: &impl Abort,
+    alloc: Global,
+    venue: &Venue,
+    steps: &mut Steps<L>,
+) -> Result<(), Fail> {
+    let profiles = venue.settings().profiles.as_slice();
+    let graph = venue.graph();
+    let links = graph.listed(alloc)?;
+    for row in &ROWS {
+        let profile = profiles.get(row.profile).expect(rt, "a profile");
+        judge(rt, alloc, graph, links.as_slice(), profile, row, steps)?;
+    }
     Ok(())
 }
 
@@ -152,13 +180,7 @@ fn judge_rows<L: Ledger>(rt: &impl Abort, alloc: Global, blank: Blank) -> Result
 {
     let mut steps = Steps::<L>::begin(blank);
     let venue = venue_of(alloc, &[])?;
-    let graph = venue.graph();
-    let links = graph.listed(alloc)?;
-    for row in &ROWS {
-        let profile = venue.settings().profiles.get(row.profile).expect(rt, "a profile");
-        judge(rt, alloc, graph, links.as_slice(), profile, row, &mut steps)?;
-    }
-    Ok(())
+    judge_venue(rt, alloc, &venue, &mut steps)
 }
 
 #[test]
