@@ -153,7 +153,7 @@ verdict_here one_table one_answer one_verdict kept desk table text by there link
     let same = read_as IsTable links_limit (file_at kept desk links_name) table links by.links (λ b. one_table b links by.links) there.table_there there.table_within by.is_table reads in
     let reads_here = subst (λ (t : Table). Reads (AnswerForm t) answer_limit (file_at kept desk answer_name) answer) same reads_answer in
     let also = read_as (AnswerForm by.links) answer_limit (file_at kept desk answer_name) text answer by.given (λ b. one_answer b by.links answer by.given)
-        there.answer_there there.answer_within by.is_answer reads_here in
+    there.answer_there there.answer_within by.is_answer reads_here in
     let judged = subst (λ (t : Table). IsJudged t answer verdict) same is in
     let judged_here = subst (λ (x : AnswerIn). IsJudged by.links x verdict) also judged in
     one_verdict by.links by.given verdict Proved judged_here (judged_proved by.links.links by.given.from by.given.to by.given.claim by.proved)

@@ -48,5 +48,5 @@ same_settings a b e1 e2 e3 e4 e5 e6 e7 e8 =
     let p6 : c5 ≡ c6 = changed (λ n. 1 ≤ n) (λ n. le_prop) (λ n p. record c5 { last_version = n; version_some = p }) a.last_version b.last_version e6 a.version_some b.version_some in
     let p7 : c6 ≡ c7 = changed (λ (ks : List (List ℕ)). length ks ≤ 64) (λ ks. le_prop) (λ ks p. record c6 { staff_keys = ks; staff_range = p }) a.staff_keys b.staff_keys e7 a.staff_range b.staff_range in
     let p8 : c7 ≡ b = changed (λ (ps : List Profile). Fits 1 16 (length ps)) (λ ps. ×_prop le_prop le_prop) (λ ps p. record c7 { profiles = ps; profiles_some = p.0; profiles_range = p.1 })
-        a.profiles b.profiles e8 (a.profiles_some, a.profiles_range) (b.profiles_some, b.profiles_range) in
+    a.profiles b.profiles e8 (a.profiles_some, a.profiles_range) (b.profiles_some, b.profiles_range) in
     p1 ∙ p2 ∙ p3 ∙ p4 ∙ p5 ∙ p6 ∙ p7 ∙ p8

@@ -15,7 +15,8 @@ pub(super) struct RouteRow {
 }
 
 // From the bakery to the tickets by the lift.
-const LIFT: &str = "imdf-answer 1\nfrom 1\nto 2\nroute 9040\nstep 136\nstep 56\nstep 132\nstep 178\nstep 175\nstep 149\nat ";
+const LIFT: &str =
+    "imdf-answer 1\nfrom 1\nto 2\nroute 9040\nstep 136\nstep 56\nstep 132\nstep 178\nstep 175\nstep 149\nat ";
 
 pub(super) static ROUTES: [RouteRow; 11] = [
     RouteRow {

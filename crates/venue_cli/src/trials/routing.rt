@@ -59,12 +59,7 @@ fn verdict(
 }
 
 // This was printed, with this status.
-fn judge_printed(
-    rt: &impl Abort,
-    printed: &Output,
-    text: &str,
-    status: u8,
-) -> Result<(), Fail> {
+fn judge_printed(rt: &impl Abort, printed: &Output, text: &str, status: u8) -> Result<(), Fail> {
     assert_eq!(rt; str::from_utf8(printed.text.as_slice()), Ok(text));
     assert_eq!(rt; printed.status, status, "at {text}");
     Ok(())

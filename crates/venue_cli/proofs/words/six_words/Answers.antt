@@ -19,7 +19,7 @@ six_of (x ∷ y ∷ z ∷ w ∷ v ∷ o ∷ n ∷ xs) a b c d e f len p q r s t 
 pub returns-in-len6-clause-found : goal.returns-in-len6-clause-found
 returns-in-len6-clause-found c =
     let words = six_of c.args.words.now c.first-item.result c.second-item.result c.third-item.result c.fourth-item.result c.fifth-item.result c.sixth-item.result
-        (omega arith) c.first-item.is c.second-item.is c.third-item.is c.fourth-item.is c.fifth-item.is c.sixth-item.is in
+    (omega arith) c.first-item.is c.second-item.is c.third-item.is c.fourth-item.is c.fifth-item.is c.sixth-item.is in
     let third = string_bytes c.third-item.result in
     let fourth = string_bytes c.fourth-item.result in
     let fifth = string_bytes c.fifth-item.result in
