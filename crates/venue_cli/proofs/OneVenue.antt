@@ -1,15 +1,14 @@
 -- A base and a folder have one venue, and a command that finds it isn't stopped before.
-use Rattle.std.proofs.Common.{◌≡◌, ℕ, List, length, map, Option, Some, None, Result, Ok, Err, refl, sym, subst, ◌∙◌, codes}
+use Rattle.std.proofs.Common.{◌≡◌, ℕ, List, length, Option, Some, None, Result, Ok, refl, sym, subst, ◌∙◌}
 use Rattle.std.proofs.lemmas.List.{length-map}
 use Rattle.std.specs.Prelude.{pos, IfOk, MatchOption}
 use Rattle.toml.specs.Data.{Data, Members, integer}
-use Rattle.imdf_schema.specs.declared.files.File.{File}
 use Rattle.venue_types.specs.declared.files.Files.{Files}
 use Rattle.venue_types.specs.declared.finding.Report.{Report}
 use Rattle.venue_types.specs.declared.settings.Extras.{Extras}
 use Rattle.venue_types.specs.declared.settings.Settings.{Settings}
 use Rattle.venue_settings.specs.declared.fault.SettingsFault.{SettingsFault}
-use Rattle.venue_settings.specs.Settings.{IsNumberAt, HasExtras, HasSettings, IsDocument, IsSettingsOf, no_document, faulty, sound, no_memory}
+use Rattle.venue_settings.specs.Settings.{HasExtras, HasSettings, IsDocument, IsSettingsOf, no_document, faulty, sound, no_memory}
 use Rattle.venue_ports.specs.Files.{StoredFile, file_at}
 use Rattle.venue_folder.specs.Shelves.{all_files, slot_at, folder_path, folder_files}
 use Rattle.venue_build.specs.Venues.{SeenVenue as Venue}

@@ -1,11 +1,11 @@
 -- From what `links` and `route` print to what `verify` says of it.
-use Rattle.std.proofs.Common.{◌≡◌, ◌≢◌, ℕ, List, length, map, Option, Some, None, refl, sym, subst, ◌∙◌, codes, arith}
+use Rattle.std.proofs.Common.{◌≡◌, ◌≢◌, ℕ, List, length, Option, Some, None, refl, sym, subst, ◌∙◌, codes, arith}
 use Rattle.std.proofs.lemmas.List.{length-map}
 use Rattle.std.specs.Prelude.{◌≤◌, ◌<◌}
 use Rattle.venue_types.specs.declared.feature_id.FeatureId.{FeatureId}
 use Rattle.venue_types.specs.declared.link.Node.{Node}
 use Rattle.venue_types.specs.declared.settings.Profile.{Profile}
-use Rattle.venue_nodes.specs.Nodes.{nodes, place_of}
+use Rattle.venue_nodes.specs.Nodes.{nodes}
 use Rattle.venue_ports.specs.Files.{StoredFile, file_at}
 use Rattle.line_forms.specs.Lines.{line}
 use Rattle.route_certificate.specs.declared.table.Table.{Table}
