@@ -51,7 +51,7 @@ made_of x r f i m rule in_file at_index at_member =
     ap (λ (n : ℕ). build n x.file x.index x.member) rule ∙ ap (λ (n : ℕ). build (rule_number (rule_of r)) n x.index x.member) in_file
     ∙ ap (λ (n : ℕ). build (rule_number (rule_of r)) (file_number f) n x.member) at_index ∙ ap (λ (n : ℕ). build (rule_number (rule_of r)) (file_number f) i n) at_member
 
-note_made_of : (x : Note) (kind : ReadingNote) (f : File) (i : ℕ) → x.note ≡ note_number (note_of kind) → x.file ≡ file_number f → x.index ≡ i → x.member ≡ 0 → x ≡ note_at (note_of kind) f i
+note_made_of : (x : Note) (kind : ReadingNote) (f : File) (i : ℕ) → x.note ≡ note_number (note_of kind) → x.file ≡ file_number f → x.index ≡ i → x.member ≡ 0 → x ≡ note_at (note_of kind) f i 0
 note_made_of x kind f i note in_file at_index at_member =
     ap (λ (n : ℕ). build_note n x.file x.index x.member) note ∙ ap (λ (n : ℕ). build_note (note_number (note_of kind)) n x.index x.member) in_file
     ∙ ap (λ (n : ℕ). build_note (note_number (note_of kind)) (file_number f) n x.member) at_index ∙ ap (λ (n : ℕ). build_note (note_number (note_of kind)) (file_number f) i n) at_member

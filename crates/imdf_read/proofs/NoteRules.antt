@@ -16,10 +16,10 @@ use Rattle.report_laws.proofs.Adding.{Adds-same, Adds-none, Among, at_member, me
 
 -- a note of this kind is due
 abbrev pub Due : File → ℕ → Json → ReadingNote → Note → Type 0
-Due f i item kind x = ItemNotes kind f item × (x ≡ note_at (note_of kind) f i)
+Due f i item kind x = ItemNotes kind f item × (x ≡ note_at (note_of kind) f i 0)
 
 pub adds_note : (kind : ReadingNote) (f : File) (i : ℕ) (item : Json) (due : Bool) (place : Note) (old new : List Note)
-    → (IsTrue due ↔ ItemNotes kind f item) → place ≡ note_at (note_of kind) f i
+    → (IsTrue due ↔ ItemNotes kind f item) → place ≡ note_at (note_of kind) f i 0
     → ((P : Note → Type 0) → (due ≡ true → P place) → ((x : Note) → P x → (due ≡ true) × (x ≡ place)) → Adds P old new)
     → Adds (Due f i item kind) old new
 adds_note kind f i item due place old new decides is adds =

@@ -97,14 +97,14 @@ pub record NotesBy (kinds : List ReadingNote) (f : File) (k : ℕ) (item : Json)
   pub kind : ReadingNote
   pub listed : Contains kinds kind
   pub due : ItemNotes kind f item
-  pub is : x ≡ note_at (note_of kind) f k
+  pub is : x ≡ note_at (note_of kind) f k 0
 
 -- a note is due to the item at this place
 pub record NotesInItem (f : File) (k : ℕ) (item : Json) (x : Note) : Type 0 where
   pub kind : ReadingNote
   pub sound : is_feature item ≡ true
   pub due : ItemNotes kind f item
-  pub is : x ≡ note_at (note_of kind) f k
+  pub is : x ≡ note_at (note_of kind) f k 0
 
 -- a note is due to an item of the list
 pub record NotesInItems (f : File) (items : List Json) (x : Note) : Type 0 where

@@ -71,7 +71,7 @@ fn judge_kinds(
 {
     for kind in kinds {
         let due = is_due(*kind, place.file, item);
-        add(notes, due, place.note(kind.kind()))?;
+        add(notes, due, place.note(kind.kind(), 0))?;
     }
     Ok(())
 }

@@ -20,7 +20,7 @@ use Rattle.report_laws.proofs.Adding.{at_map, at_member, member_at}
 use Rattle.imdf_refs.specs.References.{Refers, by_id, file_named, references_in, opening_references, unit_references, anchor_references, amenity_references, occupant_references}
 use Rattle.imdf_refs.specs.Rules.{IsTyped}
 use Rattle.imdf_refs.specs.Laws.{FindsNothing, HasOne, OpeningsHaveLevels, UnitsHaveLevels, AnchorsHaveUnits, AmenitiesHaveUnits, OccupantsHaveAnchors}
-use Rattle.imdf_refs.proofs.FileOrder.{same_number}
+use Rattle.imdf_schema.proofs.FileNumbers.{same_number}
 use Rattle.imdf_refs.proofs.OwnIds.{each_its_own}
 use Rattle.imdf_refs.proofs.Typed.{name_their_types}
 

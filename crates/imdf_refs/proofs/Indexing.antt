@@ -12,7 +12,8 @@ use Rattle.imdf_schema.specs.Files.{file_number}
 use Rattle.feature_rows.specs.Rows.{ids_of, IsFeature}
 use Rattle.imdf_refs.specs.declared.known.Known.{Known}
 use Rattle.imdf_refs.specs.Index.{pair_cmp, HasBefore, HasAll}
-use Rattle.imdf_refs.proofs.FileOrder.{same_number, from_one, up_to_16}
+use Rattle.imdf_schema.proofs.FileNumbers.{same_number, up_to_16}
+use Rattle.imdf_refs.proofs.FileOrder.{from_one}
 
 either : (a b : Bool) → (a || b) ≡ true → (a ≡ true) ⊎ (b ≡ true)
 either true b e = inl refl

@@ -1,5 +1,5 @@
 -- A file is known by its number, which is its place among all files.
-use Rattle.std.proofs.Common.{◌≡◌, ◌∙◌, ◌+◌, ◌<◌, ℕ, zero, suc, List, [], ◌∷◌, Some, refl, sym, ap, arith}
+use Rattle.std.proofs.Common.{◌≡◌, ◌∙◌, ◌+◌, ◌<◌, ℕ, zero, suc, List, [], ◌∷◌, Option, Some, unwrap_or, refl, sym, ap, arith}
 use Rattle.std.specs.Prelude.{slice_get}
 use Rattle.std.proofs.lemmas.Option.{slice_get_within, same_Some}
 use Rattle.imdf_schema.specs.declared.files.File.{File}
@@ -24,6 +24,13 @@ number_at file.Relationship = refl
 number_at file.Section = refl
 number_at file.Unit = refl
 number_at file.Venue = refl
+
+-- the file of a number
+abbrev pub file_at : ℕ → File
+file_at n = unwrap_or (slice_get all_files n) file.Manifest
+
+pub at_number : (f : File) → file_at (file_number f) ≡ f
+at_number f = ap (λ (o : Option File). unwrap_or o file.Manifest) (number_at f)
 
 pub same_number : (f g : File) → file_number f ≡ file_number g → f ≡ g
 same_number f g e = same_Some f g (sym (number_at f) ∙ ap (slice_get all_files) e ∙ number_at g)

@@ -12,6 +12,6 @@ use Rattle.imdf_schema.specs.Rules.{rule_number, note_number}
 abbrev pub finding_at : Rule → File → ℕ → ℕ → Finding
 finding_at r f k part = record { rule = rule_number r; file = file_number f; index = k; member = part }
 
--- the note that is due to the file's feature at this index
-abbrev pub note_at : NoteKind → File → ℕ → Note
-note_at n f k = record { note = note_number n; file = file_number f; index = k; member = 0 }
+-- the note that is due to a part of the file's feature at this index
+abbrev pub note_at : NoteKind → File → ℕ → ℕ → Note
+note_at n f k part = record { note = note_number n; file = file_number f; index = k; member = part }

@@ -27,15 +27,15 @@ impl Place {
         }
     }
 
-    /// The note that is due there.
-    pub fn note(self, kind: NoteKind) -> Note
-        ensures { result ≡ note_at kind self.file self.index }
+    /// The note that is due there, to the part of this number.
+    pub fn note(self, kind: NoteKind, member: u32) -> Note
+        ensures { result ≡ note_at kind self.file self.index member }
     {
         Note {
             note: kind.number(),
             file: self.file.number(),
             index: self.index,
-            member: 0,
+            member,
         }
     }
 }

@@ -23,7 +23,8 @@ use Rattle.venue_nodes.specs.declared.notes.PlaceNote.{PlaceNote}
 use Rattle.venue_nodes.specs.declared.notes.PlaceNote.TheVariants.{N3, N4}
 use Rattle.venue_nodes.specs.declared.nodes.Nodes.{Nodes}
 use Rattle.venue_nodes.specs.Noting.{place_note, LacksNode, LackNodes, LeavesElement, LeaveElements, IsEmptyRow, AreEmpty}
-use Rattle.venue_nodes.specs.Unplaced.{Element, element_at, one_or_none, elements, place_note_number, file_noted, PlaceNotes, IsUnplaced}
+use Rattle.imdf_schema.specs.Rules.{note_number}
+use Rattle.venue_nodes.specs.Unplaced.{Element, element_at, one_or_none, elements, note_of, file_noted, PlaceNotes, IsUnplaced}
 use Rattle.venue_nodes.specs.Views.{AreNodes, find_place}
 use Rattle.venue_nodes.proofs.Spread.{from_map}
 use Rattle.venue_nodes.proofs.Judged.{Contains-map}
@@ -198,8 +199,8 @@ value_of : {X : Type 0} (o : Option X) → IsSome o → (x : X) × (o ≡ Some x
 value_of (Some x) h = (x, refl)
 value_of None h = cc
 
-note_is : (x : Note) (note : PlaceNote) → x.note ≡ place_note_number note → x.file ≡ file_number (file_noted note) → (member : ℕ) → x.member ≡ member → x ≡ place_note note x.index member
-note_is x note number in_file member at = ap (λ (n : ℕ). told n x.file x.member) number ∙ ap (λ (n : ℕ). told (place_note_number note) n x.member) in_file ∙ ap (λ (n : ℕ). told (place_note_number note) (file_number (file_noted note)) n) at where
+note_is : (x : Note) (note : PlaceNote) → x.note ≡ note_number (note_of note) → x.file ≡ file_number (file_noted note) → (member : ℕ) → x.member ≡ member → x ≡ place_note note x.index member
+note_is x note number in_file member at = ap (λ (n : ℕ). told n x.file x.member) number ∙ ap (λ (n : ℕ). told (note_number (note_of note)) n x.member) in_file ∙ ap (λ (n : ℕ). told (note_number (note_of note)) (file_number (file_noted note)) n) at where
   told : ℕ → ℕ → ℕ → Note
   told n f m = record { note = n; file = f; index = x.index; member = m }
 
@@ -256,7 +257,7 @@ all_added features border_tol touches nodes a b c are touch one two = Adds-then 
     })
     (λ x h. record { note = N4; number = ap (λ (n : Note). n.note) h.is.is; in_file = ap (λ (n : Note). n.file) h.is.is; is = empty_leads features border_tol touches x touch h })
     (λ x h. parted x h.note h.number h.in_file h.is) where
-      parted : (x : Note) (note : PlaceNote) → x.note ≡ place_note_number note → x.file ≡ file_number (file_noted note) → PlaceNotes note features border_tol x.index x.member → LeaveElements (find_place nodes) features.relationships x ⊎ AreEmpty touches.rows x
+      parted : (x : Note) (note : PlaceNote) → x.note ≡ note_number (note_of note) → x.file ≡ file_number (file_noted note) → PlaceNotes note features border_tol x.index x.member → LeaveElements (find_place nodes) features.relationships x ⊎ AreEmpty touches.rows x
       parted x N3 number in_file h = inl (record {
         index = x.index;
         row = h.relationship;

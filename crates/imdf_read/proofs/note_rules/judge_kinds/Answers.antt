@@ -19,7 +19,7 @@ loop-kind-preserved c =
     let item = tree_view c.args.item.now in
     let within : k < length kinds = omega arith in
     Adds-step (λ n kind. Due f i item kind) kinds k _ (slice_get-get_or kinds k _ within) c.loop-kind.invariant
-    (adds_note _ f i item c.is_due-due.result c.note.result c.loop-kind.notes.items c.add.new.places.items c.is_due-due.ensures (c.note.ensures ∙ ap (λ (n : NoteKind). note_at n f i) c.kind.ensures)
+    (adds_note _ f i item c.is_due-due.result c.note.result c.loop-kind.notes.items c.add.new.places.items c.is_due-due.ensures (c.note.ensures ∙ ap (λ (n : NoteKind). note_at n f i 0) c.kind.ensures)
     (λ P into back. Adds-found P c.is_due-due.result c.note.result c.loop-kind.notes.items c.add.new.places.items c.in_ok-add.ensures.ok into back))
 
 pub returns : goal.returns

@@ -10,7 +10,7 @@ use Rattle.venue_build.proofs.plane.plane_findings.Goals as goal
 
 pub returns-then-is_spread : goal.returns-then-is_spread
 returns-then-is_spread c =
-    let gathered = c.in_ok-push.ensures.items ∙ ap (λ (xs : List Finding). xs ++ spread_finding ∷ []) c.new-findings.ensures.items in
+    let gathered = c.in_ok-push.ensures.items ∙ ap (λ (xs : List Finding). xs ++ c.finding.result ∷ []) c.new-findings.ensures.items ∙ ap (λ (x : Finding). x ∷ []) c.finding.ensures in
     spread_report c.args.features.now c.args.settings.now.contain_tol c.in_order.result
     (c.is_spread.ensures.spread.0 c.if-is_spread.true)
     (subst (λ (xs : List Finding). IsReport (Contains xs) c.in_order.result) gathered c.in_order.ensures)
