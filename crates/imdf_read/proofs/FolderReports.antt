@@ -3,6 +3,7 @@ use Rattle.std.proofs.Common.{◌≡◌, ◌≢◌, ◌∙◌, ℕ, ◌-◌, ◌
 use Rattle.std.specs.Prelude.{Contains, slice_get, sum_by}
 use Rattle.std.specs.List.{AllZip}
 use Rattle.std.proofs.lemmas.Bool.Decides.{Decides-ltb}
+use Rattle.venue_types.proofs.Items.{Contains-nil}
 use Rattle.exact_json.specs.Json.{Json}
 use Rattle.venue_types.specs.declared.files.Files.{Files}
 use Rattle.venue_types.specs.declared.files.Slot.{Slot}
@@ -11,7 +12,6 @@ use Rattle.venue_types.specs.declared.finding.Finding.{Finding}
 use Rattle.venue_types.specs.declared.finding.Note.{Note}
 use Rattle.report_laws.specs.Reports.{IsReport, IsNoteList}
 use Rattle.report_laws.proofs.Phases.{Lists-same}
-use Rattle.report_laws.proofs.Members.{Contains-nil}
 use Rattle.report_laws.specs.Order.{finding_cmp, note_cmp}
 use Rattle.imdf_schema.specs.declared.files.File.{File}
 use Rattle.imdf_schema.specs.declared.files.File.TheVariants as file

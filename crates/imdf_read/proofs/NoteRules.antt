@@ -1,6 +1,7 @@
 -- The notes on an item, put together.
 use Rattle.std.proofs.Common.{◌≡◌, ◌∙◌, ℕ, List, [], ◌∷◌, Bool, true, false, IsTrue, ◌↔◌, refl, sym, arith}
 use Rattle.std.specs.Prelude.{Contains}
+use Rattle.venue_types.proofs.Items.{at_member, member_at}
 use Rattle.venue_types.specs.declared.finding.Note.{Note}
 use Rattle.exact_json.specs.Json.{Json}
 use Rattle.imdf_schema.specs.declared.files.File.{File}
@@ -12,7 +13,7 @@ use Rattle.report_laws.specs.Passes.{Adds}
 use Rattle.imdf_schema.specs.Places.{note_at}
 use Rattle.imdf_read.specs.Rules.{note_of}
 use Rattle.imdf_read.specs.Gathering.{NotesBy, NotesInItem}
-use Rattle.report_laws.proofs.Adding.{Adds-same, Adds-none, Among, at_member, member_at}
+use Rattle.report_laws.proofs.Adding.{Adds-same, Adds-none, Among}
 
 -- a note of this kind is due
 abbrev pub Due : File → ℕ → Json → ReadingNote → Note → Type 0

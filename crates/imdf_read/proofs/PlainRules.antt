@@ -1,6 +1,7 @@
 -- The rules of one test, put together.
 use Rattle.std.proofs.Common.{◌≡◌, ◌∙◌, ℕ, ℤ, ◌+◌, ◌<◌, suc, List, ◌∷◌, Bool, true, false, not, ◌&&◌, length, get_or, drop, drop-cons, IsTrue, ◌↔◌, refl, sym, ap, subst, arith, codes}
 use Rattle.std.specs.List.{list_all}
+use Rattle.venue_types.proofs.Items.{at_member, member_at}
 use Rattle.venue_types.specs.declared.finding.Finding.{Finding}
 use Rattle.exact_json.specs.Json.{Json}
 use Rattle.imdf_schema.specs.declared.files.File.{File}
@@ -14,7 +15,7 @@ use Rattle.report_laws.specs.Passes.{Adds}
 use Rattle.imdf_schema.specs.Places.{finding_at}
 use Rattle.imdf_read.specs.Rules.{rule_of}
 use Rattle.imdf_read.specs.Gathering.{FindsBy, FindsRule, is_plain}
-use Rattle.report_laws.proofs.Adding.{Adds-same, Among, at_member, member_at}
+use Rattle.report_laws.proofs.Adding.{Adds-same, Among}
 
 -- a plain rule is broken by the feature itself
 at_zero : (r : ReadingRule) (f : File) (item : Json) (place : ℕ) → is_plain r ≡ true → ItemBreaks r f item place → (place ≡ 0) × ItemBreaks r f item 0

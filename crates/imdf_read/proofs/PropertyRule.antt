@@ -1,6 +1,7 @@
 -- The rule on properties, put together from its tests.
 use Rattle.std.proofs.Common.{◌≡◌, ◌∙◌, ℕ, ◌+◌, ◌*◌, List, [], Some, None, Bool, true, false, not, refl, sym, ap, subst, inl, inr, ◌↔◌, IsTrue}
 use Rattle.std.specs.Prelude.{slice_get}
+use Rattle.venue_types.proofs.Items.{at_member, member_at}
 use Rattle.venue_types.specs.declared.finding.Finding.{Finding}
 use Rattle.exact_json.specs.Json.{Json}
 use Rattle.imdf_schema.specs.declared.files.File.{File}
@@ -13,7 +14,7 @@ use Rattle.report_laws.specs.Passes.{Adds}
 use Rattle.imdf_schema.specs.Places.{finding_at}
 use Rattle.imdf_read.specs.Rules.{rule_of}
 use Rattle.imdf_read.specs.Gathering.{FindsBadItem, FindsMisformed, FindsMisformedOf}
-use Rattle.report_laws.proofs.Adding.{Adds-same, Adds-then, Among, Adds-none, at_member, member_at}
+use Rattle.report_laws.proofs.Adding.{Adds-same, Adds-then, Among, Adds-none}
 
 -- an item of the list at this place in it isn't of its form
 abbrev pub BadItem : PropertyRow → File → ℕ → ℕ → Json → Finding → Type 0

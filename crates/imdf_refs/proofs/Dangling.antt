@@ -1,11 +1,12 @@
 -- What the passes over references add, put together from below.
 use Rattle.std.proofs.Common.{◌≡◌, ℕ, List, Bool, true, not, ◌&&◌, ◌++◌, Option, refl, inl, inr, subst}
+use Rattle.venue_types.proofs.Items.{at_member, member_at}
 use Rattle.venue_types.specs.declared.feature_id.FeatureId.{FeatureId}
 use Rattle.venue_types.specs.declared.features.Features.{Features}
 use Rattle.venue_types.specs.declared.finding.Finding.{Finding}
 use Rattle.imdf_schema.specs.declared.table.PropertyRow.{PropertyRow}
 use Rattle.report_laws.specs.Passes.{Adds, found}
-use Rattle.report_laws.proofs.Adding.{Adds-same, Adds-found, Adds-then, Among, at_member, member_at}
+use Rattle.report_laws.proofs.Adding.{Adds-same, Adds-found, Adds-then, Among}
 use Rattle.imdf_refs.specs.declared.known.Known.{Known}
 use Rattle.imdf_schema.specs.declared.place.Place.{Place}
 use Rattle.imdf_schema.specs.declared.rules.Rule.TheVariants.{X1, X2}

@@ -1,6 +1,8 @@
 -- What is found at references, and the report of all.
 use Rattle.std.proofs.Common.{◌≡◌, ◌≢◌, ◌∙◌, ℕ, ◌+◌, ◌*◌, List, [], Option, Some, None, Bool, true, false, not, ◌&&◌, refl, sym, ap, subst, ◌⊎◌, inl, inr, ◌↔◌}
 use Rattle.std.specs.Prelude.{Contains, slice_get}
+use Rattle.std.proofs.lemmas.Option.{same_Some}
+use Rattle.venue_types.proofs.Items.{Contains-nil}
 use Rattle.venue_types.specs.declared.feature_id.FeatureId.{FeatureId}
 use Rattle.venue_types.specs.declared.features.Features.{Features}
 use Rattle.venue_types.specs.declared.finding.Finding.{Finding}
@@ -10,7 +12,6 @@ use Rattle.imdf_schema.specs.Rules.{rule_number}
 use Rattle.imdf_schema.specs.Properties.{property_number, properties}
 use Rattle.feature_rows.specs.Rows.{IsFeature}
 use Rattle.report_laws.specs.Passes.{Adds}
-use Rattle.report_laws.proofs.Members.{Contains-nil}
 use Rattle.imdf_refs.specs.declared.known.Known.{Known}
 use Rattle.imdf_refs.specs.declared.rules.ReferenceRule.{ReferenceRule}
 use Rattle.imdf_refs.specs.declared.rules.ReferenceRule.TheVariants.{C7, X1, X2}
@@ -39,9 +40,6 @@ of_both : (a b : Bool) → a ≡ true → b ≡ true → (a && b) ≡ true
 of_both true b p q = q
 of_both false b p q = absurd (let e : false ≡ true = p in cc)
 
-some_number : (a b : ℕ) → Some a ≡ Some b → a ≡ b
-some_number a b e = cc
-
 -- no feature of the identifier is of the file that is asked for
 abbrev NoneOf : Features → FeatureId → Option ℕ → Type 0
 NoneOf features id o = (g : File) (j : ℕ) → IsFeature features g j id → o ≢ Some (file_number g)
@@ -49,7 +47,7 @@ NoneOf features id o = (g : File) (j : ℕ) → IsFeature features g j id → o 
 none_of : (features : Features) (known : Known) (id : FeatureId) (o : Option ℕ) → HasAll features known → not (has_typed known id o) ≡ true → NoneOf features id o
 none_of features known id None has h = λ g j there e. cc
 none_of features known id (Some f) has h = λ g j there e.
-    not_true (has_typed known id (Some f)) h ((has.typed id f).1 (record { source = g; place = j; there = there; of_file = sym (some_number f (file_number g) e) }))
+    not_true (has_typed known id (Some f)) h ((has.typed id f).1 (record { source = g; place = j; there = there; of_file = sym (same_Some f (file_number g) e) }))
 
 is_none_of : (features : Features) (known : Known) (id : FeatureId) (o : Option ℕ) → HasAll features known → NoneOf features id o → not (has_typed known id o) ≡ true
 is_none_of features known id None has none = refl

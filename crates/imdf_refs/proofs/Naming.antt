@@ -1,6 +1,7 @@
 -- What is found at a feature whose identifier an earlier one has.
 use Rattle.std.proofs.Common.{◌≡◌, ◌∙◌, ℕ, ◌<◌, List, Bool, true, false, not, Some, refl, sym, ap, subst, ◌⊎◌, inl, inr}
 use Rattle.std.specs.Prelude.{slice_get}
+use Rattle.std.proofs.lemmas.Option.{same_Some}
 use Rattle.venue_types.specs.declared.feature_id.FeatureId.{FeatureId}
 use Rattle.venue_types.specs.declared.features.Features.{Features}
 use Rattle.venue_types.specs.declared.finding.Finding.{Finding}
@@ -47,9 +48,6 @@ earlier source f place k (inr h) = inr (same_number source f h.0, h.1)
 by_number : (source f : File) (place k : ℕ) → (file_number source < file_number f) ⊎ ((source ≡ f) × (place < k)) → (file_number source < file_number f) ⊎ ((file_number source ≡ file_number f) × (place < k))
 by_number source f place k (inl h) = inl h
 by_number source f place k (inr h) = inr (ap file_number h.0, h.1)
-
-some_same : (x y : FeatureId) → Some x ≡ Some y → x ≡ y
-some_same x y e = cc
 
 -- at each feature of a file
 pub told_in_file : (features : Features) (f : File) (ids : List FeatureId) (old new : List Finding) → ids ≡ ids_of f features → Adds (Among (RepeatsAt features f) ids) old new → Adds (RepeatsIn features f) old new

@@ -2,6 +2,7 @@
 use Rattle.std.proofs.Common.{◌≡◌, ◌≢◌, ◌∙◌, ℕ, zero, suc, ◌+◌, ◌*◌, List, [], ◌∷◌, Bool, true, false, ◌⊎◌, inl, inr, Some, eqb, refl, sym, ap, subst}
 use Rattle.std.specs.Prelude.{slice_get}
 use Rattle.std.proofs.lemmas.Bool.{eqb-true, eq-eqb, false≢true}
+use Rattle.std.proofs.lemmas.Option.{same_Some}
 use Rattle.venue_types.specs.declared.feature_id.FeatureId.{FeatureId}
 use Rattle.venue_types.specs.declared.features.Features.{Features}
 use Rattle.imdf_schema.specs.declared.files.File.{File}
@@ -21,12 +22,6 @@ by_bool : {A : Type 0} (b : Bool) → (b ≡ true → A) → (b ≡ false → A)
 by_bool true f g = f refl
 by_bool false f g = g refl
 
-some_id : (x y : FeatureId) → Some x ≡ Some y → x ≡ y
-some_id x y e = cc
-
-some_number : (m n : ℕ) → Some m ≡ Some n → m ≡ n
-some_number m n e = cc
-
 same_id : (a b : FeatureId) → eqb a.0 b.0 ≡ true → a ≡ b
 same_id a b e = ap (λ (n : ℕ). let id : FeatureId = record { 0 = n } in id) (eqb-true a.0 b.0 e)
 
@@ -44,7 +39,7 @@ sought (x ∷ xs) id = by_bool (eqb x.0 id.0)
     (λ no. elim (sought xs id) [ inl h ↦ inl (suc h.0, h.1) | inr none ↦ inr (λ h. nowhere no none h.0 h.1) ])
   where
     nowhere : eqb x.0 id.0 ≡ false → ¬ Stands xs id → (j : ℕ) → slice_get (x ∷ xs) j ≡ Some id → ⊥
-    nowhere differs none zero e = false≢true (sym differs ∙ eq-eqb x.0 id.0 (ap (λ (y : FeatureId). y.0) (some_id x id e)))
+    nowhere differs none zero e = false≢true (sym differs ∙ eq-eqb x.0 id.0 (ap (λ (y : FeatureId). y.0) (same_Some x id e)))
     nowhere differs none (suc j) e = none (j, e)
 
 -- a file has the number, or none has
@@ -73,6 +68,6 @@ module _ (features : Features) (nothing : FindsNothing features) where
   name_their_types row k place r f there asked = elim (typed_or_not features r.id f) [
     | inl typed ↦ typed
     | inr none ↦
-        let other : IsOfOtherType features row r = λ g j h e. none (record { source = g; place = j; there = h; of_file = sym (some_number f (file_number g) (sym asked ∙ e)) }) in
+        let other : IsOfOtherType features row r = λ g j h e. none (record { source = g; place = j; there = h; of_file = sym (same_Some f (file_number g) (sym asked ∙ e)) }) in
         absurd (unbroken X1 row k place r there (λ named. unbroken X2 row k place r there (named, other)))
   ]

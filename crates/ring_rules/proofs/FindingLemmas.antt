@@ -13,7 +13,7 @@ use Rattle.report_laws.proofs.Adding.{Adds-same, Adds-found, Adds-then, Among}
 use Rattle.ring_rules.specs.declared.rules.RingRule.{RingRule}
 use Rattle.ring_rules.specs.declared.rules.RingRule.TheVariants.{G3, G4, G5}
 use Rattle.ring_rules.specs.Rings.{Placed, as_hole, placed_in, placed_rings, LeavesBorder}
-use Rattle.ring_rules.specs.Rules.{RingBreaks}
+use Rattle.ring_rules.specs.Rules.{RingBreaks, rule_of}
 use Rattle.imdf_schema.specs.Places.{finding_at}
 use Rattle.ring_rules.specs.Findings.{FindsRule, FindsInRing, FindsFrom, FindsInShapes, alone}
 use Rattle.ring_rules.proofs.BoundsLemmas.{flat_map_step}

@@ -2,6 +2,7 @@
 use Rattle.std.proofs.Common.{◌≡◌, ℕ, ◌+◌, ◌⊎◌, inl, inr, List, [], flat_map, Some, None, refl, sym, subst, ap, ◌∙◌, arith}
 use Rattle.std.specs.Prelude.{Contains, slice_get}
 use Rattle.std.proofs.lemmas.List.Elements.{All-contains, All-weaker, Contains-append_left}
+use Rattle.venue_types.proofs.Items.{Contains-flat_map}
 use Rattle.venue_types.specs.declared.features.Features.{Features}
 use Rattle.venue_types.specs.declared.finding.Finding.{Finding}
 use Rattle.venue_types.specs.declared.point.Point.{Point}
@@ -10,7 +11,6 @@ use Rattle.imdf_schema.specs.declared.files.File.{File}
 use Rattle.imdf_schema.specs.declared.files.File.TheVariants as file
 use Rattle.imdf_schema.specs.Files.{file_number, feature_files}
 use Rattle.report_laws.specs.Passes.{Adds}
-use Rattle.report_laws.proofs.Passes.{Contains-flat_map}
 use Rattle.report_laws.proofs.Adding.{Adds-same, Adds-then}
 use Rattle.plane_exact.specs.Figure.{AllClose, rings, vertices}
 use Rattle.feature_rows.specs.Figures.{shapes_of, positions_of, positions, judged_positions, display_of}

@@ -1,12 +1,12 @@
 -- The findings of the two phases on the plane.
 use Rattle.std.proofs.Common.{◌≡◌, ℕ, List, [], ◌∷◌, true, refl, subst, arith, inl, inr}
 use Rattle.std.specs.Prelude.{Contains}
+use Rattle.venue_types.proofs.Items.{Contains-nil, Contains-first}
 use Rattle.venue_types.specs.declared.features.Features.{Features}
 use Rattle.venue_types.specs.declared.finding.Finding.{Finding}
 use Rattle.report_laws.specs.Passes.{Adds}
 use Rattle.report_laws.specs.Reports.{IsReport}
 use Rattle.report_laws.specs.Order.{finding_cmp}
-use Rattle.report_laws.proofs.Members.{Contains-nil, Contains-first}
 use Rattle.report_laws.proofs.Passes.{Contains-found}
 use Rattle.report_laws.proofs.Phases.{Lists-same}
 use Rattle.imdf_schema.specs.declared.files.File.TheVariants as file

@@ -8,6 +8,7 @@ use Rattle.std.proofs.lemmas.Bool.{cases_lt}
 use Rattle.std.proofs.lemmas.List.Elements.{All-contains}
 use Rattle.std.proofs.lemmas.List.Sums.{sum_by-cons, sum_by_more}
 use Rattle.std.proofs.lemmas.Option.{same_Some, get_or_from_slice_get, slice_get_within}
+use Rattle.venue_types.proofs.Items.{at_member, member_at, at_map}
 use Rattle.venue_types.specs.declared.features.Features.{Features}
 use Rattle.venue_types.specs.declared.features.UnitRow.{UnitRow}
 use Rattle.venue_types.specs.declared.finding.Finding.{Finding}
@@ -26,7 +27,7 @@ use Rattle.imdf_schema.specs.Rules.{rule_number}
 use Rattle.venue_nodes.specs.Limits.{IsCrowded, LimitBreaks, BreaksLimit, square_sum, rule_of}
 use Rattle.venue_nodes.specs.Crowds.{Crowds, NoneCrowded, IsFirstFull, IsRoomy, limit_finding, square_of}
 use Rattle.venue_nodes.specs.Rows.{AreRowsOf, row_list, unit_indexes}
-use Rattle.venue_nodes.proofs.Items.{member_at, at_member, at_map, from_map}
+use Rattle.venue_nodes.proofs.Items.{from_map}
 use Rattle.venue_nodes.proofs.Places.{places_rise, kept_at, number_of, lesser_number}
 
 abbrev walks : UnitRow → Bool

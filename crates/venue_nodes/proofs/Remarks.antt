@@ -3,8 +3,9 @@ use Rattle.std.proofs.Common.{◌≡◌, ℕ, zero, suc, ◌+◌, ◌*◌, ◌<�
 use Rattle.std.specs.Prelude.{Contains, slice_get, IsSome, is_some}
 use Rattle.std.specs.List.{enumerate_from}
 use Rattle.std.proofs.lemmas.List.{get_or_default}
-use Rattle.std.proofs.lemmas.Option.{slice_get_within, slice_get_read}
+use Rattle.std.proofs.lemmas.Option.{slice_get_within, slice_get_read, same_Some}
 use Rattle.std.proofs.lemmas.List.Elements.{Contains-append_left, Contains-append_right, Contains-append_cases}
+use Rattle.venue_types.proofs.Items.{Contains-nil, Contains-first, Contains-later, Contains-cons_cases}
 use Rattle.venue_types.specs.declared.feature_id.FeatureId.{FeatureId}
 use Rattle.venue_types.specs.declared.features.Features.{Features}
 use Rattle.venue_types.specs.declared.features.Ref.{Ref}
@@ -18,7 +19,6 @@ use Rattle.imdf_schema.specs.Properties.{property_number}
 use Rattle.plane_exact.specs.Opening.{AreTouches}
 use Rattle.report_laws.specs.Passes.{found, Adds}
 use Rattle.report_laws.proofs.Adding.{Below, Adds-step, Adds-end, Adds-found, Adds-same, Adds-then}
-use Rattle.report_laws.proofs.Members.{Contains-nil, Contains-first, Contains-later, Contains-cons_cases}
 use Rattle.venue_nodes.specs.declared.notes.PlaceNote.{PlaceNote}
 use Rattle.venue_nodes.specs.declared.notes.PlaceNote.TheVariants.{N3, N4}
 use Rattle.venue_nodes.specs.declared.nodes.Nodes.{Nodes}
@@ -65,11 +65,9 @@ references_end find index p refs k a b past adds = Adds-same (LackNodes find ind
 enumerated : {X : Type 0} (n k : ℕ) (xs : List X) (x : X) → slice_get xs k ≡ Some x → Contains (enumerate_from n xs) (n + k, x)
 enumerated n k [] x e = cc
 enumerated {X} n zero (y ∷ ys) x e =
-    let same : y ≡ x = some_same y x e in
+    let same : y ≡ x = same_Some y x e in
     let none : n ≡ n + 0 = omega arith in
-    subst (λ (i : ℕ). Contains (enumerate_from n (y ∷ ys)) (i, x)) none (subst (λ (z : X). Contains (enumerate_from n (y ∷ ys)) (n, z)) same (Contains-first (n, y) (enumerate_from (n + 1) ys))) where
-      some_same : (a b : X) → Some a ≡ Some b → a ≡ b
-      some_same a b h = cc
+    subst (λ (i : ℕ). Contains (enumerate_from n (y ∷ ys)) (i, x)) none (subst (λ (z : X). Contains (enumerate_from n (y ∷ ys)) (n, z)) same (Contains-first (n, y) (enumerate_from (n + 1) ys)))
 enumerated {X} n (suc k) (y ∷ ys) x e =
     let moved : n + 1 + k ≡ n + suc k = omega arith in
     subst (λ (i : ℕ). Contains (enumerate_from n (y ∷ ys)) (i, x)) moved (Contains-later (n, y) (enumerate_from (n + 1) ys) (n + 1 + k, x) (enumerated (n + 1) k ys x e))

@@ -1,12 +1,13 @@
 use Rattle.std.proofs.Common.{◌≡◌, ◌∙◌, ℕ, ◌+◌, ◌*◌, not, length, map, refl, ap, arith}
 use Rattle.std.proofs.lemmas.List.{length-map}
 use Rattle.std.proofs.lemmas.Option.{slice_get_read}
+use Rattle.venue_types.proofs.Items.{at_map}
 use Rattle.exact_json.specs.View.{tree_view}
 use Rattle.imdf_schema.specs.Properties.{property_number}
 use Rattle.imdf_read.specs.declared.rules.ReadingRule.TheVariants.{C6}
 use Rattle.imdf_schema.specs.Places.{finding_at}
 use Rattle.imdf_read.specs.Rules.{rule_of}
-use Rattle.report_laws.proofs.Adding.{Adds-start, Adds-step, Adds-end, Adds-found, at_map}
+use Rattle.report_laws.proofs.Adding.{Adds-start, Adds-step, Adds-end, Adds-found}
 use Rattle.imdf_read.proofs.PropertyRule.{BadItem, adds_bad_item, bad_items}
 use Rattle.imdf_read.proofs.property_rule.judge_list.Goals as goal
 

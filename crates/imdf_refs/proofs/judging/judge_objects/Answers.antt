@@ -2,9 +2,10 @@ use Rattle.std.proofs.Common.{◌≡◌, ◌<◌, Some, Option, ℕ, get_or, len
 use Rattle.std.specs.Prelude.{slice_get}
 use Rattle.std.proofs.lemmas.List.{length-map}
 use Rattle.std.proofs.lemmas.Option.{slice_get-get_or}
+use Rattle.venue_types.proofs.Items.{at_map}
 use Rattle.venue_types.specs.declared.features.Ref.{Ref}
 use Rattle.report_laws.specs.Passes.{Adds}
-use Rattle.report_laws.proofs.Adding.{Adds-start, Adds-step, Adds-end, at_map}
+use Rattle.report_laws.proofs.Adding.{Adds-start, Adds-step, Adds-end}
 use Rattle.imdf_refs.specs.References.{by_object, file_named}
 use Rattle.imdf_refs.specs.Gathering.{place_of, Dangles, DanglesAt}
 use Rattle.imdf_refs.proofs.Dangling.{at_all}
