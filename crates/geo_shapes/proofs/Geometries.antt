@@ -1,6 +1,5 @@
 -- Geometries, from what is read of their coordinates.
 use Rattle.std.proofs.Common.{◌≡◌, List, [], ◌∷◌, Bool, true, false, not, is_some, IsTrue, Option, Some, None, IfSome, IsSome, unwrap_or, if◌then◌else◌, inl, inr, ◌↔◌, Result, Ok, Err, IfOk, refl, sym, ap, ◌∙◌, subst}
-use Rattle.std.specs.List.{AllZip}
 use Rattle.venue_types.proofs.Zips.{zip_one}
 use Rattle.exact_json.specs.Json.{Json, null, list_values}
 use Rattle.geo_decimal.specs.Laws.{HasOneValue}

@@ -96,7 +96,11 @@ fn take_tree<R: FeatureRow>(
     ensures taken { IfOk result (λ t. (slot : ASlot) → HasOnlyValue slot (tree_view tree.now) → Takes R.is_row file slot t) }
 {
     let collection = is_collection(Some(tree));
-    add(&mut gathered.findings, !collection, whole(ReadingRule::C1, file))?;
+    add(
+        &mut gathered.findings,
+        !collection,
+        whole(ReadingRule::C1, file),
+    )?;
     let Taken {
         rows,
         items,

@@ -15,15 +15,22 @@ use crate::rules::ReadingRule;
 use exact_json::Tree;
 use imdf_rows::ordinal;
 use imdf_schema::{
-    File, Place, Property, fits_geometry, geometry, is_id, is_null, is_word, list, member, property,
-    unlisted_property,
+    File, Place, Property, fits_geometry, geometry, is_id, is_null, is_word, list, member,
+    property, unlisted_property,
 };
 use report_laws::add;
 use venue_types::{Finding, OutOfMemory};
 
 const MAX_ELEMENTS: usize = 65;
 
-static RULES: [ReadingRule; 6] = [ReadingRule::C3, ReadingRule::C4, ReadingRule::C5, ReadingRule::L1, ReadingRule::Q1, ReadingRule::S4];
+static RULES: [ReadingRule; 6] = [
+    ReadingRule::C3,
+    ReadingRule::C4,
+    ReadingRule::C5,
+    ReadingRule::L1,
+    ReadingRule::Q1,
+    ReadingRule::S4,
+];
 
 fn is_ordinal(value: Option<&Tree>) -> bool
     ensures { IsTrue result ↔ ((n : ℤ) × IsOrdinal (seen value.entry) n) }

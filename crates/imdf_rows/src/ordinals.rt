@@ -8,7 +8,7 @@ ghost use Rattle.imdf_schema.specs.Values.{seen};
 ghost use Rattle.imdf_rows.specs.Fields.{IsWhole, IsOrdinal};
 
 use exact_json::Tree;
-use geo_decimal::{one_value_law, nano};
+use geo_decimal::{nano, one_value_law};
 
 // How many billionths make one.
 const UNIT: i64 = 1_000_000_000;

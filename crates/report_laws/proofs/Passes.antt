@@ -1,9 +1,7 @@
 -- What stands in the words that describe a gathering.
-use Rattle.std.proofs.Common.{◌≡◌, List, [], ◌∷◌, Bool, true, false, refl, sym, subst, inl, inr}
+use Rattle.std.proofs.Common.{◌≡◌, [], ◌∷◌, Bool, true, false, refl, subst}
 use Rattle.std.specs.Prelude.{Contains, ◌↔◌}
-use Rattle.std.specs.List.{flat_map}
-use Rattle.std.proofs.lemmas.List.Elements.{Contains-append_left, Contains-append_right, Contains-append_cases}
-use Rattle.venue_types.proofs.Items.{Contains-nil, Contains-only, Contains-first, Contains-later, Contains-cons_cases}
+use Rattle.venue_types.proofs.Items.{Contains-nil, Contains-only, Contains-first}
 use Rattle.report_laws.specs.Passes.{found}
 
 -- a test finds its place, where it holds
