@@ -5,63 +5,38 @@ ghost use Rattle.imdf_read.specs.Rules.{rule_of, note_of};
 
 use imdf_schema::{NoteKind, Rule};
 
-/// A rule of the first phase.
+/// A rule of the first phase, which says what the `Rule` of its name says.
 #[derive(Clone, Copy, Debug, PartialEq, Eq)]
 pub enum ReadingRule {
-    /// The manifest is there.
     F1,
-    /// A file has at most 33,554,432 bytes.
     F2,
-    /// A file is a JSON text (RFC 8259).
     F3,
-    /// Its lists and objects nest at most 64 deep.
     F4,
-    /// The manifest's version is "1.0.0".
     M1,
-    /// The manifest's `created` is a text.
     M2,
-    /// The manifest's `language` is null or a text.
     M3,
-    /// A feature file is a FeatureCollection (RFC 7946, section 3.3).
     C1,
-    /// An item is a Feature with properties (RFC 7946, section 3.2).
     C2,
-    /// A feature's `id` is an identifier.
     C3,
-    /// A feature's type is that of its file.
     C4,
-    /// A feature's geometry is of the type that its file asks for.
     C5,
-    /// A property is of its form.
     C6,
-    /// There is exactly one venue.
     V1,
-    /// A level's ordinal, rounded to billionths, is a whole number from -180 to 180.
     L1,
-    /// A relationship's direction is one of two words.
     Q1,
-    /// There are at most 100,000 items.
     S1,
-    /// There are at most 1,000,000 positions.
     S2,
-    /// A ring has at most 20,000 positions.
     S3,
-    /// A relationship has at most 65 elements.
     S4,
-    /// A position is one.
     G1,
-    /// A geometry is of its form.
     G2,
 }
 
-/// What is worth a note when a folder is read.
+/// What is worth a note when a folder is read: what the `NoteKind` of its name says.
 #[derive(Clone, Copy, Debug, PartialEq, Eq)]
 pub enum ReadingNote {
-    /// The category of a unit is unknown.
     N1,
-    /// The category of a relationship makes no passage.
     N2,
-    /// The restriction of a unit is an unknown text.
     N5,
 }
 
