@@ -5,7 +5,7 @@ use Rattle.venue_types.specs.declared.finding.Finding.{Finding}
 use Rattle.report_laws.specs.Passes.{Adds}
 use Rattle.report_laws.specs.Reports.{IsReport}
 use Rattle.ring_rules.specs.Rules.{BreaksInRing}
-use Rattle.venue_build.proofs.Planes.{spread_finding, spread_report, misplaced_report}
+use Rattle.venue_build.proofs.Planes.{spread_report, misplaced_report}
 use Rattle.venue_build.proofs.plane.plane_findings.Goals as goal
 
 pub returns-then-is_spread : goal.returns-then-is_spread
