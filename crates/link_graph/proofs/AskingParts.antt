@@ -1,5 +1,5 @@
 -- A link's facts are those of its way and of both its ends.
-use Rattle.std.proofs.Common.{◌≡◌, Bool, true, false, ◌||◌, ◌↔◌, IsTrue, refl}
+use Rattle.std.proofs.Common.{Bool, ◌↔◌}
 use Rattle.venue_types.specs.declared.kind.Kind.{Kind}
 use Rattle.venue_types.specs.declared.link.Link.{Link}
 use Rattle.venue_types.specs.declared.settings.Profile.{Profile}

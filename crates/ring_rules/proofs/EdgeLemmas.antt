@@ -1,5 +1,5 @@
 -- Points of a line that have a property, edges of a ring that cross, and holes that leave their border.
-use Rattle.std.proofs.Common.{Bool, IsTrue, Some, ◌≡◌, ℕ, ◌+◌, ◌<◌, inl, inr, List, ◌∷◌, ◌++◌, length, get_or, drop, Any, ◌↔◌, refl, sym, subst}
+use Rattle.std.proofs.Common.{Bool, IsTrue, ◌≡◌, ℕ, ◌+◌, ◌<◌, inl, inr, List, ◌∷◌, ◌++◌, length, get_or, drop, Any, ◌↔◌, refl, sym, subst}
 use Rattle.std.specs.Prelude.{Contains}
 use Rattle.std.proofs.lemmas.List.Elements.{Contains-append_left, Contains-append_right, All-contains_itself}
 use Rattle.std.proofs.lemmas.Option.{same_Some}

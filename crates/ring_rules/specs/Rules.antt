@@ -1,5 +1,5 @@
 -- The rules on the spread of a folder and on rings: where each is broken.
-use Rattle.std.specs.Prelude.{◌≡◌, ℕ, pos, Contains, slice_get, Some}
+use Rattle.std.specs.Prelude.{◌≡◌, pos, Contains, slice_get, Some}
 use Rattle.venue_types.specs.declared.features.Features.{Features}
 use Rattle.venue_types.specs.declared.finding.Finding.{Finding}
 use Rattle.venue_types.specs.declared.point.Point.{Point}

@@ -1,7 +1,6 @@
 use Rattle.std.proofs.Common.{◌≡◌, ◌<◌, ◌+◌, true, false, inl, inr, length, set, refl, sym, ap, ◌∙◌, arith}
 use Rattle.link_graph.specs.Graphs.{network}
 use Rattle.link_graph.specs.Marking.{marked}
-use Rattle.route_search.specs.declared.state.State.{State}
 use Rattle.route_search.specs.Scans.{CanPass, node_count, out_count_of}
 use Rattle.route_search.specs.States.{cost_in, settled_in, open_sum}
 use Rattle.route_search.proofs.Between.{node_within, skipped, amid, closed, root_same, root_later, ended_spent, ended_found}
