@@ -6,5 +6,5 @@ mod names;
 mod tests;
 mod text;
 
-pub use names::{file_name, file_names, rule_name};
+pub use names::{file_name, rule_name};
 pub use text::{accepted_text, rejected_text};

@@ -1,7 +1,7 @@
 //! The texts of a report and of notes.
 
 use crate::names::{file_name, note_name, rule_name};
-use crate::{accepted_text, file_names, rejected_text};
+use crate::{accepted_text, rejected_text};
 use std::test::Fail;
 use venue_types::{Finding, List, Note, Report};
 
@@ -31,7 +31,6 @@ fn a_check_is_printed(rt: HostRuntime) -> Result<(), Fail> {
         assert_eq!(rt; file_name(number), file);
     }
     assert_eq!(rt; note_name(5), "N5");
-    assert_eq!(rt; file_names().len(), 17);
     let found = Finding {
         rule: 23,
         file: 15,

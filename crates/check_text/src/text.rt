@@ -9,7 +9,7 @@ use std::alloc::{AllocError, Global};
 use venue_types::{Finding, Note, Report};
 
 // How many findings or notes are printed at most.
-const MOST: usize = 500;
+const SHOWN: usize = 500;
 
 // The line of a place.
 fn place_line(
@@ -73,7 +73,7 @@ fn push_notes(alloc: Global, text: &mut String, notes: &[Note]) -> Result<(), Al
 fn printed<T>(items: &[T]) -> &[T]
     ensures { result.now ≡ take 500 items.now }
 {
-    &items[..MOST.min(items.len())]
+    &items[..SHOWN.min(items.len())]
 }
 
 /// The text of a rejected folder: the number of all findings, and a line for each of the first 500.

@@ -3,7 +3,7 @@ use Rattle.std.proofs.Common.{◌≡◌, ◌∙◌, ℕ, ◌+◌, ◌<◌, List,
 use Rattle.std.specs.Prelude.{slice_get, Contains}
 use Rattle.std.proofs.lemmas.List.{take_more, map-append}
 use Rattle.std.proofs.lemmas.Option.{slice_get_within, slice_get_read, get_or_from_slice_get, same_Some}
-use Rattle.report_laws.proofs.Adding.{at_map}
+use Rattle.venue_types.proofs.Items.{at_map}
 use Rattle.venue_types.specs.declared.point.Shape.{Shape}
 use Rattle.plane_exact.specs.Figure.{AllClose, vertices}
 use Rattle.contain_rules.specs.Banding.{AreCloseShapes, AreBanded}

@@ -9,7 +9,8 @@ use Rattle.report_laws.specs.Passes.{Adds}
 use Rattle.report_laws.proofs.Adding.{Adds-same, Adds-then, Among}
 use Rattle.contain_rules.specs.declared.rules.HoldRule.{HoldRule}
 use Rattle.contain_rules.specs.declared.rules.HoldRule.TheVariants.{K1, K2, K3, K4}
-use Rattle.contain_rules.specs.Rules.{BreaksHold, HoldBreaks, UnitLeaves, AnchorLeaves, AmenityLeaves, OpeningLeaves, hold_rule_number, file_judged}
+use Rattle.imdf_schema.specs.Rules.{rule_number}
+use Rattle.contain_rules.specs.Rules.{BreaksHold, HoldBreaks, UnitLeaves, AnchorLeaves, AmenityLeaves, OpeningLeaves, rule_of, file_judged}
 use Rattle.contain_rules.specs.Judging.{BreaksIn, hold_finding}
 
 -- the row at hand, of a list that is seen as a slice
@@ -98,4 +99,4 @@ four_rules features t a b c d e one two three four = Adds-then (BreaksHold featu
         | inr fourth ↦ into_hold K4 features t x (fourth.row, fourth.there, fourth.leaves) fourth.is
       ]
     ])
-    (λ x h. part h.rule features t x h.breaks (finding_is x (hold_rule_number h.rule) (file_number (file_judged h.rule)) 0 h.number h.in_file h.at_member))
+    (λ x h. part h.rule features t x h.breaks (finding_is x (rule_number (rule_of h.rule)) (file_number (file_judged h.rule)) 0 h.number h.in_file h.at_member))

@@ -12,7 +12,10 @@ use Rattle.venue_types.specs.declared.point.Point.{Point}
 use Rattle.venue_types.specs.declared.point.Shape.{Shape}
 use Rattle.imdf_schema.specs.declared.files.File.{File}
 use Rattle.imdf_schema.specs.declared.files.File.TheVariants as file
+use Rattle.imdf_schema.specs.declared.rules.Rule.{Rule}
+use Rattle.imdf_schema.specs.declared.rules.Rule.TheVariants as rule
 use Rattle.imdf_schema.specs.Files.{file_number}
+use Rattle.imdf_schema.specs.Rules.{rule_number}
 use Rattle.plane_exact.specs.Figure.{IsInside, IsNear, vertices}
 use Rattle.feature_rows.specs.Named.{IsLevel, IsUnit}
 use Rattle.contain_rules.specs.declared.rules.HoldRule.{HoldRule}
@@ -22,11 +25,12 @@ use Rattle.contain_rules.specs.declared.rules.HoldRule.TheVariants.{K1, K2, K3, 
 abbrev pub IsHeld : ℕ → Shape → Point → Type 0
 IsHeld tolerance shape p = IsInside p shape ⊎ IsNear p shape tolerance
 
-abbrev pub hold_rule_number : HoldRule → ℕ
-hold_rule_number K1 = 30
-hold_rule_number K2 = 31
-hold_rule_number K3 = 32
-hold_rule_number K4 = 33
+-- the rule among all rules
+abbrev pub rule_of : HoldRule → Rule
+rule_of K1 = rule.K1
+rule_of K2 = rule.K2
+rule_of K3 = rule.K3
+rule_of K4 = rule.K4
 
 -- the file of the features that a rule judges
 abbrev pub file_judged : HoldRule → File
@@ -71,7 +75,7 @@ HoldBreaks K4 features tolerance k = (opening : OpeningRow) × (slice_get featur
 -- something is not held by what is to hold it, which is told of the feature
 pub record BreaksHold (features : Features) (tolerance : ℕ) (x : Finding) : Type 0 where
   pub rule : HoldRule
-  pub number : x.rule ≡ hold_rule_number rule
+  pub number : x.rule ≡ rule_number (rule_of rule)
   pub breaks : HoldBreaks rule features tolerance x.index
   pub in_file : x.file ≡ file_number (file_judged rule)
   pub at_member : x.member ≡ 0

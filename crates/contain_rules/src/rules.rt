@@ -1,10 +1,10 @@
 //! The rules on what holds what.
 
 ghost use Rattle.std.specs.Prelude.{◌≡◌, ◌≤◌};
-ghost use Rattle.contain_rules.specs.Rules.{hold_rule_number, file_judged};
+ghost use Rattle.contain_rules.specs.Rules.{rule_of, file_judged};
 ghost use Rattle.contain_rules.specs.Judging.{hold_finding};
 
-use imdf_schema::File;
+use imdf_schema::{File, Place, Rule};
 use venue_types::Finding;
 
 /// A rule on a feature and what is to hold it.
@@ -21,15 +21,15 @@ pub enum HoldRule {
 }
 
 impl HoldRule {
-    /// The number that stands in findings.
-    pub fn number(self) -> u8
-        ensures { result ≡ hold_rule_number self }
+    /// The rule among all rules.
+    pub fn rule(self) -> Rule
+        ensures { result ≡ rule_of self }
     {
         match self {
-            HoldRule::K1 => 30,
-            HoldRule::K2 => 31,
-            HoldRule::K3 => 32,
-            HoldRule::K4 => 33,
+            HoldRule::K1 => Rule::K1,
+            HoldRule::K2 => Rule::K2,
+            HoldRule::K3 => Rule::K3,
+            HoldRule::K4 => Rule::K4,
         }
     }
 
@@ -50,11 +50,10 @@ impl HoldRule {
         requires { index ≤ 100000 }
         ensures { result ≡ hold_finding self index }
     {
-        Finding {
-            rule: self.number(),
-            file: self.file().number(),
+        let place = Place {
+            file: self.file(),
             index: index as u32,
-            member: 0,
-        }
+        };
+        place.finding(self.rule(), 0)
     }
 }

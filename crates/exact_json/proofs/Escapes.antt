@@ -2,6 +2,7 @@
 use Rattle.std.proofs.Common.{◌≡◌, ℕ, ◌+◌, ◌-◌, ◌*◌, ◌<◌, ◌≤◌, Bool, true, false, cond, ◌&&◌, ◌||◌, ◌==◌, ◌∙◌, List, [], ◌∷◌, Option, Some, None, option_and_then, nat_lt, nat_le, refl, sym, ap, ap₂, subst, arith}
 use Rattle.std.proofs.lemmas.Bool.{eqb-true, leb-true, ltb-true, and_parts}
 use Rattle.std.specs.Char.{IsScalar, digit_value, is_digit}
+use Rattle.std.proofs.lemmas.Option.{same_Some}
 use Rattle.exact_json.specs.Strings.{short_escape, is_high, is_low, AreHex}
 use Rattle.exact_json.specs.StringReading.{code_unit, low_next, after_high, unit_escape, escape}
 use Rattle.exact_json.proofs.Texts.{by_bool, then_some, tested, some_of, none_some, low_alone, escape_nothing, escape_u, escape_short}
@@ -9,9 +10,6 @@ use Rattle.exact_json.proofs.Texts.{by_bool, then_some, tested, some_of, none_so
 -- the digits in front
 Unit4 : List ℕ → ℕ → Type 0
 Unit4 t u = (a b c d : ℕ) × (w : List ℕ) × (t ≡ a ∷ b ∷ c ∷ d ∷ w) × AreHex a b c d × (u < 65536)
-
-some_number : (a b : ℕ) → Some a ≡ Some b → a ≡ b
-some_number a b e = cc
 
 below : (a b c d : ℕ) → digit_value a < 16 → digit_value b < 16 → digit_value c < 16 → digit_value d < 16 → digit_value a * 4096 + digit_value b * 256 + digit_value c * 16 + digit_value d < 65536
 below a b c d p q r s = lemma (digit_value a) (digit_value b) (digit_value c) (digit_value d) p q r s
@@ -30,14 +28,14 @@ unit_front (a ∷ b ∷ c ∷ d ∷ w) u h =
     let p = and_parts (is_digit a 16 && is_digit b 16 && is_digit c 16) (is_digit d 16) t.0 in
     let q = and_parts (is_digit a 16 && is_digit b 16) (is_digit c 16) p.0 in
     let r = and_parts (is_digit a 16) (is_digit b 16) q.0 in
-    let value = some_number _ u t.1 in
+    let value = same_Some _ u t.1 in
     (a, b, c, d, w, refl, (r.0, r.1, q.1, p.1), subst (λ n. n < 65536) value (below a b c d (ltb-true (digit_value a) 16 r.0) (ltb-true (digit_value b) 16 r.1) (ltb-true (digit_value c) 16 q.1) (ltb-true (digit_value d) 16 p.1)))
 
 short_value : (x c : ℕ) → short_escape x ≡ Some c → (x < 128) × (c < 128)
 unfolding short_escape
 short_value x c h = by_bool ((x == 34) || (x == 92) || (x == 47))
     (λ e.
-    let same = some_number x c (step ((x == 34) || (x == 92) || (x == 47)) true _ _ _ e h) in
+    let same = same_Some x c (step ((x == 34) || (x == 92) || (x == 47)) true _ _ _ e h) in
     let low : x < 128 = quotes x e in
     (low, subst (λ n. n < 128) same low))
     (λ e. let h1 = step ((x == 34) || (x == 92) || (x == 47)) false _ _ _ e h in
@@ -51,7 +49,7 @@ short_value x c h = by_bool ((x == 34) || (x == 92) || (x == 47))
 
     one : (x k v c : ℕ) (o : Option ℕ) → k < 128 → v < 128 → (o ≡ Some c → (x < 128) × (c < 128)) → cond (x == k) (Some v) o ≡ Some c → (x < 128) × (c < 128)
     one x k v c o kl vl f h = by_bool (x == k)
-        (λ e. (subst (λ n. n < 128) (sym (eqb-true x k e)) kl, subst (λ n. n < 128) (some_number v c (step (x == k) true _ _ _ e h)) vl))
+        (λ e. (subst (λ n. n < 128) (sym (eqb-true x k e)) kl, subst (λ n. n < 128) (same_Some v c (step (x == k) true _ _ _ e h)) vl))
         (λ e. f (step (x == k) false _ _ _ e h))
 
 -- the escape of a low surrogate in front
@@ -68,7 +66,7 @@ low_front (x ∷ y ∷ v) l h =
     let t = then_some (λ u. cond (is_low u) (Some u) None) (code_unit v) l q.1 in
     let s = tested (is_low t.0) (Some t.0) l t.2 in
     let u = unit_front v t.0 t.1 in
-    (u.0, u.1, u.2, u.3, u.4, ap₂ (λ m n. m ∷ n ∷ v) (eqb-true x 92 p.0) (eqb-true y 117 p.1) ∙ ap (λ z. 92 ∷ 117 ∷ z) u.5, u.6, subst (λ n. is_low n ≡ true) (some_number t.0 l s.1) s.0)
+    (u.0, u.1, u.2, u.3, u.4, ap₂ (λ m n. m ∷ n ∷ v) (eqb-true x 92 p.0) (eqb-true y 117 p.1) ∙ ap (λ z. 92 ∷ 117 ∷ z) u.5, u.6, subst (λ n. is_low n ≡ true) (same_Some t.0 l s.1) s.0)
 
 plain_scalar : (u : ℕ) → u < 65536 → is_high u ≡ false → is_low u ≡ false → IsScalar u
 plain_scalar u b h l = grind (arith, b, h, l)

@@ -5,6 +5,7 @@ use Rattle.std.proofs.lemmas.List.{append-nil}
 use Rattle.std.specs.List.{prefix_len, starts_with}
 use Rattle.std.specs.Str.{bytes_eq}
 use Rattle.std.specs.Char.{is_ascii_digit}
+use Rattle.std.proofs.lemmas.Option.{same_Some}
 use Rattle.exact_json.specs.Json.{Json, null, boolean, number, text, depth, items_depth, members_depth}
 use Rattle.exact_json.specs.View.{items_of, members_of}
 use Rattle.exact_json.specs.Number.{head, after_digits, after_minus, after_sign, after_whole, after_fraction, after_exponent, after_number, IsNumber, is_space, ends_value}
@@ -56,9 +57,6 @@ pair_parts {A} a c b d h = (ap first h, ap second h)
     second None = []
     second (Some q) = q.1
 
-some_same : (a b : List ℕ) → Some a ≡ Some b → a ≡ b
-some_same a b e = cc
-
 -- ---- numbers
 
 -- what follows quiet bytes
@@ -93,7 +91,7 @@ itself : (t : List ℕ) → Suffix t t
 itself t = ([], refl, tt)
 
 some_suffix : (t u : List ℕ) → Suffix t u → Suffixes t (Some u)
-some_suffix t u s r h = subst (Suffix t) (some_same u r h) s
+some_suffix t u s r h = subst (Suffix t) (same_Some u r h) s
 
 no_suffix : (t : List ℕ) → Suffixes t None
 no_suffix t r h = absurd (none_some h)

@@ -11,6 +11,7 @@ use Rattle.exact_json.specs.Scanning.{rest_of, past, element_value, past_open, p
 use Rattle.exact_json.specs.declared.fault.JsonFault.TheVariants.{Text}
 use Rattle.std.specs.Borrow.{Bor}
 use Rattle.std.specs.Option.{ok_or}
+use Rattle.std.proofs.lemmas.Option.{same_Some}
 use Rattle.exact_json.proofs.Lists.{step, at_comma, at_close, at_neither, no_elements, some_elements, value_list, value_object, value_scalar}
 
 none_some : {A : Type 0} {x : A} → None ≡ Some x → ⊥
@@ -164,10 +165,7 @@ all_passed text b ks none i = all_passed_by text b ks none i.turns i.least i.sam
 -- what holds of each state with that kind innermost
 pub with_kind : (P : List Kind → Type 0) (k : Kind) → ((ks : List Kind) → P (k ∷ ks)) → (ks : List Kind) → Some k ≡ slice_get ks 0 → P ks
 with_kind P k f [] e = absurd (none_some (sym e))
-with_kind P k f (j ∷ ks) e = subst (λ i. P (i ∷ ks)) (kind_same k j e) (f ks)
-  where
-    kind_same : (k j : Kind) → Some k ≡ Some j → k ≡ j
-    kind_same k j e = cc
+with_kind P k f (j ∷ ks) e = subst (λ i. P (i ∷ ks)) (same_Some k j e) (f ks)
 
 -- the state behind an element, with the bounds taken apart
 module _ (text b : List ℕ) (k : Kind) (ks : List Kind) (m : ℕ) where

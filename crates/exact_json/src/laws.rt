@@ -7,12 +7,12 @@ ghost use Rattle.exact_json.specs.Grammar.{IsJson, bare};
 ghost use Rattle.exact_json.specs.Nesting.{nesting};
 
 /// A text has at most one value.
-pub fn one_value()
+pub fn one_json_law()
     ensures { (b : List ℕ) → (j k : Json) → IsJson b j → IsJson b k → j ≡ k }
 {}
 
 /// A value is as deep as its text nests.
-pub fn depth_is_nesting()
+pub fn nesting_law()
     ensures { (b : List ℕ) → (j : Json) → IsJson b j → depth j ≡ nesting (bare b) }
 {}
 

@@ -17,7 +17,7 @@ use crate::unclosed::Unclosed;
 use std::alloc::Global;
 
 /// How deep lists and objects may nest.
-const MOST: usize = 64;
+const MAX_DEPTH: usize = 64;
 
 // Why a text is refused whose value nests too deep, if it is one.
 fn deep_fault(alloc: Global, start: &[u8]) -> JsonFault
@@ -44,7 +44,7 @@ fn read_start<'a>(alloc: Global, start: &'a [u8]) -> Result<Tree<'a>, JsonFault>
     ensures deep { result ≡ Err JsonFault.Deep → (j : Json) × Starts start.now j × (64 < depth j) }
 {
     let mut unclosed = Unclosed::new(alloc);
-    match read_value(alloc, &mut unclosed, start, MOST) {
+    match read_value(alloc, &mut unclosed, start, MAX_DEPTH) {
         Ok((tree, rest)) => {
             if skip_spaces(rest).is_empty() {
                 Ok(tree)

@@ -5,13 +5,13 @@ use Rattle.std.specs.List.Sorted.{IsSorted}
 use Rattle.std.proofs.lemmas.List.{length-map}
 use Rattle.std.proofs.lemmas.List.Sorted.{Contains-permutation, IsPermutation-sym}
 use Rattle.std.proofs.lemmas.Option.{slice_get_within, get_or_from_slice_get, same_Some}
+use Rattle.venue_types.proofs.Items.{at_member, member_at, at_map}
 use Rattle.venue_types.specs.declared.feature_id.FeatureId.{FeatureId}
 use Rattle.feature_rows.specs.declared.index.Entry.{Entry}
 use Rattle.feature_rows.specs.declared.index.Index.{Index}
 use Rattle.feature_rows.specs.Entries.{AreEntries, place_in}
 use Rattle.feature_rows.specs.Indexes.{IsFirstAt, IsIndex, AreOnce, IsOnlyRow, place_of}
 use Rattle.feature_rows.proofs.Entries.{entry, entry_cmp, in_order, place_found, place_some}
-use Rattle.feature_rows.proofs.Lists.{at_member, member_at, at_map}
 
 same_id : (a b : FeatureId) → a.0 ≡ b.0 → a ≡ b
 same_id a b e = ap (λ (n : ℕ). let x : FeatureId = record { 0 = n } in x) e

@@ -14,4 +14,4 @@ mod tests;
 
 pub use coordinate::nano;
 pub use fault::NumberFault;
-pub use laws::{has_one_value, has_value, reads_back_law, rounded_is_nearest};
+pub use laws::{one_value_law, value_law, reads_back_law, rounding_law};

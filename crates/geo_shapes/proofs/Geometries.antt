@@ -1,6 +1,6 @@
 -- Geometries, from what is read of their coordinates.
 use Rattle.std.proofs.Common.{◌≡◌, List, [], ◌∷◌, Bool, true, false, not, is_some, IsTrue, Option, Some, None, IfSome, IsSome, unwrap_or, if◌then◌else◌, inl, inr, ◌↔◌, Result, Ok, Err, IfOk, refl, sym, ap, ◌∙◌, subst}
-use Rattle.std.specs.List.{AllZip}
+use Rattle.venue_types.proofs.Zips.{zip_one}
 use Rattle.exact_json.specs.Json.{Json, null, list_values}
 use Rattle.geo_decimal.specs.Laws.{HasOneValue}
 use Rattle.venue_types.specs.declared.point.Point.{Point}
@@ -68,18 +68,6 @@ shape_form geometry bad form = (
     | BreaksShapeForm.bad_polygon any ↦ form.1 (inr any)
   ],
 )
-
--- the things of a list, place by place, are one list at most
-zip_one : {X Y : Type 0} (R : X → Y → Type 0) → ((x : X) (y z : Y) → R x y → R x z → y ≡ z) → (xs : List X) (ys zs : List Y) → AllZip R xs ys → AllZip R xs zs → ys ≡ zs
-zip_one R one [] [] [] h k = refl
-zip_one R one [] [] (z ∷ zs) h k = absurd k
-zip_one R one [] (y ∷ ys) zs h k = absurd h
-zip_one R one (x ∷ xs) [] zs h k = absurd h
-zip_one R one (x ∷ xs) (y ∷ ys) [] h k = absurd k
-zip_one R one (x ∷ xs) (y ∷ ys) (z ∷ zs) h k =
-    let front : y ≡ z = one x y z h.0 k.0 in
-    let rest : ys ≡ zs = zip_one R one xs ys zs h.1 k.1 in
-    ap (λ w. w ∷ ys) front ∙ ap (λ ws. z ∷ ws) rest
 
 pub one_line : HasOneValue → (value : Json) (l m : Line) → IsLine value l → IsLine value m → l ≡ m
 one_line one value l m a b =

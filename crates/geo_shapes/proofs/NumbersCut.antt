@@ -7,6 +7,7 @@ use Rattle.std.specs.Option.{option_to_list}
 use Rattle.std.specs.Char.{is_ascii_digit, digit_value}
 use Rattle.std.specs.Str.Parse.{AllDigits, IsNumeral}
 use Rattle.std.proofs.lemmas.Str.Parse.{digit_from_value}
+use Rattle.std.proofs.lemmas.Option.{same_Some}
 use Rattle.exact_json.specs.Number.{head, after_digits, after_minus, after_sign, after_whole, after_fraction, after_exponent, after_number, IsNumber}
 use Rattle.geo_decimal.specs.Number.{minus_text, fraction_text, exponent_text, IsWhole, IsSign, IsExponent, IsNumber as IsDecimal}
 
@@ -16,9 +17,6 @@ by_bool false f g = g refl
 
 none_some : {A : Type 0} {x : A} → None ≡ Some x → ⊥
 none_some h = false≢true (ap is_some h)
-
-some_same : (a b : List ℕ) → Some a ≡ Some b → a ≡ b
-some_same a b e = cc
 
 -- the branch that a test takes
 yes : {A : Type 0} (c : Bool) (x y w : A) → c ≡ true → cond c x y ≡ w → x ≡ w
@@ -75,7 +73,7 @@ numeral t r h = by_bool (prefix_len is_ascii_digit t == 0)
     (λ e.
     let n = prefix_len is_ascii_digit t in
     let d = digits_front t in
-    let rest = some_same (drop n t) r (no (n == 0) None (Some (drop n t)) (Some r) e h) in
+    let rest = same_Some (drop n t) r (no (n == 0) None (Some (drop n t)) (Some r) e h) in
     (d.0, d.1 ∙ ap (λ l. d.0 ++ l) rest, (omega (arith, above_zero n e, d.3), d.2)))
 
 -- ---- the parts of a number
@@ -90,7 +88,7 @@ whole_digits (c ∷ cs) h e = let r = digit_from_value c h.1.0 in inr (above c r
 whole : (t r : List ℕ) → after_whole t ≡ Some r → Part (λ w. w) IsWhole t r
 unfolding Part
 whole t r h = by_bool (head t == 48)
-    (λ e. (48 ∷ [], begins t 48 (λ w. omega (arith, w)) (eqb-true (head t) 48 e) ∙ ap (λ l. 48 ∷ l) (some_same (drop 1 t) r (yes (head t == 48) (Some (drop 1 t)) (after_digits t) (Some r) e h)), inl (refl, refl)))
+    (λ e. (48 ∷ [], begins t 48 (λ w. omega (arith, w)) (eqb-true (head t) 48 e) ∙ ap (λ l. 48 ∷ l) (same_Some (drop 1 t) r (yes (head t == 48) (Some (drop 1 t)) (after_digits t) (Some r) e h)), inl (refl, refl)))
     (λ e.
     let n = numeral t r (no (head t == 48) (Some (drop 1 t)) (after_digits t) (Some r) e h) in
     (n.0, n.1, whole_digits n.0 n.2 (same_head n.0 r t n.1 n.2.0 ∙ e)))
@@ -105,7 +103,7 @@ fraction t r h = by_bool (head t == 46)
     (λ e.
     let n = numeral (drop 1 t) r (yes (head t == 46) (after_digits (drop 1 t)) (Some t) (Some r) e h) in
     (Some n.0, begins t 46 (λ w. omega (arith, w)) (eqb-true (head t) 46 e) ∙ ap (λ l. 46 ∷ l) n.1, n.2))
-    (λ e. (None, some_same t r (no (head t == 46) (after_digits (drop 1 t)) (Some t) (Some r) e h), tt))
+    (λ e. (None, same_Some t r (no (head t == 46) (after_digits (drop 1 t)) (Some t) (Some r) e h), tt))
 
 sign : (t : List ℕ) → Part option_to_list (λ s. IfSome s IsSign) t (after_sign t)
 unfolding Part
@@ -127,7 +125,7 @@ exponent t r h = by_bool ((head t == 101) || (head t == 69))
     let n = numeral (after_sign u) r (yes ((head t == 101) || (head t == 69)) (after_digits (after_sign u)) (Some t) (Some r) e h) in
     let tail : u ≡ (option_to_list s.0 ++ n.0) ++ r = s.1 ∙ ap (λ l. option_to_list s.0 ++ l) n.1 ∙ sym (append_assoc (option_to_list s.0) n.0 r) in
     marked s.0 s.2 n.0 n.2 tail (or_cases (head t == 101) (head t == 69) e))
-    (λ e. (None, some_same t r (no ((head t == 101) || (head t == 69)) (after_digits (after_sign (drop 1 t))) (Some t) (Some r) e h), tt))
+    (λ e. (None, same_Some t r (no ((head t == 101) || (head t == 69)) (after_digits (after_sign (drop 1 t))) (Some t) (Some r) e h), tt))
   where
     marked : (s : Option ℕ) → IfSome s IsSign → (ds : List ℕ) → IsNumeral 10 ds → drop 1 t ≡ (option_to_list s ++ ds) ++ r → ((head t == 101) ≡ true) ⊎ ((head t == 69) ≡ true) → Part exponent_text (λ e. IfSome e IsExponent) t r
     marked s sp ds dp tail (inl e) =

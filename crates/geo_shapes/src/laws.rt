@@ -4,27 +4,27 @@ ghost use Rattle.geo_shapes.specs.Laws.{HasOnePoint, HasOneLine, HasOneShape};
 ghost use Rattle.geo_shapes.specs.Numbers.{SameNumbers, HasDecimals};
 
 use exact_json::laws::numbers_law;
-use geo_decimal::has_one_value;
+use geo_decimal::one_value_law;
 
 /// No Point stands for two points.
-pub fn has_one_point()
+pub fn one_point_law()
     ensures { HasOnePoint }
 {
-    has_one_value();
+    one_value_law();
 }
 
 /// No LineString stands for two lines.
-pub fn has_one_line()
+pub fn one_line_law()
     ensures { HasOneLine }
 {
-    has_one_value();
+    one_value_law();
 }
 
 /// No Polygon or MultiPolygon stands for two shapes.
-pub fn has_one_shape()
+pub fn one_shape_law()
     ensures { HasOneShape }
 {
-    has_one_value();
+    one_value_law();
 }
 
 /// A token is a number of JSON text exactly where it is one that `nano` takes.

@@ -13,5 +13,5 @@ mod tests;
 mod values;
 
 pub use geometry::{line, point, shape};
-pub use laws::{decimals_law, has_one_line, has_one_point, has_one_shape, same_numbers_law};
+pub use laws::{decimals_law, one_line_law, one_point_law, one_shape_law, same_numbers_law};
 pub use read_geometry::ReadGeometry;

@@ -6,7 +6,7 @@ ghost use Rattle.geo_shapes.specs.Position.{half_turn, quarter_turn};
 ghost use Rattle.geo_shapes.specs.Reading.{ReadsAngle, ReadsMaybe, ReadsPosition, ReadsPositions};
 
 use exact_json::Tree;
-use geo_decimal::{has_one_value, nano};
+use geo_decimal::{one_value_law, nano};
 use std::alloc::Global;
 use venue_types::{OutOfMemory, Point};
 
@@ -17,7 +17,7 @@ fn longitude(tree: &Tree) -> Option<i64>
     ensures { ReadsAngle half_turn (tree_view tree.now) result }
 {
     // The law that no number has two values. It does nothing when it runs.
-    has_one_value();
+    one_value_law();
     match tree.as_number() {
         Some(token) => nano(token).ok(),
         None => None,
@@ -27,7 +27,7 @@ fn longitude(tree: &Tree) -> Option<i64>
 fn latitude(tree: &Tree) -> Option<i64>
     ensures { ReadsAngle quarter_turn (tree_view tree.now) result }
 {
-    has_one_value();
+    one_value_law();
     match longitude(tree) {
         Some(n) if -QUARTER_TURN <= n && n <= QUARTER_TURN => Some(n),
         _ => None,

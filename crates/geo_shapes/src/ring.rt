@@ -9,7 +9,7 @@ use crate::gathered::Gathered;
 use crate::position::{count, maybe_position, points};
 use crate::read_geometry::ReadGeometry;
 use exact_json::Tree;
-use geo_decimal::has_one_value;
+use geo_decimal::one_value_law;
 use std::alloc::Global;
 use venue_types::{List, OutOfMemory, Point, Ring};
 
@@ -28,7 +28,7 @@ fn is_open(trees: &[Tree], points: &Option<Vec<Point>>) -> bool
     requires { ReadsPositions (map tree_view trees.now) points.now }
     ensures { IsTrue result ↔ IsOpen (map tree_view trees.now) }
 {
-    has_one_value();
+    one_value_law();
     match points {
         Some(points) => are_apart(points.first().copied(), points.last().copied()),
         None => are_apart(maybe_position(trees.first()), maybe_position(trees.last())),
@@ -65,7 +65,7 @@ fn closed(points: Option<Vec<Point>>, bad_form: bool) -> Option<Ring>
 pub(crate) fn ring(alloc: Global, tree: &Tree) -> Result<ReadGeometry<Ring>, OutOfMemory>
     ensures { IfOk result (ReadsRing (tree_view tree.now)) }
 {
-    has_one_value();
+    one_value_law();
     let trees = match tree.as_items() {
         Some(trees) => trees,
         None => return Ok(ReadGeometry::no_list()),

@@ -7,28 +7,28 @@ use Rattle.imdf_access.specs.Access.{End, unit, opening, elsewhere, IsAllowed, f
 use Rattle.imdf_access.specs.Parts.{PassesWay, PassesEnd, PassesFacts, end_facts}
 
 -- what asks in the first place, or in the second
-first_asks : (a b : Bool) → IsTrue a → IsTrue (a || b)
+pub first_asks : (a b : Bool) → IsTrue a → IsTrue (a || b)
 first_asks true b h = refl
 first_asks false b h = absurd (cc)
 
-second_asks : (a b : Bool) → IsTrue b → IsTrue (a || b)
+pub second_asks : (a b : Bool) → IsTrue b → IsTrue (a || b)
 second_asks true b h = refl
 second_asks false b h = h
 
-either_asks : {P : Type 0} (a b : Bool) → (IsTrue a → P) → (IsTrue b → P) → IsTrue (a || b) → P
+pub either_asks : {P : Type 0} (a b : Bool) → (IsTrue a → P) → (IsTrue b → P) → IsTrue (a || b) → P
 either_asks true b f g h = f refl
 either_asks false b f g h = g h
 
 -- neither holds where one of them doesn't
-neither : (a b : Bool) → a ≡ false → b ≡ false → (a || b) ≡ false
+pub neither : (a b : Bool) → a ≡ false → b ≡ false → (a || b) ≡ false
 neither true b e f = e
 neither false b e f = f
 
-first_neither : (a b : Bool) → (a || b) ≡ false → a ≡ false
+pub first_neither : (a b : Bool) → (a || b) ≡ false → a ≡ false
 first_neither true b e = e
 first_neither false b e = refl
 
-second_neither : (a b : Bool) → (a || b) ≡ false → b ≡ false
+pub second_neither : (a b : Bool) → (a || b) ≡ false → b ≡ false
 second_neither true b e = absurd (cc)
 second_neither false b e = e
 

@@ -3,6 +3,7 @@ use Rattle.std.proofs.Common.{◌≡◌, ◌≢◌, ◌∙◌, ℕ, ◌-◌, ◌
 use Rattle.std.specs.Prelude.{Contains, slice_get, sum_by}
 use Rattle.std.specs.List.{AllZip}
 use Rattle.std.proofs.lemmas.Bool.Decides.{Decides-ltb}
+use Rattle.venue_types.proofs.Items.{Contains-nil}
 use Rattle.exact_json.specs.Json.{Json}
 use Rattle.venue_types.specs.declared.files.Files.{Files}
 use Rattle.venue_types.specs.declared.files.Slot.{Slot}
@@ -11,24 +12,25 @@ use Rattle.venue_types.specs.declared.finding.Finding.{Finding}
 use Rattle.venue_types.specs.declared.finding.Note.{Note}
 use Rattle.report_laws.specs.Reports.{IsReport, IsNoteList}
 use Rattle.report_laws.proofs.Phases.{Lists-same}
-use Rattle.report_laws.proofs.Members.{Contains-nil}
 use Rattle.report_laws.specs.Order.{finding_cmp, note_cmp}
 use Rattle.imdf_schema.specs.declared.files.File.{File}
 use Rattle.imdf_schema.specs.declared.files.File.TheVariants as file
 use Rattle.imdf_schema.specs.Files.{file_number, feature_files}
 use Rattle.imdf_schema.specs.Contents.{IsContent, content_items}
 use Rattle.imdf_rows.specs.Folder.{AreRows, AreFeatures}
-use Rattle.imdf_read.specs.declared.rules.Rule.{Rule}
-use Rattle.imdf_read.specs.declared.rules.Rule.TheVariants.{F1, F2, F3, F4, M1, M2, M3, C1, C2, C3, C4, C5, C6, V1, L1, Q1, S1, S2, S3, S4, G1, G2}
-use Rattle.imdf_read.specs.declared.rules.NoteKind.{NoteKind}
-use Rattle.imdf_read.specs.declared.rules.NoteKind.TheVariants.{N1, N2, N5}
+use Rattle.imdf_read.specs.declared.rules.ReadingRule.{ReadingRule}
+use Rattle.imdf_read.specs.declared.rules.ReadingRule.TheVariants.{F1, F2, F3, F4, M1, M2, M3, C1, C2, C3, C4, C5, C6, V1, L1, Q1, S1, S2, S3, S4, G1, G2}
+use Rattle.imdf_read.specs.declared.rules.ReadingNote.{ReadingNote}
+use Rattle.imdf_read.specs.declared.rules.ReadingNote.TheVariants.{N1, N2, N5}
 use Rattle.imdf_read.specs.declared.progress.Progress.{Progress}
-use Rattle.imdf_read.specs.Rules.{rule_number, note_number}
+use Rattle.imdf_schema.specs.Rules.{rule_number, note_number}
+use Rattle.imdf_read.specs.Rules.{rule_of, note_of}
 use Rattle.imdf_read.specs.Counts.{collected, total_positions}
 use Rattle.imdf_read.specs.Broken.{FolderBreaks, BreaksInFolder, BreaksInFile, BreaksInItem, IsBroken}
 use Rattle.imdf_read.specs.Noted.{ItemNotes, IsNoted}
 use Rattle.report_laws.specs.Passes.{Adds}
-use Rattle.imdf_read.specs.Gathering.{finding_at, note_at, FindsInFile}
+use Rattle.imdf_schema.specs.Places.{finding_at, note_at}
+use Rattle.imdf_read.specs.Gathering.{FindsInFile}
 use Rattle.imdf_read.specs.Progress.{FoundUpTo, NotedUpTo, CountsUpTo, IsUpTo, HasRows, HaveRows}
 use Rattle.report_laws.proofs.Adding.{Adds-then}
 use Rattle.imdf_schema.proofs.FileNumbers.{up_to_16}
@@ -44,15 +46,15 @@ abbrev build_note : ℕ → ℕ → ℕ → ℕ → Note
 build_note n f i m = record { note = n; file = f; index = i; member = m }
 
 -- a finding is made of its parts
-made_of : (x : Finding) (r : Rule) (f : File) (i m : ℕ) → x.rule ≡ rule_number r → x.file ≡ file_number f → x.index ≡ i → x.member ≡ m → x ≡ finding_at r f i m
+made_of : (x : Finding) (r : ReadingRule) (f : File) (i m : ℕ) → x.rule ≡ rule_number (rule_of r) → x.file ≡ file_number f → x.index ≡ i → x.member ≡ m → x ≡ finding_at (rule_of r) f i m
 made_of x r f i m rule in_file at_index at_member =
-    ap (λ (n : ℕ). build n x.file x.index x.member) rule ∙ ap (λ (n : ℕ). build (rule_number r) n x.index x.member) in_file
-    ∙ ap (λ (n : ℕ). build (rule_number r) (file_number f) n x.member) at_index ∙ ap (λ (n : ℕ). build (rule_number r) (file_number f) i n) at_member
+    ap (λ (n : ℕ). build n x.file x.index x.member) rule ∙ ap (λ (n : ℕ). build (rule_number (rule_of r)) n x.index x.member) in_file
+    ∙ ap (λ (n : ℕ). build (rule_number (rule_of r)) (file_number f) n x.member) at_index ∙ ap (λ (n : ℕ). build (rule_number (rule_of r)) (file_number f) i n) at_member
 
-note_of : (x : Note) (kind : NoteKind) (f : File) (i : ℕ) → x.note ≡ note_number kind → x.file ≡ file_number f → x.index ≡ i → x.member ≡ 0 → x ≡ note_at kind f i
-note_of x kind f i note in_file at_index at_member =
-    ap (λ (n : ℕ). build_note n x.file x.index x.member) note ∙ ap (λ (n : ℕ). build_note (note_number kind) n x.index x.member) in_file
-    ∙ ap (λ (n : ℕ). build_note (note_number kind) (file_number f) n x.member) at_index ∙ ap (λ (n : ℕ). build_note (note_number kind) (file_number f) i n) at_member
+note_made_of : (x : Note) (kind : ReadingNote) (f : File) (i : ℕ) → x.note ≡ note_number (note_of kind) → x.file ≡ file_number f → x.index ≡ i → x.member ≡ 0 → x ≡ note_at (note_of kind) f i 0
+note_made_of x kind f i note in_file at_index at_member =
+    ap (λ (n : ℕ). build_note n x.file x.index x.member) note ∙ ap (λ (n : ℕ). build_note (note_number (note_of kind)) n x.index x.member) in_file
+    ∙ ap (λ (n : ℕ). build_note (note_number (note_of kind)) (file_number f) n x.member) at_index ∙ ap (λ (n : ℕ). build_note (note_number (note_of kind)) (file_number f) i n) at_member
 
 -- a place in a file is one where a rule is broken
 file_broken : (files : Files) (x : Finding) → FoundUpTo files.slots 16 x → IsBroken files x
@@ -88,7 +90,7 @@ file_broken files x h = elim h.finds [
       }
 ]
 
-in_file_found : (files : Files) (x : Finding) (r : Rule) → x.rule ≡ rule_number r → BreaksInFile files r x → FoundUpTo files.slots 16 x
+in_file_found : (files : Files) (x : Finding) (r : ReadingRule) → x.rule ≡ rule_number (rule_of r) → BreaksInFile files r x → FoundUpTo files.slots 16 x
 in_file_found files x r number b = record {
   source = b.source;
   under = at_most_16 b.source;
@@ -97,7 +99,7 @@ in_file_found files x r number b = record {
   finds = inl (record { rule = r; breaks = b.breaks; is = made_of x r b.source 0 0 number b.at.in_file b.at.at_index b.at.at_member });
 }
 
-in_item_found : (files : Files) (x : Finding) (r : Rule) → x.rule ≡ rule_number r → BreaksInItem files r x → FoundUpTo files.slots 16 x
+in_item_found : (files : Files) (x : Finding) (r : ReadingRule) → x.rule ≡ rule_number (rule_of r) → BreaksInItem files r x → FoundUpTo files.slots 16 x
 in_item_found files x r number b = record {
   source = b.source;
   under = at_most_16 b.source;
@@ -119,17 +121,17 @@ in_item_found files x r number b = record {
 }
 
 -- a rule on the folder
-abbrev pub InFolder : Files → Rule → Finding → Type 0
-InFolder files r x = FolderBreaks r files × (x ≡ finding_at r file.Manifest 0 0)
+abbrev pub InFolder : Files → ReadingRule → Finding → Type 0
+InFolder files r x = FolderBreaks r files × (x ≡ finding_at (rule_of r) file.Manifest 0 0)
 
-folder_broken : (files : Files) (x : Finding) (r : Rule) → InFolder files r x → IsBroken files x
+folder_broken : (files : Files) (x : Finding) (r : ReadingRule) → InFolder files r x → IsBroken files x
 folder_broken files x r h = record {
   rule = r;
   number = ap (λ (z : Finding). z.rule) h.1;
   breaks = inl (h.0, record { in_file = ap (λ (z : Finding). z.file) h.1; at_index = ap (λ (z : Finding). z.index) h.1; at_member = ap (λ (z : Finding). z.member) h.1 });
 }
 
-in_folder : (files : Files) (x : Finding) (r : Rule) → x.rule ≡ rule_number r → BreaksInFolder files r x → InFolder files S1 x ⊎ InFolder files S2 x
+in_folder : (files : Files) (x : Finding) (r : ReadingRule) → x.rule ≡ rule_number (rule_of r) → BreaksInFolder files r x → InFolder files S1 x ⊎ InFolder files S2 x
 in_folder files x S1 number b = inl (b.0, made_of x S1 file.Manifest 0 0 number b.1.in_file b.1.at_index b.1.at_member)
 in_folder files x S2 number b = inr (b.0, made_of x S2 file.Manifest 0 0 number b.1.in_file b.1.at_index b.1.at_member)
 in_folder files x F1 number b = absurd b.0
@@ -199,7 +201,7 @@ long_back files items positions e counts b =
 
 -- the report: what was gathered of the files, and the two rules on the folder
 pub report : (files : Files) (p : Progress) (y z : Finding) (b d out : List Finding) → length files.slots ≡ 17 → IsUpTo files.slots 16 p
-    → y ≡ finding_at S1 file.Manifest 0 0 → z ≡ finding_at S2 file.Manifest 0 0
+    → y ≡ finding_at (rule_of S1) file.Manifest 0 0 → z ≡ finding_at (rule_of S2) file.Manifest 0 0
     → ((P : Finding → Type 0) → (nat_lt 100000 p.items ≡ true → P y) → ((x : Finding) → P x → (nat_lt 100000 p.items ≡ true) × (x ≡ y)) → Adds P p.gathered.findings.items b)
     → ((P : Finding → Type 0) → (nat_lt 1000000 p.positions ≡ true → P z) → ((x : Finding) → P x → (nat_lt 1000000 p.positions ≡ true) × (x ≡ z)) → Adds P b d)
     → IsReport (Contains d) out → IsReport (IsBroken files) out
@@ -222,7 +224,7 @@ report files p y z b d out e up ys zs one two listed =
     listed
 
 -- notes are due in feature files alone
-noted_feature : (kind : NoteKind) (f : File) (v : Json) → ItemNotes kind f v → f ≢ file.Manifest
+noted_feature : (kind : ReadingNote) (f : File) (v : Json) → ItemNotes kind f v → f ≢ file.Manifest
 noted_feature N1 f v h e = let is : f ≡ file.Unit = h.0 in cc
 noted_feature N2 f v h e = let is : f ≡ file.Relationship = h.0 in cc
 noted_feature N5 f v h e = let is : f ≡ file.Unit = h.0 in cc
@@ -260,7 +262,7 @@ noted_back files x h = record {
       place = x.index;
       item = h.feature;
       there = h.there;
-      notes = record { kind = h.kind; sound = h.sound; due = h.notes; is = note_of x h.kind h.source x.index h.number h.at_file refl h.at_member };
+      notes = record { kind = h.kind; sound = h.sound; due = h.notes; is = note_made_of x h.kind h.source x.index h.number h.at_file refl h.at_member };
     },
   );
 }

@@ -18,11 +18,13 @@ use Rattle.imdf_schema.specs.Files.{geometry_of}
 use Rattle.imdf_schema.specs.Items.{is_feature, geometry, fits_geometry}
 use Rattle.imdf_rows.specs.declared.figure.Figure.{Figure}
 use Rattle.imdf_rows.specs.Figures.{HasFigure}
-use Rattle.imdf_read.specs.declared.rules.Rule.TheVariants.{C2, C5, G1, G2}
+use Rattle.imdf_read.specs.declared.rules.ReadingRule.TheVariants.{C2, C5, G1, G2}
 use Rattle.imdf_read.specs.declared.figures.Judged.{Judged}
 use Rattle.imdf_read.specs.Counts.{places_of, is_judged, item_positions}
 use Rattle.report_laws.specs.Passes.{Adds}
-use Rattle.imdf_read.specs.Gathering.{FindsInItem, FindsInItems, NotesInItem, NotesInItems, finding_at}
+use Rattle.imdf_schema.specs.Places.{finding_at}
+use Rattle.imdf_read.specs.Rules.{rule_of}
+use Rattle.imdf_read.specs.Gathering.{FindsInItem, FindsInItems, NotesInItem, NotesInItems}
 use Rattle.imdf_read.specs.Judging.{IsJudged, StandsFor}
 use Rattle.report_laws.proofs.Adding.{Adds-same, Among}
 
@@ -40,9 +42,9 @@ stands kind.Unjudged item f h = h
 -- an item of which no rule is broken is judged
 sound_judged : (f : File) (i : ℕ) (item : Json) → ((x : Finding) → ¬ FindsInItem f i item x) → is_judged f item ≡ true
 sound_judged f i item sound = elim (cases_Bool (is_feature item)) [
-  | inr not ↦ absurd (sound (finding_at C2 f i 0) (record { rule = C2; finds = record { breaks = (not, refl); is = refl } }))
+  | inr not ↦ absurd (sound (finding_at (rule_of C2) f i 0) (record { rule = C2; finds = record { breaks = (not, refl); is = refl } }))
   | inl feature ↦ elim (cases_Bool (fits_geometry (geometry_of f) (geometry item))) [
-    | inr unfit ↦ absurd (sound (finding_at C5 f i 0) (record { rule = C5; finds = record { breaks = (feature, unfit, refl); is = refl } }))
+    | inr unfit ↦ absurd (sound (finding_at (rule_of C5) f i 0) (record { rule = C5; finds = record { breaks = (feature, unfit, refl); is = refl } }))
     | inl fits ↦ ap (λ (b : Bool). b && fits_geometry (geometry_of f) (geometry item)) feature ∙ fits
   ]
 ]
@@ -52,8 +54,8 @@ pub sound_figure : (f : File) (i : ℕ) (item : Json) (j : Judged) → IsJudged 
 sound_figure f i item j judged sound =
     let ours = sound_judged f i item sound in
     let read = judged.read ours in
-    let position = flag_down j.bad_position (λ e. sound (finding_at G1 f i 0) (record { rule = G1; finds = record { breaks = (ours, read.bad_position.0 e, refl); is = refl } })) in
-    let form = flag_down j.bad_form (λ e. sound (finding_at G2 f i 0) (record { rule = G2; finds = record { breaks = (ours, read.bad_form.0 e, refl); is = refl } })) in
+    let position = flag_down j.bad_position (λ e. sound (finding_at (rule_of G1) f i 0) (record { rule = G1; finds = record { breaks = (ours, read.bad_position.0 e, refl); is = refl } })) in
+    let form = flag_down j.bad_form (λ e. sound (finding_at (rule_of G2) f i 0) (record { rule = G2; finds = record { breaks = (ours, read.bad_form.0 e, refl); is = refl } })) in
     stands (geometry_of f) item j.figure (read.figure position form)
 
 chosen_positions : (b : Bool) (n p : ℕ) → (b ≡ true → p ≡ min n (2 ^ 64 - 1)) → (b ≡ false → p ≡ 0) → p ≡ min (cond b n 0) (2 ^ 64 - 1)

@@ -13,20 +13,22 @@ use Rattle.imdf_schema.specs.declared.files.File.TheVariants as file
 use Rattle.imdf_schema.specs.Items.{is_collection, items_in}
 use Rattle.imdf_schema.specs.Contents.{IsContent, content_items, HasValue, IsLarge, IsNoText, IsDeep}
 use Rattle.imdf_read.specs.declared.items.Taken.{Taken}
-use Rattle.imdf_read.specs.declared.rules.Rule.{Rule}
-use Rattle.imdf_read.specs.declared.rules.Rule.TheVariants.{F1, F2, F3, F4, M1, M2, M3, C1, C2, C3, C4, C5, C6, V1, L1, Q1, S1, S2, S3, S4, G1, G2}
+use Rattle.imdf_read.specs.declared.rules.ReadingRule.{ReadingRule}
+use Rattle.imdf_read.specs.declared.rules.ReadingRule.TheVariants.{F1, F2, F3, F4, M1, M2, M3, C1, C2, C3, C4, C5, C6, V1, L1, Q1, S1, S2, S3, S4, G1, G2}
 use Rattle.imdf_read.specs.Broken.{FileBreaks}
 use Rattle.report_laws.specs.Passes.{Adds}
-use Rattle.imdf_read.specs.Gathering.{finding_at, FindsInSlot, FindsInItems, FindsInFile, NotesInItems, NotesInFile}
+use Rattle.imdf_schema.specs.Places.{finding_at}
+use Rattle.imdf_read.specs.Rules.{rule_of}
+use Rattle.imdf_read.specs.Gathering.{FindsInSlot, FindsInItems, FindsInFile, NotesInItems, NotesInFile}
 use Rattle.imdf_read.specs.Taking.{Takes, TakesItems, TakesNothing, HasOnlyValue, HasFault, IsTextOf}
 use Rattle.report_laws.proofs.Adding.{Adds-same, Adds-then, Adds-none}
 
 -- one rule on the file
-abbrev pub Whole : File → Slot → Rule → Finding → Type 0
-Whole f slot r x = FileBreaks r f slot × (x ≡ finding_at r f 0 0)
+abbrev pub Whole : File → Slot → ReadingRule → Finding → Type 0
+Whole f slot r x = FileBreaks r f slot × (x ≡ finding_at (rule_of r) f 0 0)
 
-pub adds_whole : (f : File) (slot : Slot) (r : Rule) (broken : Bool) (place : Finding) (old new : List Finding)
-    → (broken ≡ true → FileBreaks r f slot) → (FileBreaks r f slot → broken ≡ true) → place ≡ finding_at r f 0 0
+pub adds_whole : (f : File) (slot : Slot) (r : ReadingRule) (broken : Bool) (place : Finding) (old new : List Finding)
+    → (broken ≡ true → FileBreaks r f slot) → (FileBreaks r f slot → broken ≡ true) → place ≡ finding_at (rule_of r) f 0 0
     → ((P : Finding → Type 0) → (broken ≡ true → P place) → ((x : Finding) → P x → (broken ≡ true) × (x ≡ place)) → Adds P old new)
     → Adds (Whole f slot r) old new
 adds_whole f slot r broken place old new into back is adds = adds (Whole f slot r) (λ h. (into h, is)) (λ x h. (back h.0, h.1 ∙ sym is))
@@ -62,7 +64,7 @@ one_content slot v known None h = absurd (h v known.has)
 one_content slot v known (Some w) h = ap Some (known.only w (text_of slot w h))
 
 -- the rules on a file that has a value
-value_rules : (f : File) (slot : Slot) (v : Json) → f ≢ file.Manifest → HasOnlyValue slot v → (r : Rule) → FileBreaks r f slot → (r ≡ C1) ⊎ (r ≡ V1)
+value_rules : (f : File) (slot : Slot) (v : Json) → f ≢ file.Manifest → HasOnlyValue slot v → (r : ReadingRule) → FileBreaks r f slot → (r ≡ C1) ⊎ (r ≡ V1)
 value_rules f slot v features known C1 b = inl refl
 value_rules f slot v features known V1 b = inr refl
 value_rules f slot v features known F1 b = absurd (features b.0)
@@ -93,7 +95,7 @@ not_true : (b : Bool) → not b ≡ true → b ≡ false
 not_true true e = cc
 not_true false e = refl
 
-pub adds_collection : (f : File) (slot : Slot) (v : Json) (is : Bool) (place : Finding) (old new : List Finding) → f ≢ file.Manifest → HasOnlyValue slot v → is ≡ is_collection v → place ≡ finding_at C1 f 0 0
+pub adds_collection : (f : File) (slot : Slot) (v : Json) (is : Bool) (place : Finding) (old new : List Finding) → f ≢ file.Manifest → HasOnlyValue slot v → is ≡ is_collection v → place ≡ finding_at (rule_of C1) f 0 0
     → ((P : Finding → Type 0) → (not is ≡ true → P place) → ((x : Finding) → P x → (not is ≡ true) × (x ≡ place)) → Adds P old new)
     → Adds (Whole f slot C1) old new
 adds_collection f slot v is place old new features known same at adds =
@@ -103,7 +105,7 @@ adds_collection f slot v is place old new features known same at adds =
     at adds
 
 pub adds_not_one : (f : File) (slot : Slot) (v : Json) (is broken : Bool) (items : ℕ) (place : Finding) (old new : List Finding) → HasOnlyValue slot v → is ≡ is_collection v → items ≡ length (items_in v)
-    → (IsTrue broken ↔ ((f ≡ file.Venue) × (is ≡ true) × (items ≢ 1))) → place ≡ finding_at V1 f 0 0
+    → (IsTrue broken ↔ ((f ≡ file.Venue) × (is ≡ true) × (items ≢ 1))) → place ≡ finding_at (rule_of V1) f 0 0
     → ((P : Finding → Type 0) → (broken ≡ true → P place) → ((x : Finding) → P x → (broken ≡ true) × (x ≡ place)) → Adds P old new)
     → Adds (Whole f slot V1) old new
 adds_not_one f slot v is broken items place old new known same count decides at adds =
@@ -118,8 +120,8 @@ adds_not_one f slot v is broken items place old new known same count decides at 
     at adds
 
 whole_part : (f : File) (slot : Slot) (v : Json) (x : Finding) (h : FindsInSlot f slot x) → (h.rule ≡ C1) ⊎ (h.rule ≡ V1) → Whole f slot C1 x ⊎ (FindsInItems f (items_in v) x ⊎ Whole f slot V1 x)
-whole_part f slot v x h (inl e) = inl (subst (λ (r : Rule). FileBreaks r f slot) e h.breaks, h.is ∙ ap (λ (r : Rule). finding_at r f 0 0) e)
-whole_part f slot v x h (inr e) = inr (inr (subst (λ (r : Rule). FileBreaks r f slot) e h.breaks, h.is ∙ ap (λ (r : Rule). finding_at r f 0 0) e))
+whole_part f slot v x h (inl e) = inl (subst (λ (r : ReadingRule). FileBreaks r f slot) e h.breaks, h.is ∙ ap (λ (r : ReadingRule). finding_at (rule_of r) f 0 0) e)
+whole_part f slot v x h (inr e) = inr (inr (subst (λ (r : ReadingRule). FileBreaks r f slot) e h.breaks, h.is ∙ ap (λ (r : ReadingRule). finding_at (rule_of r) f 0 0) e))
 
 -- what a file that has a value adds
 pub value_adds : (f : File) (slot : Slot) (v : Json) (a b c d : List Finding) → f ≢ file.Manifest → HasOnlyValue slot v
@@ -171,12 +173,12 @@ no_notes f slot none o held x h =
     cc
 
 -- what a file without a value adds, where one rule alone can be broken
-pub no_value_adds : (f : File) (slot : Slot) (r : Rule) (a b : List Finding) → ((v : Json) → ¬ HasValue slot v) → ((q : Rule) → FileBreaks q f slot → q ≡ r)
+pub no_value_adds : (f : File) (slot : Slot) (r : ReadingRule) (a b : List Finding) → ((v : Json) → ¬ HasValue slot v) → ((q : ReadingRule) → FileBreaks q f slot → q ≡ r)
     → Adds (Whole f slot r) a b → Adds (FindsInFile f slot) a b
 no_value_adds f slot r a b none one adds = Adds-same (FindsInFile f slot) adds
     (λ x h. inl (record { rule = r; breaks = h.0; is = h.1 }))
     (λ x h. elim h [
-      | inl whole ↦ let e = one whole.rule whole.breaks in (subst (λ (q : Rule). FileBreaks q f slot) e whole.breaks, whole.is ∙ ap (λ (q : Rule). finding_at q f 0 0) e)
+      | inl whole ↦ let e = one whole.rule whole.breaks in (subst (λ (q : ReadingRule). FileBreaks q f slot) e whole.breaks, whole.is ∙ ap (λ (q : ReadingRule). finding_at (rule_of q) f 0 0) e)
       | inr item ↦ absurd (no_finds f slot none item.0 item.1 x item.2)
     ])
 
@@ -194,7 +196,7 @@ no_value_takes {Row} IsRow f slot taken none nothing = record {
 }
 
 -- the rules on a file that is absent
-pub absent_rules : (f : File) → f ≢ file.Manifest → (q : Rule) → FileBreaks q f Absent → q ≡ V1
+pub absent_rules : (f : File) → f ≢ file.Manifest → (q : ReadingRule) → FileBreaks q f Absent → q ≡ V1
 absent_rules f features V1 b = refl
 absent_rules f features F1 b = absurd (features b.0)
 absent_rules f features F2 b = absurd b
@@ -231,7 +233,7 @@ pub text_deep : (slot : Slot) → IsNoText slot → IsDeep slot → ⊥
 text_deep Absent none deep = none
 text_deep (Held bytes) none deep = none.1 deep.1.0 deep.1.1
 
-pub fault_value : (r : Rule) (slot : Slot) → HasFault r slot → (v : Json) → ¬ HasValue slot v
+pub fault_value : (r : ReadingRule) (slot : Slot) → HasFault r slot → (v : Json) → ¬ HasValue slot v
 fault_value F2 slot fault v h = not_large slot v h fault
 fault_value F3 slot fault v h = some_text slot v h fault
 fault_value F4 slot fault v h = fault.1 v h
@@ -255,7 +257,7 @@ fault_value S4 slot fault v h = fault
 fault_value G1 slot fault v h = fault
 fault_value G2 slot fault v h = fault
 
-pub fault_there : (r : Rule) (slot : Slot) → HasFault r slot → slot ≡ Absent → ⊥
+pub fault_there : (r : ReadingRule) (slot : Slot) → HasFault r slot → slot ≡ Absent → ⊥
 fault_there F2 Absent fault e = fault
 fault_there F3 Absent fault e = fault
 fault_there F4 Absent fault e = fault.0
@@ -282,11 +284,11 @@ fault_there S4 slot fault e = fault
 fault_there G1 slot fault e = fault
 fault_there G2 slot fault e = fault
 
-abbrev IsOneOf : Slot → Rule → Type 0
+abbrev IsOneOf : Slot → ReadingRule → Type 0
 IsOneOf slot q = ((q ≡ F2) × IsLarge slot) ⊎ (((q ≡ F3) × IsNoText slot) ⊎ ((q ≡ F4) × IsDeep slot))
 
 -- what may be broken by a file that is there and has no value
-fault_of : (f : File) (slot : Slot) → f ≢ file.Manifest → ((v : Json) → ¬ HasValue slot v) → (slot ≡ Absent → ⊥) → (q : Rule) → FileBreaks q f slot → IsOneOf slot q
+fault_of : (f : File) (slot : Slot) → f ≢ file.Manifest → ((v : Json) → ¬ HasValue slot v) → (slot ≡ Absent → ⊥) → (q : ReadingRule) → FileBreaks q f slot → IsOneOf slot q
 fault_of f slot features none there F2 b = inl (refl, b)
 fault_of f slot features none there F3 b = inr (inl (refl, b))
 fault_of f slot features none there F4 b = inr (inr (refl, b))
@@ -311,7 +313,7 @@ fault_of f slot features none there G1 b = absurd b
 fault_of f slot features none there G2 b = absurd b
 
 -- the cause of a fault is broken, and no other rule
-pub fault_breaks : (f : File) (slot : Slot) (r : Rule) → f ≢ file.Manifest → HasFault r slot → FileBreaks r f slot × ((q : Rule) → FileBreaks q f slot → q ≡ r)
+pub fault_breaks : (f : File) (slot : Slot) (r : ReadingRule) → f ≢ file.Manifest → HasFault r slot → FileBreaks r f slot × ((q : ReadingRule) → FileBreaks q f slot → q ≡ r)
 fault_breaks f slot F2 features fault = (
   fault,
   (λ q b. elim (fault_of f slot features (fault_value F2 slot fault) (fault_there F2 slot fault) q b) [
@@ -353,17 +355,17 @@ fault_breaks f slot S4 features fault = absurd fault
 fault_breaks f slot G1 features fault = absurd fault
 fault_breaks f slot G2 features fault = absurd fault
 
-pub fault_adds : (f : File) (slot : Slot) (r : Rule) (place : Finding) (old new : List Finding) → f ≢ file.Manifest → HasFault r slot → place ≡ finding_at r f 0 0
+pub fault_adds : (f : File) (slot : Slot) (r : ReadingRule) (place : Finding) (old new : List Finding) → f ≢ file.Manifest → HasFault r slot → place ≡ finding_at (rule_of r) f 0 0
     → ((P : Finding → Type 0) → (true ≡ true → P place) → ((x : Finding) → P x → (true ≡ true) × (x ≡ place)) → Adds P old new)
     → Adds (FindsInFile f slot) old new
 fault_adds f slot r place old new features fault is adds =
     let known = fault_breaks f slot r features fault in
     no_value_adds f slot r old new (fault_value r slot fault) known.1 (adds_whole f slot r true place old new (λ h. known.0) (λ b. refl) is adds)
 
-pub fault_notes : (f : File) (slot : Slot) (r : Rule) (a : List Note) → HasFault r slot → Adds (NotesInFile f slot) a a
+pub fault_notes : (f : File) (slot : Slot) (r : ReadingRule) (a : List Note) → HasFault r slot → Adds (NotesInFile f slot) a a
 fault_notes f slot r a fault = no_value_notes f slot a (fault_value r slot fault)
 
-pub fault_takes : {Row : Type 0} (IsRow : Json → Row → Type 0) (f : File) (slot : Slot) (r : Rule) (taken : Taken Row) → HasFault r slot → TakesNothing taken → Takes IsRow f slot taken
+pub fault_takes : {Row : Type 0} (IsRow : Json → Row → Type 0) (f : File) (slot : Slot) (r : ReadingRule) (taken : Taken Row) → HasFault r slot → TakesNothing taken → Takes IsRow f slot taken
 fault_takes IsRow f slot r taken fault nothing = no_value_takes IsRow f slot taken (fault_value r slot fault) nothing
 
 -- a file that was read is known

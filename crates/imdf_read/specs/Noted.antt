@@ -11,12 +11,13 @@ use Rattle.imdf_schema.specs.Files.{file_number}
 use Rattle.imdf_schema.specs.Items.{is_feature}
 use Rattle.imdf_schema.specs.Items as item
 use Rattle.imdf_schema.specs.Contents.{HasContent, content_items}
-use Rattle.imdf_read.specs.declared.rules.NoteKind.{NoteKind}
-use Rattle.imdf_read.specs.declared.rules.NoteKind.TheVariants.{N1, N2, N5}
-use Rattle.imdf_read.specs.Rules.{note_number}
+use Rattle.imdf_read.specs.declared.rules.ReadingNote.{ReadingNote}
+use Rattle.imdf_read.specs.declared.rules.ReadingNote.TheVariants.{N1, N2, N5}
+use Rattle.imdf_schema.specs.Rules.{note_number}
+use Rattle.imdf_read.specs.Rules.{note_of}
 
 -- what is noted of an item that is a feature
-abbrev pub ItemNotes : NoteKind → File → Json → Type 0
+abbrev pub ItemNotes : ReadingNote → File → Json → Type 0
 -- a unit's category is none of the known ones
 ItemNotes N1 f v = (f ≡ file.Unit) × ((category : List ℕ) × (text_bytes (item.property v property.Category) ≡ Some category) × (is_known_unit category ≡ false))
 -- a relationship's category makes no passage
@@ -26,8 +27,8 @@ ItemNotes N5 f v = (f ≡ file.Unit) × ((text : List ℕ) × (text_bytes (item.
 
 -- a note is due there
 pub record IsNoted (files : Files) (x : Note) : Type 0 where
-  pub kind : NoteKind
-  pub number : x.note ≡ note_number kind
+  pub kind : ReadingNote
+  pub number : x.note ≡ note_number (note_of kind)
   pub source : File
   pub content : Option Json
   pub held : HasContent files source content

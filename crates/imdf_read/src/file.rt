@@ -7,15 +7,16 @@ ghost use Rattle.venue_types.specs.declared.files.Slot.{Slot as ASlot};
 ghost use Rattle.venue_types.specs.declared.files.Slot.TheVariants.{Absent};
 ghost use Rattle.imdf_schema.specs.Files.{geometry_of};
 ghost use Rattle.report_laws.specs.Passes.{Adds};
-ghost use Rattle.imdf_read.specs.Gathering.{finding_at, FindsInFile, FindsInItems, NotesInFile, NotesInItems, IsShort};
+ghost use Rattle.imdf_schema.specs.Places.{finding_at};
+ghost use Rattle.imdf_read.specs.Rules.{rule_of};
+ghost use Rattle.imdf_read.specs.Gathering.{FindsInFile, FindsInItems, NotesInFile, NotesInItems, IsShort};
 ghost use Rattle.imdf_read.specs.Taking.{Serves, Takes, TakesItems, HasOnlyValue, HasFault, TakesNothing, AreShort, AreTexts, trees_of};
 
 use crate::items::{Gathered, Taken, take_items};
-use crate::place::Place;
-use crate::rules::Rule;
+use crate::rules::ReadingRule;
 use exact_json::{JsonFault, Tree, read};
 use imdf_rows::FeatureRow;
-use imdf_schema::{File, is_collection, items};
+use imdf_schema::{File, Place, is_collection, items};
 use report_laws::add;
 use std::alloc::Global;
 use venue_types::{Finding, OutOfMemory, Slot};
@@ -23,10 +24,10 @@ use venue_types::{Finding, OutOfMemory, Slot};
 pub(crate) const MAX_BYTES: usize = 33_554_432;
 
 // The finding of a rule on a file as a whole.
-pub(crate) fn whole(rule: Rule, file: File) -> Finding
-    ensures { result ≡ finding_at rule file 0 0 }
+pub(crate) fn whole(rule: ReadingRule, file: File) -> Finding
+    ensures { result ≡ finding_at (rule_of rule) file 0 0 }
 {
-    Place { file, index: 0 }.finding(rule, 0)
+    Place { file, index: 0 }.finding(rule.rule(), 0)
 }
 
 impl<R: FeatureRow> Taken<R> {
@@ -95,14 +96,18 @@ fn take_tree<R: FeatureRow>(
     ensures taken { IfOk result (λ t. (slot : ASlot) → HasOnlyValue slot (tree_view tree.now) → Takes R.is_row file slot t) }
 {
     let collection = is_collection(Some(tree));
-    add(&mut gathered.findings, !collection, whole(Rule::C1, file))?;
+    add(
+        &mut gathered.findings,
+        !collection,
+        whole(ReadingRule::C1, file),
+    )?;
     let Taken {
         rows,
         items,
         positions,
     } = take_list(alloc, gathered, file, items(Some(tree)))?;
     let broken = is_not_one(file, collection, items);
-    add(&mut gathered.findings, broken, whole(Rule::V1, file))?;
+    add(&mut gathered.findings, broken, whole(ReadingRule::V1, file))?;
     Ok(Taken {
         rows,
         items: counted(collection, items),
@@ -124,7 +129,7 @@ fn take_absent<R: FeatureRow>(
     add(
         &mut gathered.findings,
         file == File::Venue,
-        whole(Rule::V1, file),
+        whole(ReadingRule::V1, file),
     )?;
     Ok(Taken::nothing(alloc))
 }
@@ -134,7 +139,7 @@ fn take_fault<R: FeatureRow>(
     alloc: Global,
     gathered: &mut Gathered,
     file: File,
-    rule: Rule,
+    rule: ReadingRule,
 ) -> Result<Taken<R>, OutOfMemory>
     requires { file ≢ File.Manifest }
     ensures findings { OnOk result ((slot : ASlot) → HasFault rule slot
@@ -165,12 +170,12 @@ pub(crate) fn read_file<R: FeatureRow>(
         Slot::Held(bytes) => bytes.as_slice(),
     };
     if bytes.len() > MAX_BYTES {
-        return take_fault(alloc, gathered, file, Rule::F2);
+        return take_fault(alloc, gathered, file, ReadingRule::F2);
     }
     match read(alloc, bytes) {
         Ok(tree) => take_tree(alloc, gathered, file, &tree),
-        Err(JsonFault::Text) => take_fault(alloc, gathered, file, Rule::F3),
-        Err(JsonFault::Deep) => take_fault(alloc, gathered, file, Rule::F4),
+        Err(JsonFault::Text) => take_fault(alloc, gathered, file, ReadingRule::F3),
+        Err(JsonFault::Deep) => take_fault(alloc, gathered, file, ReadingRule::F4),
         Err(JsonFault::OutOfMemory) => Err(OutOfMemory),
     }
 }

@@ -8,12 +8,10 @@ ghost use Rattle.imdf_read.specs.Gathering.{FindsRule, FindsInGeometry, FindsInI
 ghost use Rattle.imdf_read.specs.Judging.{IsJudged};
 
 use crate::figures::{Judged, judged_geometry};
-use crate::place::Place;
 use crate::plain_rules::judge_plain;
 use crate::property_rule::judge_properties;
-use crate::rules::Rule;
 use exact_json::Tree;
-use imdf_schema::is_feature;
+use imdf_schema::{Place, Rule, is_feature};
 use report_laws::add;
 use std::alloc::Global;
 use venue_types::{Finding, OutOfMemory};

@@ -14,10 +14,9 @@ ghost use Rattle.imdf_read.specs.Taking.{Serves, AreShort, AreTexts, TakesItems}
 use crate::figures::Judged;
 use crate::item::judge_item;
 use crate::note_rules::judge_notes;
-use crate::place::Place;
 use exact_json::Tree;
 use imdf_rows::{FeatureRow, push_row};
-use imdf_schema::File;
+use imdf_schema::{File, Place};
 use std::alloc::Global;
 use venue_types::{Finding, Note, OutOfMemory};
 

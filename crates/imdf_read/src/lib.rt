@@ -8,7 +8,6 @@ mod item;
 mod items;
 mod manifest;
 mod note_rules;
-mod place;
 mod plain_rules;
 mod progress;
 mod property_rule;
@@ -20,4 +19,4 @@ mod tests;
 
 pub use folder::read_folder;
 pub use read_out::ReadOut;
-pub use rules::{NoteKind, Rule};
+pub use rules::{ReadingNote, ReadingRule};

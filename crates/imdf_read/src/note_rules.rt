@@ -9,15 +9,14 @@ ghost use Rattle.imdf_read.specs.Noted.{ItemNotes};
 ghost use Rattle.report_laws.specs.Passes.{Adds};
 ghost use Rattle.imdf_read.specs.Gathering.{NotesBy, NotesInItem};
 
-use crate::place::Place;
-use crate::rules::NoteKind;
+use crate::rules::ReadingNote;
 use exact_json::Tree;
 use imdf_access::{known_unit, passage};
-use imdf_schema::{File, Property, is_feature, property, text};
+use imdf_schema::{File, Place, Property, is_feature, property, text};
 use report_laws::add;
 use venue_types::{Note, OutOfMemory};
 
-static KINDS: [NoteKind; 3] = [NoteKind::N1, NoteKind::N2, NoteKind::N5];
+static KINDS: [ReadingNote; 3] = [ReadingNote::N1, ReadingNote::N2, ReadingNote::N5];
 
 // A category that no rule of units is for.
 fn is_unknown(category: Option<&Tree>) -> bool
@@ -50,14 +49,14 @@ fn is_other(restriction: Option<&Tree>) -> bool
 }
 
 // Whether the note is due.
-fn is_due(kind: NoteKind, file: File, item: &Tree) -> bool
+fn is_due(kind: ReadingNote, file: File, item: &Tree) -> bool
     ensures { IsTrue result ↔ ItemNotes kind file (tree_view item.now) }
 {
     match kind {
-        NoteKind::N1 => file == File::Unit && is_unknown(property(item, Property::Category)),
-        NoteKind::N2 => file == File::Relationship
+        ReadingNote::N1 => file == File::Unit && is_unknown(property(item, Property::Category)),
+        ReadingNote::N2 => file == File::Relationship
             && makes_none(property(item, Property::Category)),
-        NoteKind::N5 => file == File::Unit && is_other(property(item, Property::Restriction)),
+        ReadingNote::N5 => file == File::Unit && is_other(property(item, Property::Restriction)),
     }
 }
 
@@ -66,13 +65,13 @@ fn judge_kinds(
     notes: &mut Vec<Note>,
     place: Place,
     item: &Tree,
-    kinds: &[NoteKind],
+    kinds: &[ReadingNote],
 ) -> Result<(), OutOfMemory>
     ensures { OnOk result (Adds (NotesBy kinds.now place.file place.index (tree_view item.now)) notes.old.items notes.new.items) }
 {
     for kind in kinds {
         let due = is_due(*kind, place.file, item);
-        add(notes, due, place.note(*kind))?;
+        add(notes, due, place.note(kind.kind(), 0))?;
     }
     Ok(())
 }

@@ -6,10 +6,8 @@ ghost use Rattle.imdf_schema.specs.Properties.{properties};
 ghost use Rattle.report_laws.specs.Passes.{Adds};
 ghost use Rattle.imdf_read.specs.Gathering.{FindsBadItem, FindsMisformed, FindsMisformedOf, IsShort};
 
-use crate::place::Place;
-use crate::rules::Rule;
 use exact_json::Tree;
-use imdf_schema::{PropertyRow, fits, item_fits, list_of, properties, property};
+use imdf_schema::{Place, PropertyRow, Rule, fits, item_fits, list_of, properties, property};
 use report_laws::add;
 use std::alloc::Global;
 use venue_types::{Finding, OutOfMemory};

@@ -1,109 +1,86 @@
 //! The rules of the first phase, and the notes.
 
 ghost use Rattle.std.specs.Prelude.{◌≡◌};
-ghost use Rattle.imdf_read.specs.Rules.{rule_number, note_number};
+ghost use Rattle.imdf_read.specs.Rules.{rule_of, note_of};
 
-/// A rule of the first phase.
+use imdf_schema::{NoteKind, Rule};
+
+/// A rule of the first phase, which says what the `Rule` of its name says.
 #[derive(Clone, Copy, Debug, PartialEq, Eq)]
-pub enum Rule {
-    /// The manifest is there.
+pub enum ReadingRule {
     F1,
-    /// A file has at most 33,554,432 bytes.
     F2,
-    /// A file is a JSON text (RFC 8259).
     F3,
-    /// Its lists and objects nest at most 64 deep.
     F4,
-    /// The manifest's version is "1.0.0".
     M1,
-    /// The manifest's `created` is a text.
     M2,
-    /// The manifest's `language` is null or a text.
     M3,
-    /// A feature file is a FeatureCollection (RFC 7946, section 3.3).
     C1,
-    /// An item is a Feature with properties (RFC 7946, section 3.2).
     C2,
-    /// A feature's `id` is an identifier.
     C3,
-    /// A feature's type is that of its file.
     C4,
-    /// A feature's geometry is of the type that its file asks for.
     C5,
-    /// A property is of its form.
     C6,
-    /// There is exactly one venue.
     V1,
-    /// A level's ordinal, rounded to billionths, is a whole number from -180 to 180.
     L1,
-    /// A relationship's direction is one of two words.
     Q1,
-    /// There are at most 100,000 items.
     S1,
-    /// There are at most 1,000,000 positions.
     S2,
-    /// A ring has at most 20,000 positions.
     S3,
-    /// A relationship has at most 65 elements.
     S4,
-    /// A position is one.
     G1,
-    /// A geometry is of its form.
     G2,
 }
 
-/// What is worth a note when a folder is read.
+/// What is worth a note when a folder is read: what the `NoteKind` of its name says.
 #[derive(Clone, Copy, Debug, PartialEq, Eq)]
-pub enum NoteKind {
-    /// The category of a unit is unknown.
+pub enum ReadingNote {
     N1,
-    /// The category of a relationship makes no passage.
     N2,
-    /// The restriction of a unit is an unknown text.
     N5,
 }
 
-impl Rule {
-    /// The number that stands in findings.
-    pub fn number(self) -> u8
-        ensures { result ≡ rule_number self }
+impl ReadingRule {
+    /// The rule among all rules.
+    pub fn rule(self) -> Rule
+        ensures { result ≡ rule_of self }
     {
         match self {
-            Rule::F1 => 1,
-            Rule::F2 => 2,
-            Rule::F3 => 3,
-            Rule::F4 => 4,
-            Rule::M1 => 5,
-            Rule::M2 => 6,
-            Rule::M3 => 7,
-            Rule::C1 => 8,
-            Rule::C2 => 9,
-            Rule::C3 => 10,
-            Rule::C4 => 11,
-            Rule::C5 => 12,
-            Rule::C6 => 13,
-            Rule::V1 => 14,
-            Rule::L1 => 15,
-            Rule::Q1 => 16,
-            Rule::S1 => 17,
-            Rule::S2 => 18,
-            Rule::S3 => 19,
-            Rule::S4 => 20,
-            Rule::G1 => 21,
-            Rule::G2 => 22,
+            ReadingRule::F1 => Rule::F1,
+            ReadingRule::F2 => Rule::F2,
+            ReadingRule::F3 => Rule::F3,
+            ReadingRule::F4 => Rule::F4,
+            ReadingRule::M1 => Rule::M1,
+            ReadingRule::M2 => Rule::M2,
+            ReadingRule::M3 => Rule::M3,
+            ReadingRule::C1 => Rule::C1,
+            ReadingRule::C2 => Rule::C2,
+            ReadingRule::C3 => Rule::C3,
+            ReadingRule::C4 => Rule::C4,
+            ReadingRule::C5 => Rule::C5,
+            ReadingRule::C6 => Rule::C6,
+            ReadingRule::V1 => Rule::V1,
+            ReadingRule::L1 => Rule::L1,
+            ReadingRule::Q1 => Rule::Q1,
+            ReadingRule::S1 => Rule::S1,
+            ReadingRule::S2 => Rule::S2,
+            ReadingRule::S3 => Rule::S3,
+            ReadingRule::S4 => Rule::S4,
+            ReadingRule::G1 => Rule::G1,
+            ReadingRule::G2 => Rule::G2,
         }
     }
 }
 
-impl NoteKind {
-    /// The number that stands in notes.
-    pub fn number(self) -> u8
-        ensures { result ≡ note_number self }
+impl ReadingNote {
+    /// The note among all notes.
+    pub fn kind(self) -> NoteKind
+        ensures { result ≡ note_of self }
     {
         match self {
-            NoteKind::N1 => 1,
-            NoteKind::N2 => 2,
-            NoteKind::N5 => 5,
+            ReadingNote::N1 => NoteKind::N1,
+            ReadingNote::N2 => NoteKind::N2,
+            ReadingNote::N5 => NoteKind::N5,
         }
     }
 }

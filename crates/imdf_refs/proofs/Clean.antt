@@ -1,6 +1,8 @@
 -- What the features name that others have to stand on: each once.
-use Rattle.std.proofs.Common.{◌≡◌, ◌∙◌, ℕ, zero, suc, List, [], ◌∷◌, Some, map, refl, sym, ap, subst}
+use Rattle.std.proofs.Common.{◌≡◌, ◌∙◌, ℕ, List, [], ◌∷◌, Some, map, refl, sym, ap, subst}
 use Rattle.std.specs.Prelude.{Contains, slice_get}
+use Rattle.std.proofs.lemmas.Option.{same_Some}
+use Rattle.venue_types.proofs.Items.{at_member, member_at, at_map, from_map}
 use Rattle.venue_types.specs.declared.feature_id.FeatureId.{FeatureId}
 use Rattle.venue_types.specs.declared.features.Features.{Features}
 use Rattle.venue_types.specs.declared.features.AnchorRow.{AnchorRow}
@@ -16,22 +18,12 @@ use Rattle.imdf_schema.specs.Files.{file_number}
 use Rattle.imdf_schema.specs.Properties.{properties}
 use Rattle.feature_rows.specs.Rows.{ids_of, IsFeature, HaveOwnIds}
 use Rattle.feature_rows.specs.Named.{IsLevel, IsUnit, IsAnchor}
-use Rattle.report_laws.proofs.Adding.{at_map, at_member, member_at}
 use Rattle.imdf_refs.specs.References.{Refers, by_id, file_named, references_in, opening_references, unit_references, anchor_references, amenity_references, occupant_references}
 use Rattle.imdf_refs.specs.Rules.{IsTyped}
 use Rattle.imdf_refs.specs.Laws.{FindsNothing, HasOne, OpeningsHaveLevels, UnitsHaveLevels, AnchorsHaveUnits, AmenitiesHaveUnits, OccupantsHaveAnchors}
-use Rattle.imdf_refs.proofs.FileOrder.{same_number}
+use Rattle.imdf_schema.proofs.FileNumbers.{same_number}
 use Rattle.imdf_refs.proofs.OwnIds.{each_its_own}
 use Rattle.imdf_refs.proofs.Typed.{name_their_types}
-
--- the item of which this is seen
-of_map : {X Y : Type 0} (f : X → Y) (xs : List X) (k : ℕ) (y : Y) → slice_get (map f xs) k ≡ Some y → (x : X) × (slice_get xs k ≡ Some x) × (f x ≡ y)
-of_map f [] k y e = cc
-of_map f (x ∷ xs) zero y e = (x, refl, some_same (f x) y e)
-  where
-    some_same : {Y : Type 0} (a b : Y) → Some a ≡ Some b → a ≡ b
-    some_same a b e = cc
-of_map f (x ∷ xs) (suc k) y e = of_map f xs k y e
 
 -- one row has the name, and no other
 record OneNamed {X : Type 0} (xs : List X) (name : X → FeatureId) (id : FeatureId) : Type 0 where
@@ -44,7 +36,7 @@ one_named : {X : Type 0} (features : Features) (own : HaveOwnIds features) (f : 
     → (id : FeatureId) → IsTyped features id (file_number f) → OneNamed xs name id
 one_named {X} features own f xs name ids id t =
     let in_file : IsFeature features f t.place id = subst (λ (g : File). slice_get (ids_of g features) t.place ≡ Some id) (same_number t.source f t.of_file) t.there in
-    let at = of_map name xs t.place id (subst (λ (l : List FeatureId). slice_get l t.place ≡ Some id) ids in_file) in record {
+    let at = from_map name xs t.place id (subst (λ (l : List FeatureId). slice_get l t.place ≡ Some id) ids in_file) in record {
       row = at.0;
       has = member_at xs t.place at.0 at.1;
       named = at.2;
@@ -53,11 +45,8 @@ one_named {X} features own f xs name ids id t =
           let there : slice_get (ids_of f features) k.0 ≡ Some id =
           subst (λ (l : List FeatureId). slice_get l k.0 ≡ Some id) (sym ids) (at_map name xs k.0 other k.1 ∙ ap (λ (i : FeatureId). Some i) e) in
           let same = (own.own f f k.0 t.place id there in_file).1 in
-          some_same other at.0 (sym k.1 ∙ ap (slice_get xs) same ∙ at.1);
+          same_Some other at.0 (sym k.1 ∙ ap (slice_get xs) same ∙ at.1);
     }
-  where
-    some_same : {X : Type 0} (a b : X) → Some a ≡ Some b → a ≡ b
-    some_same a b e = cc
 
 module _ (features : Features) (nothing : FindsNothing features) where
   own : HaveOwnIds features

@@ -1,59 +1,13 @@
--- The order of the files, and how many features one has.
-use Rattle.std.proofs.Common.{◌≡◌, ◌∙◌, ℕ, ◌+◌, ◌<◌, ◌≤◌, zero, suc, List, [], ◌∷◌, Some, length, map, refl, sym, ap, arith, unwrap_or}
+-- Where a file of features stands among the files, and how many features it has.
+use Rattle.std.proofs.Common.{◌≡◌, ℕ, ◌≤◌, Some, length, refl, arith}
 use Rattle.std.specs.Prelude.{slice_get}
 use Rattle.venue_types.specs.declared.feature_id.FeatureId.{FeatureId}
 use Rattle.venue_types.specs.declared.features.Features.{Features}
 use Rattle.imdf_schema.specs.declared.files.File.{File}
 use Rattle.imdf_schema.specs.declared.files.File.TheVariants as file
 use Rattle.imdf_schema.specs.Files.{file_number, feature_files}
+use Rattle.imdf_schema.proofs.FileNumbers.{nth_number}
 use Rattle.feature_rows.specs.Rows.{ids_of, IsFeature, feature_count}
-use Rattle.report_laws.proofs.Adding.{at_map}
-
--- the files in the order of their numbers
-abbrev pub all_files : List File
-all_files = file.Manifest ∷ feature_files
-
-abbrev pub file_at : ℕ → File
-file_at n = unwrap_or (slice_get all_files n) file.Manifest
-
-pub at_number : (f : File) → file_at (file_number f) ≡ f
-at_number file.Manifest = refl
-at_number file.Address = refl
-at_number file.Amenity = refl
-at_number file.Anchor = refl
-at_number file.Building = refl
-at_number file.Detail = refl
-at_number file.Fixture = refl
-at_number file.Footprint = refl
-at_number file.Geofence = refl
-at_number file.Kiosk = refl
-at_number file.Level = refl
-at_number file.Occupant = refl
-at_number file.Opening = refl
-at_number file.Relationship = refl
-at_number file.Section = refl
-at_number file.Unit = refl
-at_number file.Venue = refl
-
--- a file is known by its number
-pub same_number : (f g : File) → file_number f ≡ file_number g → f ≡ g
-same_number f g e = sym (at_number f) ∙ ap file_at e ∙ at_number g
-
--- each number is by one above the number before it
-abbrev IsRun : List ℕ → ℕ → Type 0
-IsRun [] n = Unit {0}
-IsRun (x ∷ xs) n = (x ≡ n) × IsRun xs (n + 1)
-
-run_at : (xs : List ℕ) (n i m : ℕ) → IsRun xs n → slice_get xs i ≡ Some m → m ≡ n + i
-run_at [] n i m run e = cc
-run_at (x ∷ xs) n zero m run e = let same : x ≡ m = cc in omega (arith, run.0, same)
-run_at (x ∷ xs) n (suc i) m run e = let rest = run_at xs (n + 1) i m run.1 e in omega (arith, rest)
-
--- the feature files have the numbers from 1
-pub nth_number : (i : ℕ) (f : File) → slice_get feature_files i ≡ Some f → file_number f ≡ i + 1
-nth_number i f e =
-    let at = run_at (map file_number feature_files) 1 i (file_number f) (refl, (refl, (refl, (refl, (refl, (refl, (refl, (refl, (refl, (refl, (refl, (refl, (refl, (refl, (refl, (refl, tt)))))))))))))))) (at_map file_number feature_files i f e) in
-    omega (arith, at)
 
 -- the manifest has no features, and each other file is a feature file
 pub place_among : (f : File) (features : Features) (k : ℕ) (id : FeatureId) → IsFeature features f k id → (i : ℕ) × (slice_get feature_files i ≡ Some f)
@@ -77,25 +31,6 @@ place_among file.Venue features k id h = (15, refl)
 
 pub from_one : (f : File) (features : Features) (k : ℕ) (id : FeatureId) → IsFeature features f k id → 1 ≤ file_number f
 from_one f features k id h = let at = place_among f features k id h in omega (arith, nth_number at.0 f at.1)
-
-pub up_to_16 : (f : File) → file_number f < 17
-up_to_16 file.Manifest = omega arith
-up_to_16 file.Address = omega arith
-up_to_16 file.Amenity = omega arith
-up_to_16 file.Anchor = omega arith
-up_to_16 file.Building = omega arith
-up_to_16 file.Detail = omega arith
-up_to_16 file.Fixture = omega arith
-up_to_16 file.Footprint = omega arith
-up_to_16 file.Geofence = omega arith
-up_to_16 file.Kiosk = omega arith
-up_to_16 file.Level = omega arith
-up_to_16 file.Occupant = omega arith
-up_to_16 file.Opening = omega arith
-up_to_16 file.Relationship = omega arith
-up_to_16 file.Section = omega arith
-up_to_16 file.Unit = omega arith
-up_to_16 file.Venue = omega arith
 
 -- a file has no more features than there are
 pub few_of_file : (f : File) (features : Features) → length (ids_of f features) ≤ feature_count features

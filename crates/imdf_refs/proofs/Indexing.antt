@@ -4,7 +4,7 @@ use Rattle.std.specs.Prelude.{slice_get}
 use Rattle.std.specs.Ordering.{nat_cmp}
 use Rattle.std.specs.BTreeSet.{contains}
 use Rattle.std.proofs.lemmas.Bool.{eqb-true, cases_lt}
-use Rattle.std.proofs.lemmas.Option.{slice_get_within}
+use Rattle.std.proofs.lemmas.Option.{slice_get_within, same_Some}
 use Rattle.venue_types.specs.declared.feature_id.FeatureId.{FeatureId}
 use Rattle.venue_types.specs.declared.features.Features.{Features}
 use Rattle.imdf_schema.specs.declared.files.File.{File}
@@ -12,7 +12,8 @@ use Rattle.imdf_schema.specs.Files.{file_number}
 use Rattle.feature_rows.specs.Rows.{ids_of, IsFeature}
 use Rattle.imdf_refs.specs.declared.known.Known.{Known}
 use Rattle.imdf_refs.specs.Index.{pair_cmp, HasBefore, HasAll}
-use Rattle.imdf_refs.proofs.FileOrder.{same_number, from_one, up_to_16}
+use Rattle.imdf_schema.proofs.FileNumbers.{same_number, up_to_16}
+use Rattle.imdf_refs.proofs.FileOrder.{from_one}
 
 either : (a b : Bool) → (a || b) ≡ true → (a ≡ true) ⊎ (b ≡ true)
 either true b e = inl refl
@@ -63,13 +64,10 @@ split n k source f place e (inr h) = elim (cases_lt place k) [
   | inr not_under ↦ inr (same_number source f (h.0 ∙ sym e), omega (arith, h.1, not_under))
 ]
 
-some_same : (x y : FeatureId) → Some x ≡ Some y → x ≡ y
-some_same x y e = cc
-
 -- this feature's identifier is the one
 here : (features : Features) (source f : File) (place k : ℕ) (q id : FeatureId) → IsFeature features f k id → IsFeature features source place q → source ≡ f → place ≡ k → q ≡ id
 here features source f place k q id this there same at =
-    some_same q id (sym there ∙ ap (λ (g : File). slice_get (ids_of g features) place) same ∙ ap (λ (j : ℕ). slice_get (ids_of f features) j) at ∙ this)
+    same_Some q id (sym there ∙ ap (λ (g : File). slice_get (ids_of g features) place) same ∙ ap (λ (j : ℕ). slice_get (ids_of f features) j) at ∙ this)
 
 -- no feature is before the first file
 pub starts : (features : Features) (known : Known) → ((q : ℕ) → contains nat_cmp known.ids q ≡ false) → ((q f : ℕ) → contains pair_cmp known.typed (q, f) ≡ false) → HasBefore features 1 0 known

@@ -10,15 +10,17 @@ use Rattle.feature_rows.specs.Rows.{ids_of, IsFeature}
 use Rattle.report_laws.specs.Passes.{Adds}
 use Rattle.report_laws.proofs.Adding.{Adds-same, Among}
 use Rattle.imdf_refs.specs.declared.known.Known.{Known}
-use Rattle.imdf_refs.specs.declared.rules.Rule.TheVariants.{C7}
+use Rattle.imdf_schema.specs.declared.rules.Rule.TheVariants as rule
+use Rattle.imdf_schema.specs.Places.{finding_at}
 use Rattle.imdf_refs.specs.Rules.{RepeatsEarlier}
 use Rattle.imdf_refs.specs.Index.{has_id, IsNamedBefore, HasBefore}
-use Rattle.imdf_refs.specs.Gathering.{finding_at, place_of, RepeatsIn, Repeats}
-use Rattle.imdf_refs.proofs.FileOrder.{same_number, place_among}
+use Rattle.imdf_refs.specs.Gathering.{RepeatsIn, Repeats}
+use Rattle.imdf_schema.proofs.FileNumbers.{same_number}
+use Rattle.imdf_refs.proofs.FileOrder.{place_among}
 
 -- the feature at this place has the identifier of an earlier one
 abbrev pub RepeatsAt : Features → File → ℕ → FeatureId → Finding → Type 0
-RepeatsAt features f k id x = IsNamedBefore features (file_number f) k id × (x ≡ finding_at C7 (place_of f k 0))
+RepeatsAt features f k id x = IsNamedBefore features (file_number f) k id × (x ≡ finding_at rule.C7 f k 0)
 
 not_not : (a b : Bool) → a ≡ not b → not a ≡ true → b ≡ true
 not_not a true e h = refl
@@ -30,7 +32,7 @@ not_yes a false e h = cc
 
 -- whether the identifier is new decides it
 pub told : (features : Features) (f : File) (k : ℕ) (id : FeatureId) (known : Known) (fresh : Bool) (place : Finding) (old new : List Finding)
-    → HasBefore features (file_number f) k known → fresh ≡ not (has_id known id) → place ≡ finding_at C7 (place_of f k 0)
+    → HasBefore features (file_number f) k known → fresh ≡ not (has_id known id) → place ≡ finding_at rule.C7 f k 0
     → ((P : Finding → Type 0) → (not fresh ≡ true → P place) → ((x : Finding) → P x → (not fresh ≡ true) × (x ≡ place)) → Adds P old new)
     → Adds (RepeatsAt features f k id) old new
 told features f k id known fresh place old new has is at adds =
@@ -45,9 +47,6 @@ earlier source f place k (inr h) = inr (same_number source f h.0, h.1)
 by_number : (source f : File) (place k : ℕ) → (file_number source < file_number f) ⊎ ((source ≡ f) × (place < k)) → (file_number source < file_number f) ⊎ ((file_number source ≡ file_number f) × (place < k))
 by_number source f place k (inl h) = inl h
 by_number source f place k (inr h) = inr (ap file_number h.0, h.1)
-
-some_same : (x y : FeatureId) → Some x ≡ Some y → x ≡ y
-some_same x y e = cc
 
 -- at each feature of a file
 pub told_in_file : (features : Features) (f : File) (ids : List FeatureId) (old new : List Finding) → ids ≡ ids_of f features → Adds (Among (RepeatsAt features f) ids) old new → Adds (RepeatsIn features f) old new
@@ -65,7 +64,7 @@ told_in_file features f ids old new is adds = Adds-same (RepeatsIn features f) a
         there = named.there;
         earlier = earlier named.source f named.place h.place named.before;
       });
-      is = h.holds.1 ∙ ap (λ (k : ℕ). finding_at C7 (place_of f k 0)) at;
+      is = h.holds.1 ∙ ap (λ (k : ℕ). finding_at rule.C7 f k 0) at;
     })
     (λ x h.
     let r = h.repeats in

@@ -7,9 +7,9 @@ use Rattle.venue_types.specs.declared.finding.Finding.{Finding}
 use Rattle.imdf_schema.specs.declared.files.File.{File}
 use Rattle.imdf_schema.specs.Files.{file_number}
 use Rattle.feature_rows.specs.Rows.{IsFeature, HaveOwnIds}
-use Rattle.imdf_refs.specs.declared.rules.Rule.TheVariants.{C7}
+use Rattle.imdf_refs.specs.declared.rules.ReferenceRule.TheVariants.{C7}
 use Rattle.imdf_refs.specs.Rules.{IsMisnamed, IsEarlier}
-use Rattle.imdf_refs.proofs.FileOrder.{same_number}
+use Rattle.imdf_schema.proofs.FileNumbers.{same_number}
 
 module _ (features : Features) (none : (x : Finding) → ¬ IsMisnamed features x) where
   -- no feature repeats an earlier one

@@ -2,29 +2,25 @@
 use Rattle.std.proofs.Common.{◌≡◌, ◌≢◌, ◌∙◌, ℕ, zero, suc, ◌+◌, ◌*◌, List, [], ◌∷◌, Bool, true, false, ◌⊎◌, inl, inr, Some, eqb, refl, sym, ap, subst}
 use Rattle.std.specs.Prelude.{slice_get}
 use Rattle.std.proofs.lemmas.Bool.{eqb-true, eq-eqb, false≢true}
+use Rattle.std.proofs.lemmas.Option.{same_Some}
 use Rattle.venue_types.specs.declared.feature_id.FeatureId.{FeatureId}
 use Rattle.venue_types.specs.declared.features.Features.{Features}
 use Rattle.imdf_schema.specs.declared.files.File.{File}
 use Rattle.imdf_schema.specs.declared.table.PropertyRow.{PropertyRow}
 use Rattle.imdf_schema.specs.Files.{file_number}
+use Rattle.imdf_schema.specs.Rules.{rule_number}
 use Rattle.imdf_schema.specs.Properties.{property_number}
 use Rattle.feature_rows.specs.Rows.{ids_of}
-use Rattle.imdf_refs.specs.declared.rules.Rule.{Rule}
-use Rattle.imdf_refs.specs.declared.rules.Rule.TheVariants.{X1, X2}
+use Rattle.imdf_refs.specs.declared.rules.ReferenceRule.{ReferenceRule}
+use Rattle.imdf_refs.specs.declared.rules.ReferenceRule.TheVariants.{X1, X2}
 use Rattle.imdf_refs.specs.References.{Reference, Refers}
-use Rattle.imdf_refs.specs.Rules.{rule_number, IsTyped, IsOfOtherType, ReferenceBreaks}
+use Rattle.imdf_refs.specs.Rules.{rule_of, IsTyped, IsOfOtherType, ReferenceBreaks}
 use Rattle.imdf_refs.specs.Laws.{FindsNothing, NameTheirTypes}
-use Rattle.imdf_refs.proofs.FileOrder.{file_at, at_number, same_number}
+use Rattle.imdf_schema.proofs.FileNumbers.{file_at, at_number, same_number}
 
 by_bool : {A : Type 0} (b : Bool) → (b ≡ true → A) → (b ≡ false → A) → A
 by_bool true f g = f refl
 by_bool false f g = g refl
-
-some_id : (x y : FeatureId) → Some x ≡ Some y → x ≡ y
-some_id x y e = cc
-
-some_number : (m n : ℕ) → Some m ≡ Some n → m ≡ n
-some_number m n e = cc
 
 same_id : (a b : FeatureId) → eqb a.0 b.0 ≡ true → a ≡ b
 same_id a b e = ap (λ (n : ℕ). let id : FeatureId = record { 0 = n } in id) (eqb-true a.0 b.0 e)
@@ -43,7 +39,7 @@ sought (x ∷ xs) id = by_bool (eqb x.0 id.0)
     (λ no. elim (sought xs id) [ inl h ↦ inl (suc h.0, h.1) | inr none ↦ inr (λ h. nowhere no none h.0 h.1) ])
   where
     nowhere : eqb x.0 id.0 ≡ false → ¬ Stands xs id → (j : ℕ) → slice_get (x ∷ xs) j ≡ Some id → ⊥
-    nowhere differs none zero e = false≢true (sym differs ∙ eq-eqb x.0 id.0 (ap (λ (y : FeatureId). y.0) (some_id x id e)))
+    nowhere differs none zero e = false≢true (sym differs ∙ eq-eqb x.0 id.0 (ap (λ (y : FeatureId). y.0) (same_Some x id e)))
     nowhere differs none (suc j) e = none (j, e)
 
 -- a file has the number, or none has
@@ -63,15 +59,15 @@ typed_or_not features id n = elim (numbered n) [
 
 module _ (features : Features) (nothing : FindsNothing features) where
   -- no rule on a reference is broken
-  unbroken : (rule : Rule) (row : PropertyRow) (k place : ℕ) (r : Reference) → Refers features row k place r → ¬ ReferenceBreaks rule features row r
+  unbroken : (rule : ReferenceRule) (row : PropertyRow) (k place : ℕ) (r : Reference) → Refers features row k place r → ¬ ReferenceBreaks rule features row r
   unbroken rule row k place r there breaks =
-      nothing (record { rule = rule_number rule; file = file_number row.file; index = k; member = property_number row.property + 64 * place })
+      nothing (record { rule = rule_number (rule_of rule); file = file_number row.file; index = k; member = property_number row.property + 64 * place })
       (record { rule = rule; number = refl; breaks = inr (record { row = row; place = place; reference = r; there = there; breaks = breaks; in_file = refl; at_member = refl }) })
 
   pub name_their_types : NameTheirTypes features
   name_their_types row k place r f there asked = elim (typed_or_not features r.id f) [
     | inl typed ↦ typed
     | inr none ↦
-        let other : IsOfOtherType features row r = λ g j h e. none (record { source = g; place = j; there = h; of_file = sym (some_number f (file_number g) (sym asked ∙ e)) }) in
+        let other : IsOfOtherType features row r = λ g j h e. none (record { source = g; place = j; there = h; of_file = sym (same_Some f (file_number g) (sym asked ∙ e)) }) in
         absurd (unbroken X1 row k place r there (λ named. unbroken X2 row k place r there (named, other)))
   ]

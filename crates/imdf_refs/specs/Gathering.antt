@@ -5,25 +5,20 @@ use Rattle.venue_types.specs.declared.features.Features.{Features}
 use Rattle.venue_types.specs.declared.finding.Finding.{Finding}
 use Rattle.imdf_schema.specs.declared.files.File.{File}
 use Rattle.imdf_schema.specs.declared.table.PropertyRow.{PropertyRow}
-use Rattle.imdf_schema.specs.Files.{file_number}
+use Rattle.imdf_schema.specs.declared.place.Place.{Place}
+use Rattle.imdf_schema.specs.declared.rules.Rule.TheVariants as rule
+use Rattle.imdf_schema.specs.Places.{finding_at}
 use Rattle.imdf_schema.specs.Properties.{property_number}
 use Rattle.imdf_refs.specs.declared.known.Known.{Known}
-use Rattle.imdf_refs.specs.declared.place.Place.{Place}
 use Rattle.imdf_refs.specs.declared.row.References.{References}
 use Rattle.imdf_refs.specs.declared.row.References.TheVariants as references
-use Rattle.imdf_refs.specs.declared.rules.Rule.{Rule}
-use Rattle.imdf_refs.specs.declared.rules.Rule.TheVariants.{C7, X1, X2}
 use Rattle.imdf_refs.specs.References.{Reference, by_id, by_object, references_in, file_named}
-use Rattle.imdf_refs.specs.Rules.{rule_number, RepeatsEarlier}
+use Rattle.imdf_refs.specs.Rules.{RepeatsEarlier}
 use Rattle.imdf_refs.specs.Index.{has_id, has_typed}
 
--- the finding that the rule is broken at this place
-abbrev pub finding_at : Rule → Place → Finding
-finding_at r place = record { rule = rule_number r; file = file_number place.file; index = place.index; member = place.member }
-
--- the k-th feature of the file, and the part of it that a finding tells of
-abbrev pub place_of : File → ℕ → ℕ → Place
-place_of f k member = record { file = f; index = k; member = member }
+-- the place of the k-th feature of the file
+abbrev pub place_of : File → ℕ → Place
+place_of f k = record { file = f; index = k }
 
 -- the references as a list
 abbrev pub reference_list : References → List Reference
@@ -37,14 +32,15 @@ reference_list (references.Objects objects) = map by_object objects.now
 abbrev pub reference : FeatureId → Option ℕ → Reference
 reference id told = record { id = id; told = told }
 
--- at a reference that has to name a feature of this file: by the index nothing has the identifier, or nothing of the file
-abbrev pub Dangles : Known → Place → FeatureId → Option ℕ → Finding → Type 0
-Dangles known place id f x =
-    ((not (has_id known id) ≡ true) × (x ≡ finding_at X1 place)) ⊎ (((has_id known id && not (has_typed known id f)) ≡ true) × (x ≡ finding_at X2 place))
+-- at a reference, told by the number of its part, that has to name a feature of this file: by the index nothing has the identifier, or nothing of the file
+abbrev pub Dangles : Known → Place → ℕ → FeatureId → Option ℕ → Finding → Type 0
+Dangles known place member id f x =
+    ((not (has_id known id) ≡ true) × (x ≡ finding_at rule.X1 place.file place.index member))
+    ⊎ (((has_id known id && not (has_typed known id f)) ≡ true) × (x ≡ finding_at rule.X2 place.file place.index member))
 
 -- at the reference at this place of the property's list in the k-th feature
 abbrev pub DanglesAt : Known → PropertyRow → ℕ → ℕ → Reference → Finding → Type 0
-DanglesAt known row k place r x = Dangles known (place_of row.file k (property_number row.property + 64 * place)) r.id (file_named row.names r) x
+DanglesAt known row k place r x = Dangles known (place_of row.file k) (property_number row.property + 64 * place) r.id (file_named row.names r) x
 
 -- at one of the references of the property in the k-th feature
 pub record DanglesAmong (known : Known) (row : PropertyRow) (k : ℕ) (rs : List Reference) (x : Finding) : Type 0 where
@@ -73,7 +69,7 @@ pub record DanglesInTable (known : Known) (features : Features) (table : List Pr
 -- a feature of the file has the identifier of an earlier one
 pub record RepeatsIn (features : Features) (f : File) (x : Finding) : Type 0 where
   pub repeats : RepeatsEarlier features f x.index
-  pub is : x ≡ finding_at C7 (place_of f x.index 0)
+  pub is : x ≡ finding_at rule.C7 f x.index 0
 
 -- a feature of some file has the identifier of an earlier one
 pub record Repeats (features : Features) (x : Finding) : Type 0 where

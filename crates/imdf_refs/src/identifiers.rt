@@ -8,10 +8,8 @@ ghost use Rattle.imdf_refs.specs.Index.{HasBefore, HasAll};
 ghost use Rattle.imdf_refs.specs.Gathering.{RepeatsIn, Repeats};
 
 use crate::known::Known;
-use crate::place::Place;
 use crate::row::HasReferences;
-use crate::rules::Rule;
-use imdf_schema::{FEATURE_FILES, File};
+use imdf_schema::{FEATURE_FILES, File, Place, Rule};
 use report_laws::add;
 use std::alloc::Global;
 use venue_types::{FeatureId, Features, Finding, OutOfMemory};
@@ -71,9 +69,8 @@ fn judge_file(
         let place = Place {
             file,
             index: k as u32,
-            member: 0,
         };
-        add(findings, !fresh, place.finding(Rule::C7))?;
+        add(findings, !fresh, place.finding(Rule::C7, 0))?;
     }
     Ok(())
 }

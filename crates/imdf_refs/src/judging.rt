@@ -8,10 +8,9 @@ ghost use Rattle.imdf_refs.specs.References.{by_id, by_object, file_named};
 ghost use Rattle.imdf_refs.specs.Gathering.{reference, reference_list, Dangles, DanglesAmong, DanglesInRows, DanglesInProperty, DanglesInTable};
 
 use crate::known::Known;
-use crate::place::{Place, item_place};
+use crate::place::member_of;
 use crate::row::{HasReferences, References};
-use crate::rules::Rule;
-use imdf_schema::{File, PropertyRow, ReferenceTarget};
+use imdf_schema::{File, Place, PropertyRow, ReferenceTarget, Rule};
 use report_laws::add;
 use venue_types::{FeatureId, Features, Finding, OutOfMemory, Ref};
 
@@ -35,15 +34,16 @@ fn judge(
     findings: &mut Vec<Finding>,
     known: &Known,
     place: Place,
+    member: u32,
     id: FeatureId,
     file: Option<u8>,
 ) -> Result<(), OutOfMemory>
-    ensures { OnOk result (Adds (Dangles known.now place id file) findings.old.items findings.new.items) }
+    ensures { OnOk result (Adds (Dangles known.now place member id file) findings.old.items findings.new.items) }
 {
     let named = known.has(id);
     let right = known.has_typed(id, file);
-    add(findings, !named, place.finding(Rule::X1))?;
-    add(findings, named & !right, place.finding(Rule::X2))
+    add(findings, !named, place.finding(Rule::X1, member))?;
+    add(findings, named & !right, place.finding(Rule::X2, member))
 }
 
 // At each identifier of a list.
@@ -57,8 +57,13 @@ fn judge_ids(
     ensures { OnOk result (Adds (DanglesAmong known.now row.now index (map by_id ids.now)) findings.old.items findings.new.items) }
 {
     let file = named_file(row.names, None);
+    let place = Place {
+        file: row.file,
+        index,
+    };
     for (k, id) in ids.iter().enumerate() {
-        judge(findings, known, item_place(row, index, k)?, *id, file)?;
+        let member = member_of(row.property, k)?;
+        judge(findings, known, place, member, *id, file)?;
     }
     Ok(())
 }
@@ -73,9 +78,14 @@ fn judge_objects(
 ) -> Result<(), OutOfMemory>
     ensures { OnOk result (Adds (DanglesAmong known.now row.now index (map by_object objects.now)) findings.old.items findings.new.items) }
 {
+    let place = Place {
+        file: row.file,
+        index,
+    };
     for (k, object) in objects.iter().enumerate() {
         let file = named_file(row.names, Some(object.feature_type));
-        judge(findings, known, item_place(row, index, k)?, object.id, file)?;
+        let member = member_of(row.property, k)?;
+        judge(findings, known, place, member, object.id, file)?;
     }
     Ok(())
 }

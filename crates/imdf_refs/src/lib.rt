@@ -18,4 +18,4 @@ pub use laws::{
     types_law, unit_level_law,
 };
 pub use references::reference_findings;
-pub use rules::Rule;
+pub use rules::ReferenceRule;

@@ -1,11 +1,13 @@
 //! The rules of the second phase.
 
 ghost use Rattle.std.specs.Prelude.{◌≡◌};
-ghost use Rattle.imdf_refs.specs.Rules.{rule_number};
+ghost use Rattle.imdf_refs.specs.Rules.{rule_of};
+
+use imdf_schema::Rule;
 
 /// A rule on identifiers and references.
 #[derive(Clone, Copy, Debug, PartialEq, Eq)]
-pub enum Rule {
+pub enum ReferenceRule {
     /// An earlier feature, by file, then by index, has the same identifier.
     C7,
     /// A reference names no feature.
@@ -14,15 +16,15 @@ pub enum Rule {
     X2,
 }
 
-impl Rule {
-    /// The number that stands in findings.
-    pub fn number(self) -> u8
-        ensures { result ≡ rule_number self }
+impl ReferenceRule {
+    /// The rule among all rules.
+    pub fn rule(self) -> Rule
+        ensures { result ≡ rule_of self }
     {
         match self {
-            Rule::C7 => 23,
-            Rule::X1 => 24,
-            Rule::X2 => 25,
+            ReferenceRule::C7 => Rule::C7,
+            ReferenceRule::X1 => Rule::X1,
+            ReferenceRule::X2 => Rule::X2,
         }
     }
 }

@@ -2,6 +2,5 @@ pub mod Texts
 pub mod Tags
 pub mod LabelLists
 pub mod Billionths
-pub mod Zips
 pub mod Shown
 pub mod Moved

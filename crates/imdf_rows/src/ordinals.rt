@@ -8,7 +8,7 @@ ghost use Rattle.imdf_schema.specs.Values.{seen};
 ghost use Rattle.imdf_rows.specs.Fields.{IsWhole, IsOrdinal};
 
 use exact_json::Tree;
-use geo_decimal::{has_one_value, nano};
+use geo_decimal::{nano, one_value_law};
 
 // How many billionths make one.
 const UNIT: i64 = 1_000_000_000;
@@ -31,7 +31,7 @@ fn token_ordinal(token: &[u8]) -> Option<i16>
     ensures some { IfSome result (IsWhole token.now) }
     ensures none { IfNone result ((n : ℤ) → ¬ IsWhole token.now n) }
 {
-    has_one_value();
+    one_value_law();
     match nano(token) {
         Ok(nano) => whole(nano),
         Err(_) => None,
@@ -61,7 +61,7 @@ pub(crate) fn ordinal_field(value: Option<&Tree>) -> i16
     ensures some { (n : ℤ) → IsOrdinal (seen value.entry) n → result ≡ n }
     ensures none { ((n : ℤ) → ¬ IsOrdinal (seen value.entry) n) → result ≡ pos 0 }
 {
-    has_one_value();
+    one_value_law();
     match ordinal(value) {
         Some(n) => n,
         None => 0,

@@ -10,6 +10,7 @@ use Rattle.exact_json.specs.Json.{Json, null, object, Members, no_pairs, pair, m
 use Rattle.exact_json.specs.View.{pair_view, members_view}
 use Rattle.exact_json.specs.declared.tree.Pair.{Pair}
 use Rattle.std.proofs.lemmas.Slice.Eq.{bytes_eq-Decides}
+use Rattle.std.proofs.lemmas.Option.{same_Some}
 use Rattle.imdf_schema.specs.Values.{is_text, has_texts}
 use Rattle.imdf_schema.specs.Names.{has_name}
 use Rattle.imdf_schema.specs.Forms.{is_name}
@@ -26,9 +27,6 @@ LastAreTexts ms = (name : List ℕ) (j : Json) → last_member name ms ≡ Some 
 pub record AreSeen (names : BTreeSet (Bor (List ℕ))) (ms : Members) : Type 0 where
   pub known : (name : List ℕ) → has_name names name ≡ is_some (last_member name ms)
   pub texts : LastAreTexts ms
-
-some_same : (a b : Members) → Some a ≡ Some b → a ≡ b
-some_same a b e = cc
 
 bytes_same : (k name : List ℕ) → bytes_eq k name ≡ true → k ≡ name
 bytes_same k name e = (bytes_eq-Decides k name).0 e
@@ -169,7 +167,7 @@ texts_last (x ∷ xs) all name j e =
     all_last (last_member name (members_view xs)) (bytes_eq (pair_view x).0 name) (pair_view x).1 j e (first_both (is_text (pair_view x).1) _ all) (λ at. texts_last xs (second_both (is_text (pair_view x).1) _ all) name j at)
 
 pub object_is : (v : Json) (ms : Members) → object_members v ≡ Some ms → is_name v ≡ has_texts (object ms)
-object_is (object qs) ms e = ap (λ (x : Members). has_texts (object x)) (some_same qs ms e)
+object_is (object qs) ms e = ap (λ (x : Members). has_texts (object x)) (same_Some qs ms e)
 object_is v ms e = cc
 
 pub no_object : (v : Json) → object_members v ≡ None → is_name v ≡ false

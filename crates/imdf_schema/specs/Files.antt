@@ -57,6 +57,10 @@ feature_files =
     file.Address ∷ file.Amenity ∷ file.Anchor ∷ file.Building ∷ file.Detail ∷ file.Fixture ∷ file.Footprint ∷ file.Geofence ∷ file.Kiosk
     ∷ file.Level ∷ file.Occupant ∷ file.Opening ∷ file.Relationship ∷ file.Section ∷ file.Unit ∷ file.Venue ∷ []
 
+-- all files, in the order of their numbers
+abbrev pub all_files : List File
+all_files = file.Manifest ∷ feature_files
+
 -- the first of the files whose type has this name
 abbrev pub file_among : List File → List ℕ → Option File
 file_among [] name = None

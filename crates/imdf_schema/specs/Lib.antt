@@ -5,3 +5,5 @@ pub mod Forms
 pub mod Items
 pub mod Contents
 pub mod Names
+pub mod Rules
+pub mod Places

@@ -1,8 +1,8 @@
 //! The files of a folder.
 
-ghost use Rattle.std.specs.Prelude.{◌≡◌, ◌≢◌, ◌<◌, IfSome, IfNone};
+ghost use Rattle.std.specs.Prelude.{◌≡◌, ◌≢◌, ◌<◌, IfSome, IfNone, slice_get};
 ghost use Rattle.imdf_schema.specs.declared.files.File.{File as AFile};
-ghost use Rattle.imdf_schema.specs.Files.{file_number, file_name, type_name, geometry_of, file_among, file_of_type, feature_files};
+ghost use Rattle.imdf_schema.specs.Files.{file_number, file_name, type_name, geometry_of, file_among, file_of_type, all_files};
 
 /// A file of a folder. All but the first are named for the type of their features, `address.geojson` and so on.
 #[derive(Clone, Copy, Debug, PartialEq, Eq)]
@@ -39,6 +39,27 @@ pub enum Geometry {
     /// Anything, which is passed over.
     Unjudged,
 }
+
+/// All files, in the order of their numbers.
+pub static ALL_FILES: [File; 17] = [
+    File::Manifest,
+    File::Address,
+    File::Amenity,
+    File::Anchor,
+    File::Building,
+    File::Detail,
+    File::Fixture,
+    File::Footprint,
+    File::Geofence,
+    File::Kiosk,
+    File::Level,
+    File::Occupant,
+    File::Opening,
+    File::Relationship,
+    File::Section,
+    File::Unit,
+    File::Venue,
+];
 
 /// The files of features, in the order of their numbers.
 pub static FEATURE_FILES: [File; 16] = [
@@ -88,29 +109,11 @@ impl File {
 
     /// The file of this number, if there is one.
     pub fn from_number(number: u8) -> Option<File>
+        ensures at { result ≡ slice_get all_files number }
         ensures some { IfSome result (λ file. file_number file ≡ number) }
         ensures none { IfNone result ((file : AFile) → file_number file ≢ number) }
     {
-        match number {
-            0 => Some(File::Manifest),
-            1 => Some(File::Address),
-            2 => Some(File::Amenity),
-            3 => Some(File::Anchor),
-            4 => Some(File::Building),
-            5 => Some(File::Detail),
-            6 => Some(File::Fixture),
-            7 => Some(File::Footprint),
-            8 => Some(File::Geofence),
-            9 => Some(File::Kiosk),
-            10 => Some(File::Level),
-            11 => Some(File::Occupant),
-            12 => Some(File::Opening),
-            13 => Some(File::Relationship),
-            14 => Some(File::Section),
-            15 => Some(File::Unit),
-            16 => Some(File::Venue),
-            _ => None,
-        }
+        ALL_FILES.get(number as usize).copied()
     }
 
     /// The file's name in its folder.

@@ -1,38 +1,13 @@
 -- A link's facts are those of its way and of both its ends.
-use Rattle.std.proofs.Common.{◌≡◌, Bool, true, false, ◌||◌, ◌↔◌, IsTrue, refl}
+use Rattle.std.proofs.Common.{Bool, ◌↔◌}
 use Rattle.venue_types.specs.declared.kind.Kind.{Kind}
 use Rattle.venue_types.specs.declared.link.Link.{Link}
 use Rattle.venue_types.specs.declared.settings.Profile.{Profile}
 use Rattle.imdf_access.specs.declared.parts.EndFacts.{EndFacts}
 use Rattle.imdf_access.specs.Access.{IsAllowed}
 use Rattle.imdf_access.specs.Parts.{MayGo, PassesFacts}
+use Rattle.imdf_access.proofs.LinkParts.{first_asks, second_asks, either_asks, neither, first_neither, second_neither}
 use Rattle.link_graph.specs.Networks.{Network, joined_facts, link_facts}
-
--- what asks in the first place, or in the second
-first_asks : (a b : Bool) → IsTrue a → IsTrue (a || b)
-first_asks true b h = refl
-first_asks false b h = absurd (cc)
-
-second_asks : (a b : Bool) → IsTrue b → IsTrue (a || b)
-second_asks true b h = refl
-second_asks false b h = h
-
-either_asks : {P : Type 0} (a b : Bool) → (IsTrue a → P) → (IsTrue b → P) → IsTrue (a || b) → P
-either_asks true b f g h = f refl
-either_asks false b f g h = g h
-
--- neither holds where one of them doesn't
-neither : (a b : Bool) → a ≡ false → b ≡ false → (a || b) ≡ false
-neither true b e f = e
-neither false b e f = f
-
-first_neither : (a b : Bool) → (a || b) ≡ false → a ≡ false
-first_neither true b e = e
-first_neither false b e = refl
-
-second_neither : (a b : Bool) → (a || b) ≡ false → b ≡ false
-second_neither true b e = absurd (cc)
-second_neither false b e = e
 
 way_of : (profile : Profile) (kind : Kind) (barred : Bool) (from to : EndFacts) → IsAllowed profile (joined_facts kind barred from to) → MayGo profile kind barred
 way_of profile kind barred from to h = record { kind_granted = h.kind; unit_granted = λ asked. h.restricted (first_asks _ _ asked) }

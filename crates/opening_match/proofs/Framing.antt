@@ -5,6 +5,7 @@ use Rattle.std.proofs.lemmas.List.{take_more, take_all}
 use Rattle.std.proofs.lemmas.List.Concat.{flat_map-append}
 use Rattle.std.proofs.lemmas.List.Elements.{Contains-append_left, Contains-append_right, Contains-append_cases, Contains-get_or}
 use Rattle.std.proofs.lemmas.Int.{ints}
+use Rattle.venue_types.proofs.Items.{Contains-nil}
 use Rattle.venue_types.specs.declared.point.Point.{Point}
 use Rattle.venue_types.specs.declared.point.Ring.{Ring}
 use Rattle.venue_types.specs.declared.point.Shape.{Shape}
@@ -12,7 +13,7 @@ use Rattle.plane_exact.specs.Figure.{edges, edges_from, ring_edges, ring_points,
 use Rattle.plane_bands.specs.Line.{Direction, Longitude, Latitude, coordinate, stretch}
 use Rattle.opening_match.specs.declared.frame.Frame.{Frame}
 use Rattle.opening_match.specs.Frames.{IsFramedAt, IsAtHeight, IsAtWidth, IsFramed, Grows}
-use Rattle.opening_match.proofs.Items.{Contains-nil, one_more}
+use Rattle.opening_match.proofs.Items.{one_more}
 
 -- ---- a frame is made point by point
 

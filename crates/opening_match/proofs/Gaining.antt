@@ -6,6 +6,7 @@ use Rattle.std.proofs.lemmas.Bool.{cases_lt}
 use Rattle.std.proofs.lemmas.List.{take_all, length-replicate, length-append, get_or_append_left, get_or_push}
 use Rattle.std.proofs.lemmas.List.Elements.{All-replicate, All-contains, Contains-append_left, Contains-push, Contains-push_cases, Contains-get_or}
 use Rattle.std.proofs.lemmas.Option.{slice_get_within, slice_get-get_or, same_Some}
+use Rattle.venue_types.proofs.Items.{member_at, Contains-nil}
 use Rattle.venue_types.specs.declared.features.Features.{Features}
 use Rattle.venue_types.specs.declared.features.OpeningRow.{OpeningRow}
 use Rattle.venue_types.specs.declared.features.UnitRow.{UnitRow}
@@ -14,7 +15,7 @@ use Rattle.plane_exact.specs.Opening.{AreTouches}
 use Rattle.opening_match.specs.Places.{AreDistinct}
 use Rattle.opening_match.specs.Matches.{TouchesAt, AreMatches}
 use Rattle.opening_match.specs.Rows.{GainsAt, GainsUnit, HaveMatch, AreRowsBelow}
-use Rattle.opening_match.proofs.Items.{Contains-nil, some_at, item_at, member_at, stands, one_more, apart_before}
+use Rattle.opening_match.proofs.Items.{some_at, item_at, stands, one_more, apart_before}
 
 -- ---- one unit, row by row
 

@@ -3,20 +3,11 @@ use Rattle.std.proofs.Common.{◌≡◌, ℕ, ◌+◌, ◌<◌, ◌≤◌, zero,
 use Rattle.std.specs.Prelude.{Contains, slice_get, AllPairs}
 use Rattle.std.proofs.lemmas.List.{length-take, length-drop, get_or-take, get_or-drop, get_or_default, take_more}
 use Rattle.std.proofs.lemmas.Bool.{cases_lt}
-use Rattle.std.proofs.lemmas.Option.{slice_get_within, slice_get_read, get_or_from_slice_get, same_Some}
-
--- a value that stands somewhere in the list is its item there, and back
-pub at_member : {X : Type 0} (xs : List X) (x : X) → Contains xs x → (k : ℕ) × (slice_get xs k ≡ Some x)
-at_member xs x h = (h.0, slice_get_read xs (length xs) h.0 x refl h.1 (sym h.2))
-
-pub member_at : {X : Type 0} (xs : List X) (k : ℕ) (x : X) → slice_get xs k ≡ Some x → Contains xs x
-member_at xs k x e = (k, slice_get_within xs k x e, get_or_from_slice_get xs k x x e)
+use Rattle.std.proofs.lemmas.Option.{slice_get_read, same_Some}
+use Rattle.venue_types.proofs.Items.{Contains-nil}
 
 pub item_at : {X : Type 0} (xs : List X) (k : ℕ) (x : X) → k < length xs → x ≡ get_or xs k x → slice_get xs k ≡ Some x
 item_at xs k x within is = slice_get_read xs (length xs) k x refl within is
-
-pub Contains-nil : {X : Type 0} (x : X) → ¬ Contains [] x
-Contains-nil x (k, within, at) = omega (arith, within)
 
 -- there is an item
 pub some_at : {X : Type 0} (xs : List X) (k : ℕ) → k < length xs → (x : X) × (slice_get xs k ≡ Some x)

@@ -14,11 +14,12 @@ use Rattle.std.proofs.lemmas.Map.Made.{AllPairs-from_IsDistinct, IsDistinct-from
 use Rattle.std.proofs.lemmas.List.{length-map, length-append}
 use Rattle.std.proofs.lemmas.List.Sorted.{sorted_far, ranks_by, Contains-permutation, IsPermutation-sym, IsPermutation-map}
 use Rattle.std.proofs.lemmas.Option.{slice_get-get_or}
+use Rattle.venue_types.proofs.Items.{at_member, member_at}
 use Rattle.venue_types.specs.declared.features.OpeningRow.{OpeningRow}
 use Rattle.venue_types.specs.declared.point.Point.{Point}
 use Rattle.opening_match.specs.declared.entries.Entry.{Entry}
 use Rattle.opening_match.specs.Entries.{IsEntry, AreFirst, AreEntries, AreRising, AreApart}
-use Rattle.opening_match.proofs.Items.{at_member, member_at, some_at, at_push}
+use Rattle.opening_match.proofs.Items.{some_at, at_push}
 
 -- ---- their order
 

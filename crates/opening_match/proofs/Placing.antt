@@ -4,8 +4,9 @@ use Rattle.std.specs.Prelude.{Contains, AllPairs}
 use Rattle.std.proofs.lemmas.List.{take_all}
 use Rattle.std.proofs.lemmas.List.Elements.{Contains-append_left, Contains-push, Contains-push_cases, Contains-get_or}
 use Rattle.std.proofs.lemmas.List.Quantifiers.{all_pairs_push}
+use Rattle.venue_types.proofs.Items.{Contains-nil}
 use Rattle.opening_match.specs.Places.{ArePlaces}
-use Rattle.opening_match.proofs.Items.{Contains-nil, one_more, apart_before}
+use Rattle.opening_match.proofs.Items.{one_more, apart_before}
 
 pub places_none : {X : Type 0} (f : X → ℕ) (P : X → Type 0) → ArePlaces f P [] []
 places_none f P = record { only = λ o h. absurd (Contains-nil o h); whole = λ x h holds. absurd (Contains-nil x h); distinct = λ i j d under within. absurd (omega arith) }

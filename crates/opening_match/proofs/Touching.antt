@@ -4,6 +4,7 @@ use Rattle.std.specs.Prelude.{Contains, slice_get}
 use Rattle.std.proofs.lemmas.List.Elements.{All-contains, Contains-get_or, Contains-append_right}
 use Rattle.std.proofs.lemmas.Option.{slice_get_within, same_Some}
 use Rattle.std.proofs.lemmas.Bool.{eqb-true}
+use Rattle.venue_types.proofs.Items.{member_at, Contains-nil}
 use Rattle.venue_types.specs.declared.feature_id.FeatureId.{FeatureId}
 use Rattle.venue_types.specs.declared.features.Features.{Features}
 use Rattle.venue_types.specs.declared.features.OpeningRow.{OpeningRow}
@@ -21,7 +22,7 @@ use Rattle.opening_match.specs.Stretches.{IsStretch}
 use Rattle.opening_match.specs.Places.{ArePlaces}
 use Rattle.opening_match.specs.Matches.{AreBeside, RunsAlong, TouchesAt, AreMatches}
 use Rattle.opening_match.proofs.Framing.{LeastLaw, GreatestLaw, near_framed}
-use Rattle.opening_match.proofs.Items.{member_at, some_in, Contains-nil}
+use Rattle.opening_match.proofs.Items.{some_in}
 
 -- the opening at this place is there, with a vertex
 pub record StartsAt (openings : List OpeningRow) (o : ℕ) : Type 0 where

@@ -18,7 +18,7 @@ use std::alloc::Global;
 use venue_types::{Features, List, OpeningRow, OutOfMemory, Settings, Touches, UnitRow};
 
 /// How many touches are kept at most.
-const MOST: usize = 100_000_000;
+const MOST_TOUCHES: usize = 100_000_000;
 
 /// For each opening the places of the units that it touches.
 pub(crate) fn rows_of(
@@ -35,7 +35,7 @@ pub(crate) fn rows_of(
 {
     let entries = sorted_entries(alloc, openings)?;
     let mut rows = empty_rows(alloc, openings.len())?;
-    let mut left = MOST;
+    let mut left = MOST_TOUCHES;
     for (place, unit) in units.iter().enumerate() {
         let found = matches_of(alloc, openings, &entries, unit, tolerance)?;
         left = left.checked_sub(found.len()).ok_or(OutOfMemory)?;

@@ -4,6 +4,7 @@ use Rattle.std.specs.Prelude.{All}
 use Rattle.std.specs.List.{AllZip, flat_map}
 use Rattle.std.proofs.lemmas.List.Elements.{All-nil, All-cons}
 use Rattle.std.proofs.lemmas.Slice.Zip.{AllZip-long}
+use Rattle.venue_types.proofs.Zips.{zip_all}
 use Rattle.exact_json.specs.Json.{Json}
 use Rattle.venue_types.specs.declared.features.UnitRow.{UnitRow}
 use Rattle.venue_types.specs.declared.point.Point.{Point}
@@ -21,7 +22,7 @@ use Rattle.imdf_rows.specs.Rows.{IsUnitRow}
 use Rattle.plane_exact.specs.Figure.{rings_of, rings, vertices}
 use Rattle.feature_rows.specs.Figures.{display_of}
 use Rattle.feature_rows.specs.Sound.{IsOnEarth, IsSoundRing, IsSoundShape}
-use Rattle.reading_laws.proofs.Lists.{zip_all, zip_flat, zip_flat_all}
+use Rattle.reading_laws.proofs.Lists.{zip_flat, zip_flat_all}
 
 pub position_on_earth : (v : Json) (p : Point) → IsPosition v p → IsOnEarth p
 position_on_earth v p is = record { west = is.x.low; east = is.x.high; south = is.y.low; north = is.y.high }

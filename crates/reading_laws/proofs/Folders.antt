@@ -4,6 +4,7 @@ use Rattle.std.specs.Prelude.{All}
 use Rattle.std.proofs.lemmas.List.{length-map}
 use Rattle.std.proofs.lemmas.List.Elements.{All-nil, All-append, All-map}
 use Rattle.std.proofs.lemmas.Slice.Zip.{AllZip-long}
+use Rattle.venue_types.proofs.Zips.{zip_all}
 use Rattle.exact_json.specs.Json.{Json}
 use Rattle.venue_types.specs.declared.files.Files.{Files}
 use Rattle.venue_types.specs.declared.features.Features.{Features}
@@ -19,7 +20,7 @@ use Rattle.imdf_rows.specs.Rows.{IsPlainRow, IsAmenityRow, IsAnchorRow, IsBuildi
 use Rattle.imdf_rows.specs.Folder.{AreFeatures}
 use Rattle.feature_rows.specs.Figures.{shapes_of, positions_of, positions, judged_positions}
 use Rattle.feature_rows.specs.Sound.{IsOnEarth, IsSoundShape, AreSound, element_count}
-use Rattle.reading_laws.proofs.Lists.{zip_all, zip_flat_all, all_flat}
+use Rattle.reading_laws.proofs.Lists.{zip_flat_all, all_flat}
 use Rattle.reading_laws.proofs.Nothing.{FindsNothing, one_venue}
 use Rattle.reading_laws.proofs.Figures.{position_on_earth, line_on_earth, line_count, displays_on_earth}
 use Rattle.reading_laws.proofs.Elements.{few_elements}

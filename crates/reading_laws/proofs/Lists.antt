@@ -1,9 +1,9 @@
 -- What two lists, place by place, say of the second.
-use Rattle.std.proofs.Common.{◌≡◌, ◌∙◌, ℕ, suc, ◌+◌, ◌≤◌, List, [], ◌∷◌, ◌++◌, length, Some, refl, ap, arith}
+use Rattle.std.proofs.Common.{◌≡◌, ℕ, suc, ◌+◌, ◌≤◌, List, [], ◌∷◌, ◌++◌, length, Some, refl, arith}
 use Rattle.std.specs.Prelude.{slice_get, sum_by, All}
 use Rattle.std.specs.List.{AllZip, flat_map}
 use Rattle.std.proofs.lemmas.List.{length-append}
-use Rattle.std.proofs.lemmas.List.Elements.{All-nil, All-cons, All-append}
+use Rattle.std.proofs.lemmas.List.Elements.{All-nil, All-append}
 use Rattle.std.proofs.lemmas.List.Sums.{sum_by-cons}
 
 -- what holds of each item of the first list is known beside its twin
@@ -12,12 +12,6 @@ zip_places P R [] [] all zip = tt
 zip_places P R [] (y ∷ ys) all zip = absurd zip
 zip_places P R (x ∷ xs) [] all zip = absurd zip
 zip_places P R (x ∷ xs) (y ∷ ys) all zip = ((all 0 x refl, zip.0), zip_places P R xs ys (λ k z at. all (suc k) z at) zip.1)
-
-pub zip_all : {A B : Type 0} (R : A → B → Type 0) (Q : B → Type 0) → ((x : A) (y : B) → R x y → Q y) → (xs : List A) (ys : List B) → AllZip R xs ys → All Q ys
-zip_all R Q step [] [] zip = All-nil Q
-zip_all R Q step [] (y ∷ ys) zip = absurd zip
-zip_all R Q step (x ∷ xs) [] zip = absurd zip
-zip_all R Q step (x ∷ xs) (y ∷ ys) zip = All-cons Q y ys (step x y zip.0) (zip_all R Q step xs ys zip.1)
 
 zip_append : {A B : Type 0} (R : A → B → Type 0) (xs us : List A) (ys vs : List B) → AllZip R xs ys → AllZip R us vs → AllZip R (xs ++ us) (ys ++ vs)
 zip_append R [] us [] vs zip rest = rest
@@ -61,18 +55,6 @@ zip_flat_count R h g step (x ∷ xs) (y ∷ ys) zip =
     let sum : sum_by h (x ∷ xs) ≡ h x + sum_by h xs = sum_by-cons h x xs in
     let long : length (g y ++ flat_map g ys) ≡ length (g y) + length (flat_map g ys) = length-append (g y) (flat_map g ys) in
     omega arith
-
--- the things of a list, place by place, are one list at most
-pub zip_one : {A B : Type 0} (R : A → B → Type 0) → ((x : A) (y z : B) → R x y → R x z → y ≡ z) → (xs : List A) (ys zs : List B) → AllZip R xs ys → AllZip R xs zs → ys ≡ zs
-zip_one R one [] [] [] h k = refl
-zip_one R one [] [] (z ∷ zs) h k = absurd k
-zip_one R one [] (y ∷ ys) zs h k = absurd h
-zip_one R one (x ∷ xs) [] zs h k = absurd h
-zip_one R one (x ∷ xs) (y ∷ ys) [] h k = absurd k
-zip_one R one (x ∷ xs) (y ∷ ys) (z ∷ zs) h k =
-    let front : y ≡ z = one x y z h.0 k.0 in
-    let rest : ys ≡ zs = zip_one R one xs ys zs h.1 k.1 in
-    ap (λ w. w ∷ ys) front ∙ ap (λ ws. z ∷ ws) rest
 
 pub all_flat : {X Y : Type 0} (Q : Y → Type 0) (g : X → List Y) → ((x : X) → All Q (g x)) → (xs : List X) → All Q (flat_map g xs)
 all_flat Q g each [] = All-nil Q

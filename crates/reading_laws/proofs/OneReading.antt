@@ -1,6 +1,7 @@
 -- Files in which the first phase finds nothing have one reading.
 use Rattle.std.proofs.Common.{◌≡◌, ◌≢◌, ℕ, List, Option, Some, None, refl, ap, subst}
 use Rattle.std.specs.List.{AllZip}
+use Rattle.venue_types.proofs.Zips.{zip_one}
 use Rattle.exact_json.specs.Json.{Json}
 use Rattle.exact_json.specs.Grammar.{IsJson}
 use Rattle.geo_shapes.specs.Laws.{HasOnePoint, HasOneLine, HasOneShape}
@@ -13,7 +14,6 @@ use Rattle.imdf_schema.specs.declared.files.File.TheVariants as file
 use Rattle.imdf_schema.specs.Contents.{IsContent, HasContent, content_items}
 use Rattle.imdf_rows.specs.Rows.{IsPlainRow, IsAmenityRow, IsAnchorRow, IsBuildingRow, IsDetailRow, IsFixtureRow, IsFootprintRow, IsKioskRow, IsLevelRow, IsOccupantRow, IsOpeningRow, IsRelationshipRow, IsUnitRow, IsVenueRow}
 use Rattle.imdf_rows.specs.Folder.{AreRows, AreFeatures}
-use Rattle.reading_laws.proofs.Lists.{zip_one}
 use Rattle.reading_laws.proofs.Nothing.{FindsNothing, BreaksNone}
 use Rattle.reading_laws.proofs.Shapes.{IsKept, kept_rows}
 use Rattle.reading_laws.proofs.SameRows.{same_features}

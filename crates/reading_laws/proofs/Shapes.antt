@@ -5,6 +5,7 @@ use Rattle.std.specs.List.{AllZip, flat_map}
 use Rattle.std.proofs.lemmas.List.{length-map}
 use Rattle.std.proofs.lemmas.List.Folds.{flat_map-map}
 use Rattle.std.proofs.lemmas.List.Elements.{All-map}
+use Rattle.venue_types.proofs.Zips.{zip_all}
 use Rattle.exact_json.specs.Json.{Json}
 use Rattle.venue_types.specs.declared.files.Files.{Files}
 use Rattle.venue_types.specs.declared.point.Point.{Point}
@@ -18,11 +19,11 @@ use Rattle.imdf_schema.specs.Files.{geometry_of}
 use Rattle.imdf_schema.specs.Items.{geometry}
 use Rattle.imdf_schema.specs.Contents.{content_items}
 use Rattle.imdf_rows.specs.Folder.{AreRows}
-use Rattle.imdf_read.specs.declared.rules.Rule.TheVariants.{S3}
+use Rattle.imdf_read.specs.declared.rules.ReadingRule.TheVariants.{S3}
 use Rattle.imdf_read.specs.Counts.{places_of, item_positions, file_positions, longest_ring}
 use Rattle.plane_exact.specs.Figure.{vertices}
 use Rattle.feature_rows.specs.Sound.{IsOnEarth, IsSoundShape}
-use Rattle.reading_laws.proofs.Lists.{zip_places, zip_all, zip_flat_all, zip_count, zip_flat_count}
+use Rattle.reading_laws.proofs.Lists.{zip_places, zip_flat_all, zip_count, zip_flat_count}
 use Rattle.reading_laws.proofs.Nothing.{FindsNothing, BreaksNone, item_keeps, is_judged_of}
 use Rattle.reading_laws.proofs.Figures.{shape_on_earth, shape_count, sound_shape}
 

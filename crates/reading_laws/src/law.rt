@@ -9,8 +9,8 @@ ghost use Rattle.imdf_read.specs.Broken.{IsBroken};
 ghost use Rattle.feature_rows.specs.Sound.{AreSound};
 ghost use Rattle.reading_laws.specs.Ordinals.{IsInRange};
 
-use exact_json::laws::one_value;
-use geo_shapes::{has_one_line, has_one_point, has_one_shape};
+use exact_json::laws::one_json_law;
+use geo_shapes::{one_line_law, one_point_law, one_shape_law};
 
 /// Where the first phase finds nothing in the files, their rows are sound: one venue, the limits kept, each position
 /// on the earth, each figure of its form.
@@ -24,10 +24,10 @@ pub fn one_reading_law()
     ensures { (files : Files) (one other : Features) → length files.slots ≡ 17 → ((x : Finding) → ¬ IsBroken files x)
         → AreFeatures files one → AreFeatures files other → one ≡ other }
 {
-    one_value();
-    has_one_point();
-    has_one_line();
-    has_one_shape();
+    one_json_law();
+    one_point_law();
+    one_line_law();
+    one_shape_law();
 }
 
 /// Where the first phase finds nothing in the files, the ordinals of their levels lie from -180 to 180.

@@ -1,8 +1,8 @@
 -- What a pass adds, put together from what its parts add.
-use Rattle.std.proofs.Common.{◌≡◌, ℕ, ◌+◌, ◌<◌, ◌≤◌, zero, suc, List, [], ◌∷◌, ◌++◌, Option, Some, Bool, true, length, map, refl, sym, ap, subst, arith, ◌⊎◌, inl, inr, Result, Ok, Err}
+use Rattle.std.proofs.Common.{◌≡◌, ℕ, ◌+◌, ◌<◌, ◌≤◌, List, ◌++◌, Option, Some, Bool, true, length, sym, subst, arith, ◌⊎◌, inl, inr, Result, Ok, Err}
 use Rattle.std.specs.Prelude.{Contains, slice_get}
 use Rattle.std.specs.Result.{OnOk}
-use Rattle.std.proofs.lemmas.Option.{slice_get_within, slice_get_read, get_or_from_slice_get}
+use Rattle.std.proofs.lemmas.Option.{slice_get_within}
 use Rattle.std.proofs.lemmas.Bool.{cases_lt}
 use Rattle.std.proofs.lemmas.List.Elements.{Contains-append_left, Contains-append_right, Contains-append_cases}
 use Rattle.report_laws.specs.Passes.{found, Adds}
@@ -71,9 +71,6 @@ Adds-start P xs ys = record {
   whole = λ x h. absurd (omega (arith, h.under));
 }
 
-some_same : {X : Type 0} (x y : X) → Some x ≡ Some y → x ≡ y
-some_same x y e = cc
-
 some_item : {X : Type 0} (o : Option X) (x y : X) → o ≡ Some x → o ≡ Some y → x ≡ y
 some_item o x y a b = cc
 
@@ -103,16 +100,3 @@ Adds-end P xs n long adds = Adds-same (Among P xs) adds
     (λ y h. record { place = h.place; item = h.item; there = h.there; holds = h.holds })
     (λ y h. let within : h.place < length xs = slice_get_within xs h.place h.item h.there in
     record { place = h.place; item = h.item; under = omega arith; there = h.there; holds = h.holds })
-
--- the item of a list that is seen in another way
-pub at_map : {X Y : Type 0} (f : X → Y) (xs : List X) (k : ℕ) (x : X) → slice_get xs k ≡ Some x → slice_get (map f xs) k ≡ Some (f x)
-at_map f [] k x e = cc
-at_map f (z ∷ zs) zero x e = let same : z ≡ x = some_same z x e in ap (λ w. Some (f w)) same
-at_map f (z ∷ zs) (suc k) x e = at_map f zs k x e
-
--- a value that stands somewhere in the list is its item there
-pub at_member : {X : Type 0} (xs : List X) (x : X) → Contains xs x → (k : ℕ) × (slice_get xs k ≡ Some x)
-at_member xs x h = (h.0, slice_get_read xs (length xs) h.0 x refl h.1 (sym h.2))
-
-pub member_at : {X : Type 0} (xs : List X) (k : ℕ) (x : X) → slice_get xs k ≡ Some x → Contains xs x
-member_at xs k x e = (k, slice_get_within xs k x e, get_or_from_slice_get xs k x x e)

@@ -1,10 +1,10 @@
 -- One phase after another, and one property in place of another.
 use Rattle.std.proofs.Common.{◌≡◌, ◌≢◌, ℕ, List, [], ◌∷◌, length, take, refl, sym, ap, ◌∙◌, inl, inr}
 use Rattle.std.specs.declared.cmp.Ordering.{Ordering}
+use Rattle.venue_types.proofs.Items.{Contains-nil, Contains-first}
 use Rattle.venue_types.specs.declared.finding.Finding.{Finding}
 use Rattle.venue_types.specs.declared.finding.Report.{Report}
 use Rattle.report_laws.specs.Reports.{Lists, First, Shortens}
-use Rattle.report_laws.proofs.Members.{Contains-nil, Contains-first}
 
 -- where the first phase has a place, its list is that of both
 pub First-stops : {A : Type 0} (cmp : A → A → Ordering) (P Q : A → Type 0) (xs : List A) → xs ≢ [] → Lists cmp P xs → Lists cmp (First P Q) xs

@@ -8,8 +8,8 @@ use Rattle.std.specs.Cmp.{IsTotalOrder}
 use Rattle.std.specs.List.{AllByRecursion}
 use Rattle.std.specs.List.Sorted.{IsStrictlySortedBy}
 use Rattle.std.proofs.lemmas.List.Elements.{All-from_recursion, All-contains}
+use Rattle.venue_types.proofs.Items.{Contains-nil, Contains-first, Contains-later, Contains-cons_cases}
 use Rattle.report_laws.specs.Reports.{Lists}
-use Rattle.report_laws.proofs.Members.{Contains-nil, Contains-first, Contains-later, Contains-cons_cases}
 
 below_all : {X : Type 0} (cmp : X → X → Ordering) (x : X) (xs : List X) (z : X) → AllByRecursion (λ y. cmp x y ≡ Less) xs → Contains xs z → cmp x z ≡ Less
 below_all cmp x xs z all h = All-contains (λ y. cmp x y ≡ Less) xs z (All-from_recursion (λ y. cmp x y ≡ Less) xs all) h

@@ -1,9 +1,10 @@
 -- Points of a line that have a property, edges of a ring that cross, and holes that leave their border.
-use Rattle.std.proofs.Common.{Bool, IsTrue, Some, ◌≡◌, ℕ, ◌+◌, ◌<◌, inl, inr, List, ◌∷◌, ◌++◌, length, get_or, drop, Any, ◌↔◌, refl, sym, subst}
+use Rattle.std.proofs.Common.{Bool, IsTrue, ◌≡◌, ℕ, ◌+◌, ◌<◌, inl, inr, List, ◌∷◌, ◌++◌, length, get_or, drop, Any, ◌↔◌, refl, sym, subst}
 use Rattle.std.specs.Prelude.{Contains}
 use Rattle.std.proofs.lemmas.List.Elements.{Contains-append_left, Contains-append_right, All-contains_itself}
+use Rattle.std.proofs.lemmas.Option.{same_Some}
+use Rattle.venue_types.proofs.Items.{Contains-cons_cases}
 use Rattle.venue_types.specs.declared.point.Point.{Point}
-use Rattle.report_laws.proofs.Members.{Contains-cons_cases}
 use Rattle.plane_exact.specs.Figure.{edges, AllClose, HaveCrossing}
 use Rattle.plane_exact.proofs.ListLemmas.{drop_at, any_here, any_past}
 use Rattle.venue_types.specs.declared.point.Ring.{Ring}
@@ -45,9 +46,6 @@ one_and_others xs ys p has h = fewer_close (p ∷ ys) (xs ++ ys)
     ])
     h
 
-same_border : (border other : Ring) → Some border ≡ Some other → border ≡ other
-same_border border other e = cc
-
 some_vertex : (hole border other : Ring) → border ≡ other → (p : Point) → Contains hole.points p → IsOutside other p → Any (IsOutside border) hole.points
 some_vertex hole border other e p at h = (at.0, p, at.1, at.2, subst (λ (ring : Ring). IsOutside ring p) (sym e) h)
 
@@ -55,5 +53,5 @@ some_vertex hole border other e p at h = (at.0, p, at.1, at.2, subst (λ (ring :
 pub leaves_by : (hole border : Ring) (test : Bool) → IsTrue test ↔ Any (IsOutside border) hole.points → IsTrue test ↔ LeavesBorder (as_hole border hole)
 leaves_by hole border test decides = (
   λ t. let h = decides.0 t in record { border = border; hole = refl; vertex = h.1; has = (h.0, h.2, h.3); not_inside = h.4.0; not_on = h.4.1 },
-  λ h. decides.1 (some_vertex hole border h.border (same_border border h.border h.hole) h.vertex h.has (h.not_inside, h.not_on)),
+  λ h. decides.1 (some_vertex hole border h.border (same_Some border h.border h.hole) h.vertex h.has (h.not_inside, h.not_on)),
 )

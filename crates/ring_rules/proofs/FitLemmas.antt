@@ -2,8 +2,7 @@
 use Rattle.std.proofs.Common.{List, [], ◌∷◌, ◌++◌, All, flat_map, inl, inr, subst}
 use Rattle.std.specs.Prelude.{Contains}
 use Rattle.std.proofs.lemmas.List.Elements.{All-contains, All-contains_itself, All-weaker, Contains-append_cases}
-use Rattle.report_laws.proofs.Passes.{Contains-flat_map}
-use Rattle.report_laws.proofs.Members.{Contains-first, Contains-later, Contains-only, Contains-cons_cases}
+use Rattle.venue_types.proofs.Items.{Contains-only, Contains-first, Contains-later, Contains-cons_cases, Contains-flat_map}
 use Rattle.venue_types.specs.declared.point.Point.{Point}
 use Rattle.venue_types.specs.declared.point.Ring.{Ring}
 use Rattle.venue_types.specs.declared.point.Part.{Part}

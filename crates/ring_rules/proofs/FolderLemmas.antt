@@ -2,6 +2,7 @@
 use Rattle.std.proofs.Common.{◌≡◌, ℕ, ◌+◌, ◌⊎◌, inl, inr, List, [], flat_map, Some, None, refl, sym, subst, ap, ◌∙◌, arith}
 use Rattle.std.specs.Prelude.{Contains, slice_get}
 use Rattle.std.proofs.lemmas.List.Elements.{All-contains, All-weaker, Contains-append_left}
+use Rattle.venue_types.proofs.Items.{Contains-flat_map}
 use Rattle.venue_types.specs.declared.features.Features.{Features}
 use Rattle.venue_types.specs.declared.finding.Finding.{Finding}
 use Rattle.venue_types.specs.declared.point.Point.{Point}
@@ -10,13 +11,13 @@ use Rattle.imdf_schema.specs.declared.files.File.{File}
 use Rattle.imdf_schema.specs.declared.files.File.TheVariants as file
 use Rattle.imdf_schema.specs.Files.{file_number, feature_files}
 use Rattle.report_laws.specs.Passes.{Adds}
-use Rattle.report_laws.proofs.Passes.{Contains-flat_map}
 use Rattle.report_laws.proofs.Adding.{Adds-same, Adds-then}
 use Rattle.plane_exact.specs.Figure.{AllClose, rings, vertices}
 use Rattle.feature_rows.specs.Figures.{shapes_of, positions_of, positions, judged_positions, display_of}
 use Rattle.feature_rows.specs.Sound.{AreSound, IsOnEarth, IsSoundRing, IsSoundShape}
 use Rattle.ring_rules.specs.Rings.{placed_rings}
-use Rattle.ring_rules.specs.Rules.{BreaksInRing, ring_rule_number}
+use Rattle.imdf_schema.specs.Rules.{rule_number}
+use Rattle.ring_rules.specs.Rules.{BreaksInRing, rule_of}
 use Rattle.ring_rules.specs.Judged.{AreFitShapes, IsShort}
 use Rattle.ring_rules.specs.Findings.{FindsInShapes}
 use Rattle.ring_rules.proofs.EdgeLemmas.{fewer_close}
@@ -100,7 +101,7 @@ found_of all x h =
         place = x.member;
         placed = h.placed;
         there = h.there;
-        finds = record { rule = h.rule; breaks = h.breaks; is = finding_of x (ring_rule_number h.rule) (file_number h.source) (0 + x.member) h.number h.in_file zero_more };
+        finds = record { rule = h.rule; breaks = h.breaks; is = finding_of x (rule_number (rule_of h.rule)) (file_number h.source) (0 + x.member) h.number h.in_file zero_more };
       };
     }
 

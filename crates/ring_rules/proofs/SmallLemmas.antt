@@ -3,7 +3,7 @@ use Rattle.std.proofs.Common.{List, All, flat_map, map, arith}
 use Rattle.std.specs.Prelude.{Contains}
 use Rattle.std.proofs.lemmas.Int.{ints}
 use Rattle.std.proofs.lemmas.List.Elements.{All-contains, All-contains_itself, All-map, All-weaker}
-use Rattle.report_laws.proofs.Passes.{Contains-flat_map}
+use Rattle.venue_types.proofs.Items.{Contains-flat_map}
 use Rattle.venue_types.specs.declared.point.Point.{Point}
 use Rattle.venue_types.specs.declared.point.Ring.{Ring}
 use Rattle.venue_types.specs.declared.point.Part.{Part}

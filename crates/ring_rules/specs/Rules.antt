@@ -1,11 +1,14 @@
 -- The rules on the spread of a folder and on rings: where each is broken.
-use Rattle.std.specs.Prelude.{◌≡◌, ℕ, pos, Contains, slice_get, Some}
+use Rattle.std.specs.Prelude.{◌≡◌, pos, Contains, slice_get, Some}
 use Rattle.venue_types.specs.declared.features.Features.{Features}
 use Rattle.venue_types.specs.declared.finding.Finding.{Finding}
 use Rattle.venue_types.specs.declared.point.Point.{Point}
 use Rattle.venue_types.specs.declared.point.Shape.{Shape}
 use Rattle.imdf_schema.specs.declared.files.File.{File}
+use Rattle.imdf_schema.specs.declared.rules.Rule.{Rule}
+use Rattle.imdf_schema.specs.declared.rules.Rule.TheVariants as rule
 use Rattle.imdf_schema.specs.Files.{file_number}
+use Rattle.imdf_schema.specs.Rules.{rule_number}
 use Rattle.plane_exact.specs.Plane.{IsClose}
 use Rattle.feature_rows.specs.Figures.{judged_positions, shapes_of}
 use Rattle.ring_rules.specs.declared.rules.RingRule.{RingRule}
@@ -23,15 +26,16 @@ pub record IsSpread (features : Features) : Type 0 where
 -- which is told of the folder
 pub record BreaksSpread (features : Features) (x : Finding) : Type 0 where
   pub spread : IsSpread features
-  pub rule : x.rule ≡ 26
+  pub rule : x.rule ≡ rule_number rule.G6
   pub in_file : x.file ≡ 0
   pub at_index : x.index ≡ 0
   pub at_member : x.member ≡ 0
 
-abbrev pub ring_rule_number : RingRule → ℕ
-ring_rule_number G3 = 27
-ring_rule_number G4 = 28
-ring_rule_number G5 = 29
+-- the rule among all rules
+abbrev pub rule_of : RingRule → Rule
+rule_of G3 = rule.G3
+rule_of G4 = rule.G4
+rule_of G5 = rule.G5
 
 -- the rules on a ring
 abbrev pub RingBreaks : RingRule → Placed → Type 0
@@ -45,7 +49,7 @@ RingBreaks G5 placed = doubled_area placed.ring ≡ pos 0
 -- a rule on a ring is broken, which is told of its feature, and of its number among the feature's rings
 pub record BreaksInRing (features : Features) (x : Finding) : Type 0 where
   pub rule : RingRule
-  pub number : x.rule ≡ ring_rule_number rule
+  pub number : x.rule ≡ rule_number (rule_of rule)
   pub source : File
   pub shape : Shape
   pub feature : slice_get (shapes_of source features) x.index ≡ Some shape

@@ -8,7 +8,6 @@ mod holes;
 mod laws;
 #[cfg(test)]
 mod long_rings;
-mod place;
 mod positioned;
 mod ring_findings;
 mod rules;
@@ -19,5 +18,5 @@ mod tests;
 
 pub use laws::no_spread_law;
 pub use ring_findings::add_ring_findings;
-pub use rules::{RingRule, SPREAD_RULE};
+pub use rules::RingRule;
 pub use spread::is_spread;

@@ -10,7 +10,7 @@ use feature_rows::HasShape;
 use venue_types::{AmenityRow, AnchorRow, List, OpeningRow, Part, Point, Ring, Shape};
 
 /// What has positions.
-pub(crate) trait Positioned {
+pub(crate) trait HasPositions {
     /// Its positions.
     ghost positions: { Self → List Point };
 
@@ -20,14 +20,14 @@ pub(crate) trait Positioned {
 }
 
 /// The bounds of the positions of all items.
-pub(crate) fn bounds_of<T: Positioned>(items: &List<T>) -> Bounds
+pub(crate) fn bounds_of<T: HasPositions>(items: &List<T>) -> Bounds
     ensures { AreBounds (flat_map T.positions items.now) result }
 {
     bounds_in(items.as_slice())
 }
 
 // The same of a slice.
-fn bounds_in<T: Positioned>(items: &[T]) -> Bounds
+fn bounds_in<T: HasPositions>(items: &[T]) -> Bounds
     ensures { AreBounds (flat_map T.positions items.now) result }
 {
     let mut bounds = Bounds::none();
@@ -48,7 +48,7 @@ pub(crate) fn bounds_of_shapes<R: HasShape>(rows: &List<R>) -> Bounds
     bounds
 }
 
-impl Positioned for Point {
+impl HasPositions for Point {
     ghost use Rattle.std.specs.Prelude.{[], ◌∷◌};
 
     ghost positions = { λ p. p ∷ [] };
@@ -58,7 +58,7 @@ impl Positioned for Point {
     }
 }
 
-impl Positioned for Ring {
+impl HasPositions for Ring {
     ghost positions = { λ ring. ring.points };
 
     fn bounds(&self) -> Bounds {
@@ -66,7 +66,7 @@ impl Positioned for Ring {
     }
 }
 
-impl Positioned for Part {
+impl HasPositions for Part {
     ghost use Rattle.plane_exact.specs.Figure.{part_points};
 
     ghost positions = { part_points };
@@ -76,7 +76,7 @@ impl Positioned for Part {
     }
 }
 
-impl Positioned for Shape {
+impl HasPositions for Shape {
     ghost use Rattle.plane_exact.specs.Figure.{vertices};
 
     ghost positions = { vertices };
@@ -86,7 +86,7 @@ impl Positioned for Shape {
     }
 }
 
-impl Positioned for AmenityRow {
+impl HasPositions for AmenityRow {
     ghost use Rattle.std.specs.Prelude.{[], ◌∷◌};
 
     ghost positions = { λ row. row.point ∷ [] };
@@ -96,7 +96,7 @@ impl Positioned for AmenityRow {
     }
 }
 
-impl Positioned for AnchorRow {
+impl HasPositions for AnchorRow {
     ghost use Rattle.std.specs.Prelude.{[], ◌∷◌};
 
     ghost positions = { λ row. row.point ∷ [] };
@@ -106,7 +106,7 @@ impl Positioned for AnchorRow {
     }
 }
 
-impl Positioned for OpeningRow {
+impl HasPositions for OpeningRow {
     ghost positions = { λ row. row.line.points };
 
     fn bounds(&self) -> Bounds {

@@ -9,10 +9,9 @@ ghost use Rattle.ring_rules.specs.Judged.{AreFitShapes};
 ghost use Rattle.ring_rules.specs.Findings.{FindsInShapes};
 ghost use Rattle.ring_rules.specs.Rules.{BreaksInRing};
 
-use crate::place::Place;
 use crate::shape_findings::add_shape;
 use feature_rows::HasShape;
-use imdf_schema::File;
+use imdf_schema::{File, Place};
 use std::alloc::Global;
 use venue_types::{Features, Finding, List, OutOfMemory};
 

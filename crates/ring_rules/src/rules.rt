@@ -1,10 +1,9 @@
 //! The rules on rings.
 
 ghost use Rattle.std.specs.Prelude.{◌≡◌};
-ghost use Rattle.ring_rules.specs.Rules.{ring_rule_number};
+ghost use Rattle.ring_rules.specs.Rules.{rule_of};
 
-/// The number of the rule on the spread of a folder, G6: two judged positions lie too far apart.
-pub const SPREAD_RULE: u8 = 26;
+use imdf_schema::Rule;
 
 /// A rule on a ring.
 #[derive(Clone, Copy, Debug, PartialEq, Eq)]
@@ -18,14 +17,14 @@ pub enum RingRule {
 }
 
 impl RingRule {
-    /// The number that stands in findings.
-    pub fn number(self) -> u8
-        ensures { result ≡ ring_rule_number self }
+    /// The rule among all rules.
+    pub fn rule(self) -> Rule
+        ensures { result ≡ rule_of self }
     {
         match self {
-            RingRule::G3 => 27,
-            RingRule::G4 => 28,
-            RingRule::G5 => 29,
+            RingRule::G3 => Rule::G3,
+            RingRule::G4 => Rule::G4,
+            RingRule::G5 => Rule::G5,
         }
     }
 }

@@ -10,8 +10,7 @@ ghost use Rattle.ring_rules.specs.Findings.{FindsInRing, FindsFrom, alone};
 use crate::area::has_no_area;
 use crate::crossings::crosses_itself;
 use crate::holes::leaves_border;
-use crate::place::Place;
-use crate::rules::RingRule;
+use imdf_schema::{Place, Rule};
 use plane_bands::RingBands;
 use report_laws::add;
 use std::alloc::Global;
@@ -39,9 +38,9 @@ fn add_ring(
     ensures { OnOk result (Adds (FindsInRing place.file place.index number (alone ring.now)) findings.old.items findings.new.items) }
 {
     let crosses = crosses_itself(alloc, ring)?;
-    add(findings, crosses, place.finding(RingRule::G3, number))?;
+    add(findings, crosses, place.finding(Rule::G3, number))?;
     let flat = has_no_area(ring);
-    add(findings, flat, place.finding(RingRule::G5, number))
+    add(findings, flat, place.finding(Rule::G5, number))
 }
 
 // What is wrong with a hole.
@@ -57,7 +56,7 @@ fn add_hole(
     ensures { OnOk result (Adds (FindsInRing place.file place.index number (as_hole border.now hole.now)) findings.old.items findings.new.items) }
 {
     let leaves = leaves_border(hole, border);
-    add(findings, leaves, place.finding(RingRule::G4, number))?;
+    add(findings, leaves, place.finding(Rule::G4, number))?;
     add_ring(alloc, findings, place, number, hole)
 }
 

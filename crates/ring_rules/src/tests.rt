@@ -6,9 +6,8 @@ ghost use Rattle.ring_rules.specs.Judged.{AreFit};
 ghost use Rattle.ring_rules.specs.Testing.{IsInTown, IsSmall};
 
 use crate::is_spread;
-use crate::place::Place;
 use crate::shape_findings::add_shape;
-use imdf_schema::File;
+use imdf_schema::{File, Place};
 use std::alloc::Global;
 use std::test::Fail;
 use venue_types::{

@@ -1,17 +1,15 @@
 -- Steps lead to one end at one cost, or one of them is the first that is broken.
-use Rattle.std.proofs.Common.{◌≡◌, ℕ, ◌<◌, List, [], ◌∷◌, ◌++◌, length, Some, sym, ap, subst, ◌∙◌, arith}
+use Rattle.std.proofs.Common.{◌≡◌, ℕ, ◌<◌, List, [], ◌∷◌, ◌++◌, length, sym, ap, subst, ◌∙◌, arith}
 use Rattle.std.proofs.lemmas.List.{append-nil}
+use Rattle.std.proofs.lemmas.Option.{same_Some}
 use Rattle.line_forms.proofs.ListLemmas.{head_same, tail_same}
 use Rattle.route_certificate.specs.declared.table.TableLink.{TableLink}
 use Rattle.route_certificate.specs.Prices.{IsStep, IsChain, IsBroken}
 use Rattle.route_certificate.specs.Verdicts.{FailsFirstAt}
 
-some_same : (a b : TableLink) → Some a ≡ Some b → a ≡ b
-some_same a b e = cc
-
 -- a step is one link
 step_same : (links : List TableLink) (at step : ℕ) (a b : TableLink) → IsStep links at step a → IsStep links at step b → a ≡ b
-step_same links at step a b p q = some_same a b (sym p.is ∙ q.is)
+step_same links at step a b p q = same_Some a b (sym p.is ∙ q.is)
 
 -- steps lead to one end at one cost
 pub chain_same : (links : List TableLink) (at : ℕ) (steps : List ℕ) (end cost end' cost' : ℕ) → IsChain links at steps end cost → IsChain links at steps end' cost'

@@ -4,7 +4,8 @@ use Rattle.std.specs.Prelude.{Contains, slice_get, ◌==◌}
 use Rattle.std.proofs.lemmas.Bool.{cases_lt}
 use Rattle.std.proofs.lemmas.Bool.Decides.{nat_tests}
 use Rattle.std.proofs.lemmas.Option.{slice_get_within}
-use Rattle.route_search.proofs.Items.{member_at, from_filter}
+use Rattle.venue_types.proofs.Items.{member_at}
+use Rattle.route_search.proofs.Items.{from_filter}
 use Rattle.venue_types.specs.declared.link.Link.{Link}
 use Rattle.link_graph.specs.declared.stretches.Stretch.{Stretch}
 use Rattle.link_graph.specs.declared.stretches.Way.{Way}

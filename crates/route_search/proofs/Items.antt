@@ -1,11 +1,8 @@
 -- Items of lists by their places.
 use Rattle.std.proofs.Common.{◌≡◌, ℕ, zero, suc, Bool, true, false, cond, IsTrue, List, [], ◌∷◌, drop, filter, Some, None, refl, sym, subst, inl, inr, ◌⊎◌, true≢false}
 use Rattle.std.specs.Prelude.{Contains, slice_get}
-use Rattle.std.proofs.lemmas.Option.{slice_get_within, get_or_from_slice_get, same_Some}
-use Rattle.report_laws.proofs.Members.{Contains-nil, Contains-first, Contains-later, Contains-cons_cases}
-
-pub member_at : {X : Type 0} (xs : List X) (k : ℕ) (x : X) → slice_get xs k ≡ Some x → Contains xs x
-member_at xs k x e = (k, slice_get_within xs k x e, get_or_from_slice_get xs k x x e)
+use Rattle.std.proofs.lemmas.Option.{same_Some}
+use Rattle.venue_types.proofs.Items.{Contains-nil, Contains-first, Contains-later, Contains-cons_cases}
 
 pub drop_at : {X : Type 0} (xs : List X) (k : ℕ) (x : X) → slice_get xs k ≡ Some x → drop k xs ≡ x ∷ drop (suc k) xs
 drop_at [] k x e = absurd (let none : None ≡ Some x = e in cc)

@@ -1,6 +1,7 @@
 -- The stretches of a node, one by one.
 use Rattle.std.proofs.Common.{◌≡◌, ℕ, suc, ◌+◌, ◌<◌, ◌≤◌, List, length, drop, Some, subst, arith}
 use Rattle.std.specs.Prelude.{Contains, slice_get}
+use Rattle.venue_types.proofs.Items.{member_at}
 use Rattle.venue_types.specs.declared.link.Link.{Link}
 use Rattle.link_graph.specs.declared.stretches.Stretch.{Stretch}
 use Rattle.link_graph.specs.declared.stretches.Way.{Way}
@@ -8,7 +9,7 @@ use Rattle.link_graph.specs.declared.stretches.Way.TheVariants.{Inside, Between}
 use Rattle.link_graph.specs.Networks.{Network, Follow, AreStretches, GoesBy, IsSome, links_out}
 use Rattle.route_search.specs.declared.state.State.{State}
 use Rattle.route_search.specs.Scans.{IsScanned, IsStretchOf, IsMarkable}
-use Rattle.route_search.proofs.Items.{member_at, drop_at}
+use Rattle.route_search.proofs.Items.{drop_at}
 use Rattle.route_search.proofs.Covers.{follow_end, out_from, out_member}
 use Rattle.route_search.proofs.Looked.{get_some}
 use Rattle.route_search.proofs.Scanned.{some_more}

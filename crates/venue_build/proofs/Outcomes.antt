@@ -1,5 +1,6 @@
 -- A folder has one outcome, where its files have one reading.
 use Rattle.std.proofs.Common.{◌≡◌, ◌<◌, List, [], ◌∷◌, subst, sym, ◌∙◌, arith, inl, inr}
+use Rattle.venue_types.proofs.Items.{Contains-first}
 use Rattle.venue_types.specs.declared.files.Files.{Files}
 use Rattle.venue_types.specs.declared.features.Features.{Features}
 use Rattle.venue_types.specs.declared.settings.Settings.{Settings}
@@ -7,7 +8,6 @@ use Rattle.venue_types.specs.declared.finding.Finding.{Finding}
 use Rattle.venue_types.specs.declared.finding.Report.{Report}
 use Rattle.report_laws.specs.Order.{finding_cmp, note_cmp}
 use Rattle.report_laws.specs.Reports.{IsReport, IsNoteList, Shortens, IsShortReport}
-use Rattle.report_laws.proofs.Members.{Contains-first}
 use Rattle.report_laws.proofs.Phases.{Lists-same, same_short}
 use Rattle.report_laws.proofs.Orders.{findings_total, notes_total}
 use Rattle.report_laws.proofs.Unique.{one_list}

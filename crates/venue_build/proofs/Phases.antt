@@ -2,6 +2,7 @@
 use Rattle.std.proofs.lemmas.Bool.{both_ways}
 use Rattle.std.proofs.Common.{◌≡◌, ◌≢◌, ℕ, ◌<◌, List, [], ◌∷◌, Bool, false, IsTrue, ◌↔◌, length, refl, sym, subst, inl, inr, arith}
 use Rattle.std.specs.Prelude.{Contains}
+use Rattle.venue_types.proofs.Items.{Contains-nil, Contains-first}
 use Rattle.venue_types.specs.declared.files.Files.{Files}
 use Rattle.venue_types.specs.declared.features.Features.{Features}
 use Rattle.venue_types.specs.declared.settings.Settings.{Settings}
@@ -9,7 +10,6 @@ use Rattle.venue_types.specs.declared.finding.Finding.{Finding}
 use Rattle.venue_types.specs.declared.finding.Report.{Report}
 use Rattle.report_laws.specs.Order.{finding_cmp}
 use Rattle.report_laws.specs.Reports.{IsReport, First, Shortens}
-use Rattle.report_laws.proofs.Members.{Contains-nil, Contains-first}
 use Rattle.report_laws.proofs.Phases.{First-stops, First-goes_on}
 use Rattle.imdf_rows.specs.Folder.{AreFeatures}
 use Rattle.imdf_read.specs.Broken.{IsBroken}

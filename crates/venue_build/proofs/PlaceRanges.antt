@@ -2,8 +2,8 @@
 use Rattle.std.proofs.Common.{◌≡◌, ℕ, zero, suc, ◌+◌, ◌-◌, ◌<◌, ◌≤◌, List, [], ◌∷◌, ◌++◌, Some, None, length, map, filter, take, get_or, sym, ap, ◌∙◌, inl, inr, arith, append_assoc, zero-add, length-append}
 use Rattle.std.specs.Prelude.{slice_get}
 use Rattle.std.proofs.lemmas.List.{take_more, map-append, length-map}
-use Rattle.std.proofs.lemmas.Option.{same_Some, slice_get_within, slice_get-map, slice_get_cases, slice_get-get_or, get_or_from_slice_get}
-use Rattle.std.specs.Option.{option_map}
+use Rattle.std.proofs.lemmas.Option.{same_Some, slice_get_within, slice_get_cases, slice_get-get_or, get_or_from_slice_get}
+use Rattle.venue_types.proofs.Items.{at_map}
 use Rattle.venue_types.specs.declared.features.Features.{Features}
 use Rattle.venue_types.specs.declared.features.AmenityRow.{AmenityRow}
 use Rattle.venue_types.specs.declared.features.AnchorRow.{AnchorRow}
@@ -30,9 +30,6 @@ at_right (x ∷ xs) ys n =
 
 at_behind : {X : Type 0} (xs ys : List X) (n m : ℕ) → n ≡ length xs + m → slice_get (xs ++ ys) n ≡ slice_get ys m
 at_behind xs ys n m e = ap (λ (i : ℕ). slice_get (xs ++ ys) i) e ∙ at_right xs ys m
-
-at_map : {X Y : Type 0} (f : X → Y) (xs : List X) (k : ℕ) (x : X) → slice_get xs k ≡ Some x → slice_get (map f xs) k ≡ Some (f x)
-at_map f xs k x e = slice_get-map f xs k ∙ ap (option_map f) e
 
 pub none_behind : {X : Type 0} (xs : List X) (n : ℕ) → None ≡ slice_get xs n → length xs ≤ n
 none_behind xs n e = elim (slice_get_cases xs n).1 [

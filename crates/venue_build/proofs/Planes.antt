@@ -1,26 +1,30 @@
 -- The findings of the two phases on the plane.
 use Rattle.std.proofs.Common.{◌≡◌, ℕ, List, [], ◌∷◌, true, refl, subst, arith, inl, inr}
 use Rattle.std.specs.Prelude.{Contains}
+use Rattle.venue_types.proofs.Items.{Contains-nil, Contains-first}
 use Rattle.venue_types.specs.declared.features.Features.{Features}
 use Rattle.venue_types.specs.declared.finding.Finding.{Finding}
 use Rattle.report_laws.specs.Passes.{Adds}
 use Rattle.report_laws.specs.Reports.{IsReport}
 use Rattle.report_laws.specs.Order.{finding_cmp}
-use Rattle.report_laws.proofs.Members.{Contains-nil, Contains-first}
 use Rattle.report_laws.proofs.Passes.{Contains-found}
 use Rattle.report_laws.proofs.Phases.{Lists-same}
+use Rattle.imdf_schema.specs.declared.files.File.TheVariants as file
+use Rattle.imdf_schema.specs.declared.rules.Rule.TheVariants as rule
+use Rattle.imdf_schema.specs.Places.{finding_at}
+use Rattle.imdf_schema.specs.Rules.{rule_number}
 use Rattle.ring_rules.specs.Rules.{IsSpread, BreaksSpread, BreaksInRing}
 use Rattle.contain_rules.specs.Rules.{BreaksHold}
 use Rattle.venue_build.specs.Phases.{IsPlaneBroken}
 
 abbrev pub spread_finding : Finding
-spread_finding = record { rule = 26; file = 0; index = 0; member = 0 }
+spread_finding = finding_at rule.G6 file.Manifest 0 0
 
 -- what stands in a list of one is that one
 one_there : (x y : Finding) → Contains (x ∷ []) y → x ≡ y
 one_there x y has = ((Contains-found true x y).0 has).1
 
-same_finding : (x : Finding) → x.rule ≡ 26 → x.file ≡ 0 → x.index ≡ 0 → x.member ≡ 0 → spread_finding ≡ x
+same_finding : (x : Finding) → x.rule ≡ rule_number rule.G6 → x.file ≡ 0 → x.index ≡ 0 → x.member ≡ 0 → spread_finding ≡ x
 same_finding x rule in_file at_index at_member = grind (arith, rule, in_file, at_index, at_member)
 
 -- the folder is spread

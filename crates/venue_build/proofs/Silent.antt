@@ -1,9 +1,9 @@
 -- Where no later phase finds anything, none of them does.
 use Rattle.std.proofs.Common.{ℕ, [], Option, Some, None, refl}
+use Rattle.venue_types.proofs.Items.{Contains-first}
 use Rattle.venue_types.specs.declared.features.Features.{Features}
 use Rattle.venue_types.specs.declared.settings.Settings.{Settings}
 use Rattle.venue_types.specs.declared.finding.Finding.{Finding}
-use Rattle.report_laws.proofs.Members.{Contains-first}
 use Rattle.imdf_refs.specs.Rules.{IsMisnamed}
 use Rattle.ring_rules.specs.Rules.{BreaksSpread, IsSpread}
 use Rattle.venue_nodes.specs.declared.limits.Crowding.{Crowding}

@@ -7,17 +7,16 @@ ghost use Rattle.feature_rows.specs.Sound.{AreSound};
 ghost use Rattle.venue_build.specs.Phases.{IsPlaneBroken};
 
 use contain_rules::add_hold_findings;
+use imdf_schema::{File, Place, Rule};
 use report_laws::in_order;
-use ring_rules::{SPREAD_RULE, add_ring_findings, is_spread};
+use ring_rules::{add_ring_findings, is_spread};
 use std::alloc::Global;
 use venue_types::{Features, Finding, List, OutOfMemory, Settings};
 
-// That the positions of a folder lie too far apart, which is told of the folder.
-const SPREAD: Finding = Finding {
-    rule: SPREAD_RULE,
-    file: 0,
+// The positions of a folder lie too far apart, which is told of the folder, and so of its first file.
+const FOLDER: Place = Place {
+    file: File::Manifest,
     index: 0,
-    member: 0,
 };
 
 /// The third phase, and, where it has nothing, the fourth, over rows in which the phases before find nothing.
@@ -34,7 +33,7 @@ pub(crate) fn plane_findings(
 {
     let mut findings = Vec::new(alloc);
     if is_spread(features) {
-        findings.push(SPREAD)?;
+        findings.push(FOLDER.finding(Rule::G6, 0))?;
         return Ok(in_order(findings));
     }
     add_ring_findings(alloc, features, &mut findings)?;

@@ -4,24 +4,22 @@ use Rattle.std.proofs.lemmas.List.{take_all}
 use Rattle.std.specs.Prelude.{IfSome, Vec}
 use Rattle.std.specs.Option.{option_map}
 use Rattle.std.specs.declared.alloc.Global.{Global}
+use Rattle.std.proofs.lemmas.Option.{same_Some}
 use Rattle.venue_types.specs.declared.files.Slot.{Slot}
 use Rattle.venue_types.specs.declared.files.Slot.TheVariants as slot
 use Rattle.venue_types.specs.declared.files.Files.{Files}
 use Rattle.venue_ports.specs.Files.{StoredFile, file_at, ReadsFile}
 use Rattle.imdf_schema.specs.declared.files.File.{File}
-use Rattle.imdf_schema.specs.Files.{file_name}
-use Rattle.venue_folder.specs.Shelves.{file_limit, slot_of, slot_at, all_files, folder_files}
+use Rattle.imdf_schema.specs.Files.{file_name, all_files}
+use Rattle.venue_folder.specs.Shelves.{file_limit, slot_of, slot_at, folder_files}
 
 absent_slot : (found : Option (List ℕ)) → ◌≡◌ {A = Option (List ℕ)} None (option_map (take 33554433) found) → slot.Absent ≡ slot_of found
 absent_slot None e = refl
 absent_slot (Some bytes) e = absurd cc
 
-some_same : (x y : List ℕ) → ◌≡◌ {A = Option (List ℕ)} (Some x) (Some y) → x ≡ y
-some_same x y e = cc
-
 held_slot : (bytes : List ℕ) (found : Option (List ℕ)) → Some bytes ≡ option_map (take 33554433) found → slot.Held bytes ≡ slot_of found
 held_slot bytes None e = absurd cc
-held_slot bytes (Some whole) e = ap slot.Held (some_same bytes (take 33554433 whole) e)
+held_slot bytes (Some whole) e = ap slot.Held (same_Some bytes (take 33554433 whole) e)
 
 -- what a read under a file's name found, where the files are told
 found_at : (fs : List StoredFile) (path name : List ℕ) (f : File) (found : Option (Vec ℕ Global)) → name ≡ file_name f → ReadsFile (Some fs) path name file_limit (Ok found)

@@ -1,12 +1,11 @@
 -- The files of a folder, and the shelf of folders below a base.
-use Rattle.std.specs.Prelude.{ℕ, ◌+◌, List, ◌∷◌, ◌++◌, map, take, Option, Some, None, codes}
+use Rattle.std.specs.Prelude.{ℕ, ◌+◌, List, ◌++◌, map, take, Option, Some, None, codes}
 use Rattle.venue_types.specs.declared.files.Files.{Files}
 use Rattle.venue_types.specs.declared.files.Slot.{Slot}
 use Rattle.venue_types.specs.declared.files.Slot.TheVariants as slot
 use Rattle.venue_ports.specs.Files.{StoredFile, file_at}
 use Rattle.imdf_schema.specs.declared.files.File.{File}
-use Rattle.imdf_schema.specs.declared.files.File.TheVariants as file
-use Rattle.imdf_schema.specs.Files.{file_name, feature_files}
+use Rattle.imdf_schema.specs.Files.{file_name, all_files}
 
 -- how many bytes a folder's file has at most
 abbrev pub file_limit : ℕ
@@ -16,10 +15,6 @@ file_limit = 33554432
 abbrev pub slot_of : Option (List ℕ) → Slot
 slot_of None = slot.Absent
 slot_of (Some bytes) = slot.Held (take (file_limit + 1) bytes)
-
--- the files of a folder, in the order of their numbers (IMDF 1.0.0, section "Archive")
-abbrev pub all_files : List File
-all_files = file.Manifest ∷ feature_files
 
 -- the file of the folder at a path
 unfoldable pub slot_at : List StoredFile → List ℕ → File → Slot

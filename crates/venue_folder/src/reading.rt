@@ -4,33 +4,12 @@ ghost use Rattle.std.specs.Prelude.{◌≡◌, IfOk, IfSome, map, length};
 ghost use Rattle.venue_ports.specs.Files.{HasReadCause};
 ghost use Rattle.venue_folder.specs.Shelves.{slot_at, folder_files};
 
-use imdf_schema::File;
+use imdf_schema::{ALL_FILES, File};
 use std::alloc::Global;
 use venue_ports::{Folders, ReadFault};
 use venue_types::{Bytes, Files, List, Slot};
 
 const FILE_LIMIT: u64 = 33_554_432;
-
-// The files of a folder, in the order of their numbers.
-static ALL_FILES: [File; 17] = [
-    File::Manifest,
-    File::Address,
-    File::Amenity,
-    File::Anchor,
-    File::Building,
-    File::Detail,
-    File::Fixture,
-    File::Footprint,
-    File::Geofence,
-    File::Kiosk,
-    File::Level,
-    File::Occupant,
-    File::Opening,
-    File::Relationship,
-    File::Section,
-    File::Unit,
-    File::Venue,
-];
 
 // A file of a folder, cut one byte after its limit.
 fn slot_of<F: Folders>(

@@ -1,6 +1,7 @@
 -- Histories that are cut and lengthened.
 use Rattle.std.proofs.Common.{◌≡◌, ◌≢◌, ◌∙◌, ◌+◌, List, [], ◌∷◌, ◌++◌, length, refl, sym, ap, arith, subst, Option, Some, None}
 use Rattle.std.proofs.Math.Logic.{∥∥₁_map, ∥∥₁_elim}
+use Rattle.std.proofs.lemmas.Option.{same_Some}
 use mathlib.Core.HLevel.{⊥_prop}
 use mathlib.Core.List.{IsPrefix}
 use Rattle.venue_history.specs.declared.entry.Entry.{Entry}
@@ -9,9 +10,6 @@ use Rattle.venue_history.specs.declared.entry.Act.TheVariants.{Published, Closed
 use Rattle.venue_history.specs.Closed.{Version}
 use Rattle.venue_history.specs.Versions.{MayFollow, after}
 use Rattle.venue_history.specs.Histories.{after_all, MayAllFollow, replay_from, replay, IsLegalFrom, KeepsTheRules, IsLegal, Replays}
-
-some_eq : (u v : Version) → Some u ≡ Some v → u ≡ v
-some_eq u v e = cc e
 
 -- each act makes one version
 after_number : (v : Version) (a : Act) → (after v a).number ≡ v.number + 1
@@ -27,7 +25,7 @@ all_number v (e ∷ es) =
     omega arith
 
 act_number : (a : Act) (es : List Entry) (v : Version) → replay_from a es ≡ Some v → v.number ≡ 1 + length es
-act_number (Published venue) es v r = ap (λ (w : Version). w.number) (sym (some_eq (after_all _ es) v r)) ∙ all_number _ es
+act_number (Published venue) es v r = ap (λ (w : Version). w.number) (sym (same_Some (after_all _ es) v r)) ∙ all_number _ es
 act_number (Closed id) es v r = absurd (cc r)
 act_number (Reopened id) es v r = absurd (cc r)
 
@@ -45,12 +43,12 @@ after_push v [] e = refl
 after_push v (d ∷ es) e = after_push (after v d.act) es e
 
 leads_push : (a : Act) (es : List Entry) (v : Version) (e : Entry) → replay_from a es ≡ Some v → replay_from a (es ++ e ∷ []) ≡ Some (after v e.act)
-leads_push (Published venue) es v e r = ap Some (after_push _ es e ∙ ap (λ (u : Version). after u e.act) (some_eq (after_all _ es) v r))
+leads_push (Published venue) es v e r = ap Some (after_push _ es e ∙ ap (λ (u : Version). after u e.act) (same_Some (after_all _ es) v r))
 leads_push (Closed id) es v e r = absurd (cc r)
 leads_push (Reopened id) es v e r = absurd (cc r)
 
 legal_push : (a : Act) (es : List Entry) (v : Version) (e : Entry) → replay_from a es ≡ Some v → MayFollow v e → IsLegalFrom a es → IsLegalFrom a (es ++ e ∷ [])
-legal_push (Published venue) es v e r m l = (l.0, follow_push _ es e l.1 (subst (λ (u : Version). MayFollow u e) (sym (some_eq (after_all _ es) v r)) m))
+legal_push (Published venue) es v e r m l = (l.0, follow_push _ es e l.1 (subst (λ (u : Version). MayFollow u e) (sym (same_Some (after_all _ es) v r)) m))
 legal_push (Closed id) es v e r m l = absurd l
 legal_push (Reopened id) es v e r m l = absurd l
 

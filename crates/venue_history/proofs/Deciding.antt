@@ -2,6 +2,7 @@
 use Rattle.std.proofs.Common.{◌≡◌, ◌≢◌, ◌∙◌, ℕ, ◌<◌, List, length, refl, sym, subst, arith, Option, Some, Bool, true, false}
 use Rattle.std.specs.Prelude.{Contains}
 use Rattle.std.specs.Arc.{arc_value}
+use Rattle.std.proofs.lemmas.Option.{same_Some}
 use Rattle.venue_types.specs.declared.feature_id.FeatureId.{FeatureId}
 use Rattle.venue_types.specs.declared.files.Files.{Files}
 use Rattle.venue_types.specs.declared.finding.Report.{Report}
@@ -103,10 +104,7 @@ publish_at shelf worker folder h k (reply.Published number dropped) some inside 
 publish_at shelf worker folder h k r some inside is = record { version = is.version; stands = is.stands; cause = refused_publish shelf is.version folder r inside is.cause }
 
 one_version : (h : List Entry) (u v : Version) → Replays h u → Replays h v → u ≡ v
-one_version h u v r s = some_eq u v (sym r.leads ∙ s.leads)
-  where
-    some_eq : (u v : Version) → Some u ≡ Some v → u ≡ v
-    some_eq u v e = cc e
+one_version h u v r s = same_Some u v (sym r.leads ∙ s.leads)
 
 -- the same kind, and both tell an accepted change or neither does
 Same : ReplyKind → ReplyKind → ℕ → ℕ → Type 0

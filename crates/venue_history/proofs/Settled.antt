@@ -5,6 +5,7 @@ use Rattle.std.proofs.Props.{props}
 use Rattle.std.proofs.lemmas.List.Elements.{All-cons, All-contains}
 use Rattle.std.specs.Prelude.{All, Contains}
 use Rattle.std.specs.Arc.{arc_value}
+use Rattle.std.proofs.lemmas.Option.{same_Some}
 use Rattle.venue_build.specs.Venues.{SeenVenue as Venue}
 use Rattle.venue_build.specs.Report.{AreValid}
 use Rattle.venue_types.specs.declared.settings.Settings.{Settings}
@@ -14,9 +15,6 @@ use Rattle.venue_history.specs.declared.entry.Act.TheVariants.{Published, Closed
 use Rattle.venue_history.specs.Closed.{Version}
 use Rattle.venue_history.specs.Versions.{Fits, after}
 use Rattle.venue_history.specs.Histories.{after_all, MayAllFollow, opening_of, replay_from, IsLegalFrom, KeepsTheRules, IsPublished, Replays}
-
-some_eq : (u v : Version) → Some u ≡ Some v → u ≡ v
-some_eq u v e = cc e
 
 after_settings : (v : Version) (a : Act) → (after v a).settings ≡ v.settings
 after_settings v (Published venue) = refl
@@ -29,7 +27,7 @@ all_settings v (e ∷ es) = all_settings (after v e.act) es ∙ after_settings v
 
 -- the settings are those of the venue that was published first
 pub replay_settings : (a : Act) (venue : Venue) (es : List Entry) (v : Version) → replay_from a es ≡ Some v → IsPublished venue a → v.settings ≡ venue.settings
-replay_settings (Published first) venue es v r o = ap (λ (w : Version). w.settings) (sym (some_eq (after_all _ es) v r)) ∙ (all_settings _ es ∙ ap (λ (w : Venue). w.settings) o)
+replay_settings (Published first) venue es v r o = ap (λ (w : Version). w.settings) (sym (same_Some (after_all _ es) v r)) ∙ (all_settings _ es ∙ ap (λ (w : Venue). w.settings) o)
 replay_settings (Closed id) venue es v r o = absurd o
 replay_settings (Reopened id) venue es v r o = absurd o
 
@@ -43,7 +41,7 @@ all_valid v [] valid l = valid
 all_valid v (e ∷ es) valid l = all_valid (after v e.act) es (after_valid v e.act valid l.0.fits) l.1
 
 act_valid : (a : Act) (es : List Entry) (v : Version) → replay_from a es ≡ Some v → IsLegalFrom a es → AreValid v.features v.settings
-act_valid (Published venue) es v r l = subst (λ (w : Version). AreValid w.features w.settings) (some_eq (after_all _ es) v r) (all_valid _ es l.0 l.1)
+act_valid (Published venue) es v r l = subst (λ (w : Version). AreValid w.features w.settings) (same_Some (after_all _ es) v r) (all_valid _ es l.0 l.1)
 act_valid (Closed id) es v r l = absurd l
 act_valid (Reopened id) es v r l = absurd l
 
@@ -71,7 +69,7 @@ all_under v (e ∷ es) l =
 act_under : (a : Act) (e : Entry) (es : List Entry) (v : Version) → e.act ≡ a → replay_from a es ≡ Some v → IsLegalFrom a es → All (IsUnder v.settings) (e ∷ es)
 unfolding IsUnder
 act_under (Published first) e es v same r l =
-    let end = ap (λ (w : Version). w.settings) (some_eq (after_all (opening_of (arc_value first)) es) v r) in
+    let end = ap (λ (w : Version). w.settings) (same_Some (after_all (opening_of (arc_value first)) es) v r) in
     let settings : (arc_value first).settings ≡ v.settings = sym (all_settings (opening_of (arc_value first)) es) ∙ end in
     All-cons (IsUnder v.settings) e es
     (λ venue is. ap (λ (w : Venue). w.settings) (sym (subst (IsPublished venue) same is)) ∙ settings)

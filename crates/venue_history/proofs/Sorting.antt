@@ -1,5 +1,6 @@
 -- To one question at one version belongs one kind of reply.
 use Rattle.std.proofs.Common.{◌≡◌, ◌≢◌, ◌∙◌, ℕ, ◌<◌, List, refl, sym, subst, Option, Some, Bool}
+use Rattle.std.proofs.lemmas.Option.{same_Some}
 use Rattle.venue_types.specs.declared.feature_id.FeatureId.{FeatureId}
 use Rattle.venue_types.specs.declared.link.Link.{Link}
 use Rattle.venue_types.specs.declared.query.Ask.{Ask}
@@ -17,19 +18,13 @@ use Rattle.venue_history.specs.Answers.{IsTooEarly, IsTrip, LacksProfile, HasPro
 use Rattle.venue_history.specs.Replies.{ReplyKind, kind_of}
 use Rattle.venue_history.specs.Replies as kind
 
-some_profile : (p q : Profile) → Some p ≡ Some q → p ≡ q
-some_profile p q e = cc e
-
-some_node : (m n : ℕ) → Some m ≡ Some n → m ≡ n
-some_node m n e = cc e
-
 -- where there is a walk of what may be used there isn't none
 not_both : (v : Version) (from to : FeatureId) (name : List ℕ) (p q : Profile) (a b a' b' cost : ℕ) (walk : List Link) → IsTrip v from to name p a b → IsTrip v from to name q a' b'
     → IsLeast link_view (Usable v p) a b walk cost → HasNoWalk link_view (Usable v q) a' b' → ⊥
 not_both v from to name p q a b a' b' cost walk one other least none =
-    let profiles = some_profile q p (sym other.has_profile ∙ one.has_profile) in
-    let starts = some_node a' a (sym other.has_from ∙ one.has_from) in
-    let ends = some_node b' b (sym other.has_to ∙ one.has_to) in
+    let profiles = same_Some q p (sym other.has_profile ∙ one.has_profile) in
+    let starts = same_Some a' a (sym other.has_from ∙ one.has_from) in
+    let ends = same_Some b' b (sym other.has_to ∙ one.has_to) in
     let here = subst (λ (r : Profile). HasNoWalk link_view (Usable v r) a' b') profiles none in
     let from_a = subst (λ (n : ℕ). HasNoWalk link_view (Usable v p) n b') starts here in
     let to_b = subst (λ (n : ℕ). HasNoWalk link_view (Usable v p) a n) ends from_a in

@@ -5,6 +5,7 @@ use Rattle.std.specs.List.{filter, Contains}
 use Rattle.std.specs.Arc.{arc_value}
 use Rattle.std.proofs.lemmas.List.Elements.{All-filter, All-contains_itself}
 use Rattle.std.proofs.lemmas.List.Kept.{AllPairs-filter}
+use Rattle.std.proofs.lemmas.Option.{same_Some}
 use Rattle.venue_types.specs.declared.feature_id.FeatureId.{FeatureId}
 use Rattle.venue_nodes.specs.Identity.{is_same}
 use Rattle.venue_nodes.specs.Nodes.{closables}
@@ -15,9 +16,6 @@ use Rattle.venue_history.specs.Closed.{Version, is_one_of, is_closed, closed_ids
 use Rattle.venue_history.specs.Versions.{after}
 use Rattle.venue_history.specs.Histories.{after_all, opening_of, replay_from, Replays}
 use Rattle.venue_history.proofs.Identities.{filter_again, filter_filter, filter_none}
-
-some_eq : (u v : Version) → Some u ≡ Some v → u ≡ v
-some_eq u v e = cc e
 
 -- what is closed is what some test keeps of the closable identifiers
 IsKeptBy : Version → Type 0
@@ -39,7 +37,7 @@ act_kept : (a : Act) (es : List Entry) (v : Version) → replay_from a es ≡ So
 unfolding IsKeptBy
 act_kept (Published venue) es v r =
     let first = opening_of (arc_value venue) in
-    subst IsKeptBy (some_eq (after_all first es) v r) (all_kept first es ((λ id. false), sym (filter_none (closables (arc_value venue).features))))
+    subst IsKeptBy (same_Some (after_all first es) v r) (all_kept first es ((λ id. false), sym (filter_none (closables (arc_value venue).features))))
 act_kept (Closed id) es v r = absurd (cc r)
 act_kept (Reopened id) es v r = absurd (cc r)
 

@@ -2,18 +2,15 @@
 use Rattle.std.proofs.Common.{◌≡◌, ℕ, zero, suc, ◌+◌, ◌≤◌, Bool, true, false, cond, List, [], ◌∷◌, map, length, Option, Some, None, refl, sym, ap, ◌∙◌, ◌⊎◌, inl, inr, arith, subst, ◌<◌}
 use Rattle.std.specs.Prelude.{slice_get, IsSome}
 use Rattle.std.specs.List.{position_from, find}
-use Rattle.std.proofs.lemmas.Option.{slice_get_within}
+use Rattle.std.proofs.lemmas.Option.{slice_get_within, same_Some}
+use Rattle.venue_types.proofs.Items.{at_map}
 use Rattle.venue_types.specs.declared.feature_id.FeatureId.{FeatureId}
 use Rattle.venue_types.specs.declared.features.OccupantRow.{OccupantRow}
 use Rattle.feature_rows.specs.declared.index.Index.{Index}
 use Rattle.feature_rows.specs.Indexes.{place_of, IsIndex}
-use Rattle.report_laws.proofs.Adding.{at_map}
 use Rattle.venue_nodes.specs.Identity.{is_same}
 use Rattle.venue_nodes.specs.Numbering.{number_among, HasFew}
 use Rattle.venue_nodes.proofs.Identifiers.{same_id, id_same}
-
-same_Some : {X : Type 0} (x y : X) → Some x ≡ Some y → x ≡ y
-same_Some x y e = cc
 
 -- either outcome of a test
 tested : (b : Bool) → (b ≡ true) ⊎ (b ≡ false)

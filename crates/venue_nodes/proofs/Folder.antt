@@ -5,6 +5,7 @@ use Rattle.std.specs.List.{AllZip}
 use Rattle.std.specs.Option.{option_map}
 use Rattle.std.proofs.lemmas.List.{length-map}
 use Rattle.std.proofs.lemmas.Option.{same_Some}
+use Rattle.venue_types.proofs.Items.{at_member, member_at, at_map}
 use Rattle.venue_types.specs.declared.feature_id.FeatureId.{FeatureId}
 use Rattle.venue_types.specs.declared.features.Features.{Features}
 use Rattle.venue_types.specs.declared.features.AmenityRow.{AmenityRow}
@@ -20,7 +21,7 @@ use Rattle.venue_nodes.specs.Touching.{does_touch}
 use Rattle.venue_nodes.specs.Nodes.{NodeRow, amenity, anchor, opening, unit, node_rows, walkable_units}
 use Rattle.venue_nodes.specs.Members.{is_member, members, places_where}
 use Rattle.venue_nodes.specs.Naming.{names, numbers, row_in, can_walk, unit_id, ids_at, named_by, node_bound}
-use Rattle.venue_nodes.proofs.Items.{at_member, member_at, at_map, given_from, given_to, map_twice}
+use Rattle.venue_nodes.proofs.Items.{given_from, given_to, map_twice}
 use Rattle.venue_nodes.proofs.Named.{names_one, one_names}
 use Rattle.venue_nodes.proofs.Places.{places-zip, places_count, places_few, kept_at}
 

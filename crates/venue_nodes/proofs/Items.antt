@@ -1,27 +1,12 @@
 -- Items of lists by their places.
+pub use Rattle.venue_types.proofs.Items.{at_member, member_at, at_map, from_map}
 use Rattle.std.proofs.Common.{◌≡◌, ℕ, ◌+◌, ◌<◌, zero, suc, List, [], ◌∷◌, ◌++◌, Option, Some, None, length, map, take, get_or, refl, sym, ap, ◌∙◌}
-use Rattle.std.specs.Prelude.{Contains, slice_get}
+use Rattle.std.specs.Prelude.{slice_get}
 use Rattle.std.specs.List.{filter_map, cons_option}
-use Rattle.std.specs.Option.{option_map, option_to_list}
+use Rattle.std.specs.Option.{option_to_list}
 use Rattle.std.proofs.lemmas.List.{take_more, map-append}
 use Rattle.std.proofs.lemmas.List.Elements.{filter_map-append}
-use Rattle.std.proofs.lemmas.Option.{slice_get_within, slice_get_read, slice_get-map, get_or_from_slice_get, same_Some}
-
--- a value that stands somewhere in the list is its item there, and back
-pub at_member : {X : Type 0} (xs : List X) (x : X) → Contains xs x → (k : ℕ) × (slice_get xs k ≡ Some x)
-at_member xs x h = (h.0, slice_get_read xs (length xs) h.0 x refl h.1 (sym h.2))
-
-pub member_at : {X : Type 0} (xs : List X) (k : ℕ) (x : X) → slice_get xs k ≡ Some x → Contains xs x
-member_at xs k x e = (k, slice_get_within xs k x e, get_or_from_slice_get xs k x x e)
-
-pub at_map : {X Y : Type 0} (f : X → Y) (xs : List X) (k : ℕ) (x : X) → slice_get xs k ≡ Some x → slice_get (map f xs) k ≡ Some (f x)
-at_map f xs k x e = slice_get-map f xs k ∙ ap (option_map f) e
-
--- an item of a mapped list comes from one at its place
-pub from_map : {X Y : Type 0} (f : X → Y) (xs : List X) (k : ℕ) (y : Y) → slice_get (map f xs) k ≡ Some y → (x : X) × (slice_get xs k ≡ Some x) × (f x ≡ y)
-from_map f [] k y e = absurd (let no : None ≡ Some y = e in cc)
-from_map f (x ∷ xs) zero y e = (x, refl, same_Some (f x) y e)
-from_map f (x ∷ xs) (suc k) y e = from_map f xs k y e
+use Rattle.std.proofs.lemmas.Option.{same_Some}
 
 -- ---- what a function gives of some items
 

@@ -2,6 +2,7 @@
 use Rattle.std.proofs.Common.{List, All, map, flat_map, get_or, refl, arith}
 use Rattle.std.specs.Prelude.{Contains}
 use Rattle.std.proofs.lemmas.List.Elements.{Contains-append_left, Contains-append_right, Contains-get_or, All-contains, All-append}
+use Rattle.venue_types.proofs.Items.{at_member, member_at, at_map, Contains-flat_map}
 use Rattle.venue_types.specs.declared.features.Features.{Features}
 use Rattle.venue_types.specs.declared.features.AmenityRow.{AmenityRow}
 use Rattle.venue_types.specs.declared.features.AnchorRow.{AnchorRow}
@@ -14,8 +15,6 @@ use Rattle.imdf_schema.specs.Files.{feature_files}
 use Rattle.plane_exact.specs.Figure.{vertices}
 use Rattle.feature_rows.specs.Figures.{positions, positions_of, judged_positions, display_of}
 use Rattle.feature_rows.specs.Sound.{AreSound, IsOnEarth}
-use Rattle.report_laws.proofs.Adding.{at_member, at_map, member_at}
-use Rattle.report_laws.proofs.Passes.{Contains-flat_map}
 use Rattle.venue_nodes.specs.Bounds.{IsPlaced}
 use Rattle.venue_nodes.specs.Making.{CanPlace}
 use Rattle.venue_nodes.proofs.Counts.{are_few}

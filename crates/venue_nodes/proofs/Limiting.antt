@@ -8,6 +8,7 @@ use Rattle.std.proofs.lemmas.Bool.{cases_lt}
 use Rattle.std.proofs.lemmas.List.Elements.{All-contains}
 use Rattle.std.proofs.lemmas.List.Sums.{sum_by-cons, sum_by_more}
 use Rattle.std.proofs.lemmas.Option.{same_Some, get_or_from_slice_get, slice_get_within}
+use Rattle.venue_types.proofs.Items.{at_member, member_at, at_map}
 use Rattle.venue_types.specs.declared.features.Features.{Features}
 use Rattle.venue_types.specs.declared.features.UnitRow.{UnitRow}
 use Rattle.venue_types.specs.declared.finding.Finding.{Finding}
@@ -22,10 +23,11 @@ use Rattle.venue_nodes.specs.declared.rules.LimitRule.TheVariants.{S5, S6}
 use Rattle.venue_nodes.specs.declared.members.Rows.{Rows}
 use Rattle.venue_nodes.specs.Nodes.{walkable_units}
 use Rattle.venue_nodes.specs.Members.{members, places_where}
-use Rattle.venue_nodes.specs.Limits.{IsCrowded, LimitBreaks, BreaksLimit, square_sum, limit_rule_number}
+use Rattle.imdf_schema.specs.Rules.{rule_number}
+use Rattle.venue_nodes.specs.Limits.{IsCrowded, LimitBreaks, BreaksLimit, square_sum, rule_of}
 use Rattle.venue_nodes.specs.Crowds.{Crowds, NoneCrowded, IsFirstFull, IsRoomy, limit_finding, square_of}
 use Rattle.venue_nodes.specs.Rows.{AreRowsOf, row_list, unit_indexes}
-use Rattle.venue_nodes.proofs.Items.{member_at, at_member, at_map, from_map}
+use Rattle.venue_nodes.proofs.Items.{from_map}
 use Rattle.venue_nodes.proofs.Places.{places_rise, kept_at, number_of, lesser_number}
 
 abbrev walks : UnitRow → Bool
@@ -112,11 +114,11 @@ first_crowded features border_tol rows w k are first at =
 
 -- ---- the report
 
-no_rule_before_S5 : (before : LimitRule) → limit_rule_number before < limit_rule_number S5 → ⊥
+no_rule_before_S5 : (before : LimitRule) → rule_number (rule_of before) < rule_number (rule_of S5) → ⊥
 no_rule_before_S5 S5 under = omega arith
 no_rule_before_S5 S6 under = omega arith
 
-only_S5_before_S6 : (features : Features) (border_tol : ℕ) → NoneCrowded features border_tol → (before : LimitRule) (k : ℕ) → limit_rule_number before < limit_rule_number S6 → ¬ LimitBreaks before features border_tol k
+only_S5_before_S6 : (features : Features) (border_tol : ℕ) → NoneCrowded features border_tol → (before : LimitRule) (k : ℕ) → rule_number (rule_of before) < rule_number (rule_of S6) → ¬ LimitBreaks before features border_tol k
 only_S5_before_S6 features border_tol none S5 k under breaks = none k breaks.0
 only_S5_before_S6 features border_tol none S6 k under breaks = omega arith
 
@@ -161,12 +163,12 @@ one_first features border_tol k j here there = elim (cases_lt k j) [
   ]
 ]
 
-told_members : (features : Features) (border_tol k : ℕ) (x : Finding) → LimitBreaks S5 features border_tol k → (rule : LimitRule) → x.rule ≡ limit_rule_number rule → LimitBreaks rule features border_tol x.index
-    → ((before : LimitRule) (j : ℕ) → limit_rule_number before < limit_rule_number rule → ¬ LimitBreaks before features border_tol j) → x.file ≡ file_number file.Unit → x.member ≡ 0 → x ≡ limit_finding (Members k)
+told_members : (features : Features) (border_tol k : ℕ) (x : Finding) → LimitBreaks S5 features border_tol k → (rule : LimitRule) → x.rule ≡ rule_number (rule_of rule) → LimitBreaks rule features border_tol x.index
+    → ((before : LimitRule) (j : ℕ) → rule_number (rule_of before) < rule_number (rule_of rule) → ¬ LimitBreaks before features border_tol j) → x.file ≡ file_number file.Unit → x.member ≡ 0 → x ≡ limit_finding (Members k)
 told_members features border_tol k x crowd S5 number breaks first in_file at_member = same_finding x (limit_finding (Members k)) number in_file (one_first features border_tol k x.index crowd breaks) at_member
 told_members features border_tol k x crowd S6 number breaks first in_file at_member = absurd (first S5 k (omega arith) crowd)
 
-told_squares : (features : Features) (border_tol : ℕ) (x : Finding) → NoneCrowded features border_tol → (rule : LimitRule) → x.rule ≡ limit_rule_number rule → LimitBreaks rule features border_tol x.index
+told_squares : (features : Features) (border_tol : ℕ) (x : Finding) → NoneCrowded features border_tol → (rule : LimitRule) → x.rule ≡ rule_number (rule_of rule) → LimitBreaks rule features border_tol x.index
     → x.file ≡ file_number file.Unit → x.member ≡ 0 → x ≡ limit_finding Squares
 told_squares features border_tol x none S5 number breaks in_file at_member = absurd (none x.index breaks.0)
 told_squares features border_tol x none S6 number breaks in_file at_member = same_finding x (limit_finding Squares) number in_file breaks.1 at_member

@@ -13,6 +13,7 @@ use Rattle.std.proofs.lemmas.List.Kept.{Contains-dedup_nat, Contains-from_dedup}
 use Rattle.std.proofs.lemmas.List.Sorted.{Contains-permutation, IsPermutation-sym}
 use Rattle.std.proofs.lemmas.Map.Keys.{IsStrictlyIncreasing-dedup, sorted_from_strictly_increasing}
 use Rattle.std.proofs.lemmas.Option.{same_Some, slice_get_within}
+use Rattle.venue_types.proofs.Items.{at_member, member_at, at_map}
 use Rattle.venue_types.specs.declared.feature_id.FeatureId.{FeatureId}
 use Rattle.feature_rows.specs.Indexes.{AreOnce, place_of}
 use Rattle.report_laws.proofs.Unique.{same_members}
@@ -21,7 +22,7 @@ use Rattle.venue_nodes.specs.Members.{places_where}
 use Rattle.venue_nodes.specs.declared.walkables.Walkables.{Walkables}
 use Rattle.venue_nodes.specs.Naming.{names, numbers, AreKnown}
 use Rattle.venue_nodes.proofs.Identifiers.{same_id, id_same}
-use Rattle.venue_nodes.proofs.Items.{at_member, member_at, at_map, from_map, given_from, given_to}
+use Rattle.venue_nodes.proofs.Items.{from_map, given_from, given_to}
 use Rattle.venue_nodes.proofs.Places.{places_rise, place_at, number_of, kept_at, one_number, places_count, places_few}
 
 -- ---- names

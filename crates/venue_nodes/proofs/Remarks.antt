@@ -3,8 +3,9 @@ use Rattle.std.proofs.Common.{◌≡◌, ℕ, zero, suc, ◌+◌, ◌*◌, ◌<�
 use Rattle.std.specs.Prelude.{Contains, slice_get, IsSome, is_some}
 use Rattle.std.specs.List.{enumerate_from}
 use Rattle.std.proofs.lemmas.List.{get_or_default}
-use Rattle.std.proofs.lemmas.Option.{slice_get_within, slice_get_read}
+use Rattle.std.proofs.lemmas.Option.{slice_get_within, slice_get_read, same_Some}
 use Rattle.std.proofs.lemmas.List.Elements.{Contains-append_left, Contains-append_right, Contains-append_cases}
+use Rattle.venue_types.proofs.Items.{Contains-nil, Contains-first, Contains-later, Contains-cons_cases}
 use Rattle.venue_types.specs.declared.feature_id.FeatureId.{FeatureId}
 use Rattle.venue_types.specs.declared.features.Features.{Features}
 use Rattle.venue_types.specs.declared.features.Ref.{Ref}
@@ -18,12 +19,12 @@ use Rattle.imdf_schema.specs.Properties.{property_number}
 use Rattle.plane_exact.specs.Opening.{AreTouches}
 use Rattle.report_laws.specs.Passes.{found, Adds}
 use Rattle.report_laws.proofs.Adding.{Below, Adds-step, Adds-end, Adds-found, Adds-same, Adds-then}
-use Rattle.report_laws.proofs.Members.{Contains-nil, Contains-first, Contains-later, Contains-cons_cases}
 use Rattle.venue_nodes.specs.declared.notes.PlaceNote.{PlaceNote}
 use Rattle.venue_nodes.specs.declared.notes.PlaceNote.TheVariants.{N3, N4}
 use Rattle.venue_nodes.specs.declared.nodes.Nodes.{Nodes}
 use Rattle.venue_nodes.specs.Noting.{place_note, LacksNode, LackNodes, LeavesElement, LeaveElements, IsEmptyRow, AreEmpty}
-use Rattle.venue_nodes.specs.Unplaced.{Element, element_at, one_or_none, elements, place_note_number, file_noted, PlaceNotes, IsUnplaced}
+use Rattle.imdf_schema.specs.Rules.{note_number}
+use Rattle.venue_nodes.specs.Unplaced.{Element, element_at, one_or_none, elements, note_of, file_noted, PlaceNotes, IsUnplaced}
 use Rattle.venue_nodes.specs.Views.{AreNodes, find_place}
 use Rattle.venue_nodes.proofs.Spread.{from_map}
 use Rattle.venue_nodes.proofs.Judged.{Contains-map}
@@ -64,11 +65,9 @@ references_end find index p refs k a b past adds = Adds-same (LackNodes find ind
 enumerated : {X : Type 0} (n k : ℕ) (xs : List X) (x : X) → slice_get xs k ≡ Some x → Contains (enumerate_from n xs) (n + k, x)
 enumerated n k [] x e = cc
 enumerated {X} n zero (y ∷ ys) x e =
-    let same : y ≡ x = some_same y x e in
+    let same : y ≡ x = same_Some y x e in
     let none : n ≡ n + 0 = omega arith in
-    subst (λ (i : ℕ). Contains (enumerate_from n (y ∷ ys)) (i, x)) none (subst (λ (z : X). Contains (enumerate_from n (y ∷ ys)) (n, z)) same (Contains-first (n, y) (enumerate_from (n + 1) ys))) where
-      some_same : (a b : X) → Some a ≡ Some b → a ≡ b
-      some_same a b h = cc
+    subst (λ (i : ℕ). Contains (enumerate_from n (y ∷ ys)) (i, x)) none (subst (λ (z : X). Contains (enumerate_from n (y ∷ ys)) (n, z)) same (Contains-first (n, y) (enumerate_from (n + 1) ys)))
 enumerated {X} n (suc k) (y ∷ ys) x e =
     let moved : n + 1 + k ≡ n + suc k = omega arith in
     subst (λ (i : ℕ). Contains (enumerate_from n (y ∷ ys)) (i, x)) moved (Contains-later (n, y) (enumerate_from (n + 1) ys) (n + 1 + k, x) (enumerated (n + 1) k ys x e))
@@ -198,8 +197,8 @@ value_of : {X : Type 0} (o : Option X) → IsSome o → (x : X) × (o ≡ Some x
 value_of (Some x) h = (x, refl)
 value_of None h = cc
 
-note_is : (x : Note) (note : PlaceNote) → x.note ≡ place_note_number note → x.file ≡ file_number (file_noted note) → (member : ℕ) → x.member ≡ member → x ≡ place_note note x.index member
-note_is x note number in_file member at = ap (λ (n : ℕ). told n x.file x.member) number ∙ ap (λ (n : ℕ). told (place_note_number note) n x.member) in_file ∙ ap (λ (n : ℕ). told (place_note_number note) (file_number (file_noted note)) n) at where
+note_is : (x : Note) (note : PlaceNote) → x.note ≡ note_number (note_of note) → x.file ≡ file_number (file_noted note) → (member : ℕ) → x.member ≡ member → x ≡ place_note note x.index member
+note_is x note number in_file member at = ap (λ (n : ℕ). told n x.file x.member) number ∙ ap (λ (n : ℕ). told (note_number (note_of note)) n x.member) in_file ∙ ap (λ (n : ℕ). told (note_number (note_of note)) (file_number (file_noted note)) n) at where
   told : ℕ → ℕ → ℕ → Note
   told n f m = record { note = n; file = f; index = x.index; member = m }
 
@@ -256,7 +255,7 @@ all_added features border_tol touches nodes a b c are touch one two = Adds-then 
     })
     (λ x h. record { note = N4; number = ap (λ (n : Note). n.note) h.is.is; in_file = ap (λ (n : Note). n.file) h.is.is; is = empty_leads features border_tol touches x touch h })
     (λ x h. parted x h.note h.number h.in_file h.is) where
-      parted : (x : Note) (note : PlaceNote) → x.note ≡ place_note_number note → x.file ≡ file_number (file_noted note) → PlaceNotes note features border_tol x.index x.member → LeaveElements (find_place nodes) features.relationships x ⊎ AreEmpty touches.rows x
+      parted : (x : Note) (note : PlaceNote) → x.note ≡ note_number (note_of note) → x.file ≡ file_number (file_noted note) → PlaceNotes note features border_tol x.index x.member → LeaveElements (find_place nodes) features.relationships x ⊎ AreEmpty touches.rows x
       parted x N3 number in_file h = inl (record {
         index = x.index;
         row = h.relationship;

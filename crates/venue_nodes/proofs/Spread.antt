@@ -4,6 +4,7 @@ use Rattle.std.specs.Prelude.{Contains}
 use Rattle.std.specs.Int.{int_min, int_max}
 use Rattle.std.proofs.lemmas.Int.{ints, fold-int_min_reached, fold-int_max_reached}
 use Rattle.std.proofs.lemmas.List.Elements.{All-contains, All-head, Contains-append_cases}
+use Rattle.venue_types.proofs.Items.{Contains-nil, Contains-first, Contains-later, Contains-cons_cases}
 use Rattle.venue_types.specs.declared.features.Features.{Features}
 use Rattle.venue_types.specs.declared.features.OpeningRow.{OpeningRow}
 use Rattle.venue_types.specs.declared.features.UnitRow.{UnitRow}
@@ -18,7 +19,6 @@ use Rattle.plane_exact.specs.Plane.{IsWithin, IsCloseDoubled}
 use Rattle.plane_exact.specs.Figure.{AllClose, vertices, rings}
 use Rattle.feature_rows.specs.Figures.{judged_positions, display_of}
 use Rattle.feature_rows.specs.Sound.{AreSound, IsSoundShape, IsSoundRing}
-use Rattle.report_laws.proofs.Members.{Contains-nil, Contains-first, Contains-later, Contains-cons_cases}
 use Rattle.venue_nodes.specs.Nodes.{NodeRow, amenity, anchor, opening, unit, node_of_row, node_rows, nodes, walkable_units, middle, last_point, line_middle, box_middle, unit_spot}
 use Rattle.venue_nodes.proofs.Judged.{Contains-map, amenity_point, anchor_point, opening_point, unit_vertex, unit_display}
 

@@ -5,9 +5,9 @@ use Rattle.venue_nodes.specs.declared.limits.Crowding.{Crowding}
 use Rattle.venue_nodes.specs.declared.limits.Crowding.TheVariants.{Members, Squares}
 use Rattle.venue_types.specs.declared.finding.Finding.{Finding}
 use Rattle.imdf_schema.specs.declared.files.File.TheVariants as file
-use Rattle.imdf_schema.specs.Files.{file_number}
+use Rattle.imdf_schema.specs.Places.{finding_at}
 use Rattle.venue_nodes.specs.declared.rules.LimitRule.TheVariants.{S5, S6}
-use Rattle.venue_nodes.specs.Limits.{IsCrowded, square_sum, limit_rule_number}
+use Rattle.venue_nodes.specs.Limits.{IsCrowded, square_sum, rule_of}
 
 -- no unit is crowded
 abbrev pub NoneCrowded : Features → ℕ → Type 0
@@ -21,8 +21,8 @@ Crowds features border_tol None = NoneCrowded features border_tol × (square_sum
 
 -- what is told of a limit that is passed: the unit that is crowded, or of the squares the first unit
 abbrev pub limit_finding : Crowding → Finding
-limit_finding (Members k) = record { rule = limit_rule_number S5; file = file_number file.Unit; index = k; member = 0 }
-limit_finding Squares = record { rule = limit_rule_number S6; file = file_number file.Unit; index = 0; member = 0 }
+limit_finding (Members k) = finding_at (rule_of S5) file.Unit k 0
+limit_finding Squares = finding_at (rule_of S6) file.Unit 0 0
 
 -- the row has room: it is no longer than its limit
 abbrev pub IsRoomy : List ℕ → Type 0

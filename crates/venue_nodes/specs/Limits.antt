@@ -5,7 +5,10 @@ use Rattle.venue_types.specs.declared.features.UnitRow.{UnitRow}
 use Rattle.venue_types.specs.declared.finding.Finding.{Finding}
 use Rattle.imdf_access.specs.Categories.{is_walkable}
 use Rattle.imdf_schema.specs.declared.files.File.TheVariants as file
+use Rattle.imdf_schema.specs.declared.rules.Rule.{Rule}
+use Rattle.imdf_schema.specs.declared.rules.Rule.TheVariants as rule
 use Rattle.imdf_schema.specs.Files.{file_number}
+use Rattle.imdf_schema.specs.Rules.{rule_number}
 use Rattle.venue_nodes.specs.declared.rules.LimitRule.{LimitRule}
 use Rattle.venue_nodes.specs.declared.rules.LimitRule.TheVariants.{S5, S6}
 use Rattle.venue_nodes.specs.Nodes.{walkable_units}
@@ -26,9 +29,10 @@ pub record IsCrowded (features : Features) (border_tol k : ℕ) : Type 0 where
 abbrev pub square_sum : Features → ℕ → ℕ
 square_sum features border_tol = sum_by (λ u. member_count features border_tol u * member_count features border_tol u) (walkable_units features)
 
-abbrev pub limit_rule_number : LimitRule → ℕ
-limit_rule_number S5 = 34
-limit_rule_number S6 = 35
+-- the rule among all rules
+abbrev pub rule_of : LimitRule → Rule
+rule_of S5 = rule.S5
+rule_of S6 = rule.S6
 
 -- the rule is broken, which is told of the unit of this index: the first crowded one; for the sum of squares the first of all
 abbrev pub LimitBreaks : LimitRule → Features → ℕ → ℕ → Type 0
@@ -38,8 +42,8 @@ LimitBreaks S6 features border_tol k = (20000000 < square_sum features border_to
 -- a limit is passed, and none of the rules before it is broken
 pub record BreaksLimit (features : Features) (border_tol : ℕ) (x : Finding) : Type 0 where
   pub rule : LimitRule
-  pub number : x.rule ≡ limit_rule_number rule
+  pub number : x.rule ≡ rule_number (rule_of rule)
   pub breaks : LimitBreaks rule features border_tol x.index
-  pub first : (before : LimitRule) (k : ℕ) → limit_rule_number before < limit_rule_number rule → ¬ LimitBreaks before features border_tol k
+  pub first : (before : LimitRule) (k : ℕ) → rule_number (rule_of before) < rule_number (rule_of rule) → ¬ LimitBreaks before features border_tol k
   pub in_file : x.file ≡ file_number file.Unit
   pub at_member : x.member ≡ 0

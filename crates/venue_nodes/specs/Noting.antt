@@ -5,15 +5,15 @@ use Rattle.venue_types.specs.declared.features.Ref.{Ref}
 use Rattle.venue_types.specs.declared.features.RelationshipRow.{RelationshipRow}
 use Rattle.venue_types.specs.declared.finding.Note.{Note}
 use Rattle.imdf_schema.specs.declared.table.Property.{Property}
-use Rattle.imdf_schema.specs.Files.{file_number}
+use Rattle.imdf_schema.specs.Places.{note_at}
 use Rattle.imdf_schema.specs.Properties.{property_number}
 use Rattle.venue_nodes.specs.declared.notes.PlaceNote.{PlaceNote}
 use Rattle.venue_nodes.specs.declared.notes.PlaceNote.TheVariants.{N3, N4}
-use Rattle.venue_nodes.specs.Unplaced.{Element, elements, place_note_number, file_noted}
+use Rattle.venue_nodes.specs.Unplaced.{Element, elements, note_of, file_noted}
 
 -- the note on a member of the feature of this index
 abbrev pub place_note : PlaceNote → ℕ → ℕ → Note
-place_note note index member = record { note = place_note_number note; file = file_number (file_noted note); index = index; member = member }
+place_note note index member = note_at (note_of note) (file_noted note) index member
 
 -- the reference at this place of the property has no node
 pub record LacksNode (find : FeatureId → Option ℕ) (index : ℕ) (property : Property) (place : ℕ) (reference : Ref) (x : Note) : Type 0 where

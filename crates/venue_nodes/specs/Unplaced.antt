@@ -9,7 +9,10 @@ use Rattle.imdf_schema.specs.declared.files.File.{File}
 use Rattle.imdf_schema.specs.declared.files.File.TheVariants as file
 use Rattle.imdf_schema.specs.declared.table.Property.{Property}
 use Rattle.imdf_schema.specs.declared.table.Property.TheVariants as property
+use Rattle.imdf_schema.specs.declared.rules.NoteKind.{NoteKind}
+use Rattle.imdf_schema.specs.declared.rules.NoteKind.TheVariants as kind
 use Rattle.imdf_schema.specs.Files.{file_number}
+use Rattle.imdf_schema.specs.Rules.{note_number}
 use Rattle.imdf_schema.specs.Properties.{property_number}
 use Rattle.plane_exact.specs.Opening.{HaveTouch}
 use Rattle.venue_nodes.specs.declared.notes.PlaceNote.{PlaceNote}
@@ -37,9 +40,10 @@ elements row =
     ++ map (element_at property.Intermediary) (enumerate_from 0 row.between)
     ++ map (element_at property.Destination) (enumerate_from 0 (one_or_none row.destination))
 
-abbrev pub place_note_number : PlaceNote → ℕ
-place_note_number N3 = 3
-place_note_number N4 = 4
+-- the note among all notes
+abbrev pub note_of : PlaceNote → NoteKind
+note_of N3 = kind.N3
+note_of N4 = kind.N4
 
 -- the file of the features that are noted
 abbrev pub file_noted : PlaceNote → File
@@ -70,6 +74,6 @@ PlaceNotes N4 features border_tol k member = LeadsNowhere features border_tol k 
 -- an element of a passage has no node, or an opening touches no unit
 pub record IsUnplaced (features : Features) (border_tol : ℕ) (x : Note) : Type 0 where
   pub note : PlaceNote
-  pub number : x.note ≡ place_note_number note
+  pub number : x.note ≡ note_number (note_of note)
   pub in_file : x.file ≡ file_number (file_noted note)
   pub is : PlaceNotes note features border_tol x.index x.member

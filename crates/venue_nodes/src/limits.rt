@@ -10,7 +10,7 @@ ghost use Rattle.venue_nodes.specs.Rows.{AreRowsOf, row_list};
 
 use crate::members::Rows;
 use crate::rules::LimitRule;
-use imdf_schema::File;
+use imdf_schema::{File, Place};
 use std::alloc::Global;
 use venue_types::{Finding, List, OutOfMemory};
 
@@ -36,12 +36,11 @@ impl Crowding {
             Crowding::Members(k) => (LimitRule::S5, k),
             Crowding::Squares => (LimitRule::S6, 0),
         };
-        Finding {
-            rule: rule.number(),
-            file: File::Unit.number(),
+        let place = Place {
+            file: File::Unit,
             index,
-            member: 0,
-        }
+        };
+        place.finding(rule.rule(), 0)
     }
 }
 

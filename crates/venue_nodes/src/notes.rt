@@ -1,9 +1,9 @@
 //! The notes on what is no place.
 
 ghost use Rattle.std.specs.Prelude.{◌≡◌};
-ghost use Rattle.venue_nodes.specs.Unplaced.{place_note_number, file_noted};
+ghost use Rattle.venue_nodes.specs.Unplaced.{note_of, file_noted};
 
-use imdf_schema::File;
+use imdf_schema::{File, NoteKind};
 
 /// A note on an element or an opening that leads nowhere.
 #[derive(Clone, Copy, Debug, PartialEq, Eq)]
@@ -15,13 +15,13 @@ pub enum PlaceNote {
 }
 
 impl PlaceNote {
-    /// The number that stands in notes.
-    pub fn number(self) -> u8
-        ensures { result ≡ place_note_number self }
+    /// The note among all notes.
+    pub fn kind(self) -> NoteKind
+        ensures { result ≡ note_of self }
     {
         match self {
-            PlaceNote::N3 => 3,
-            PlaceNote::N4 => 4,
+            PlaceNote::N3 => NoteKind::N3,
+            PlaceNote::N4 => NoteKind::N4,
         }
     }
 

@@ -11,7 +11,7 @@ ghost use Rattle.venue_nodes.specs.Views.{AreNodes, find_place};
 
 use crate::nodes::Nodes;
 use crate::notes::PlaceNote;
-use imdf_schema::Property;
+use imdf_schema::{Place, Property};
 use report_laws::add;
 use venue_types::{Features, List, Note, OutOfMemory, Ref, RelationshipRow, Touches};
 
@@ -19,12 +19,11 @@ use venue_types::{Features, List, Note, OutOfMemory, Ref, RelationshipRow, Touch
 fn note_at(note: PlaceNote, index: u32, member: u32) -> Note
     ensures { result ≡ place_note note index member }
 {
-    Note {
-        note: note.number(),
-        file: note.file().number(),
+    let place = Place {
+        file: note.file(),
         index,
-        member,
-    }
+    };
+    place.note(note.kind(), member)
 }
 
 /// At each of these references of a property.

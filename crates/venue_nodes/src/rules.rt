@@ -1,7 +1,9 @@
 //! The rules on how many members units may have.
 
 ghost use Rattle.std.specs.Prelude.{◌≡◌};
-ghost use Rattle.venue_nodes.specs.Limits.{limit_rule_number};
+ghost use Rattle.venue_nodes.specs.Limits.{rule_of};
+
+use imdf_schema::Rule;
 
 /// A limit on the members of units.
 #[derive(Clone, Copy, Debug, PartialEq, Eq)]
@@ -13,13 +15,13 @@ pub enum LimitRule {
 }
 
 impl LimitRule {
-    /// The number that stands in findings.
-    pub fn number(self) -> u8
-        ensures { result ≡ limit_rule_number self }
+    /// The rule among all rules.
+    pub fn rule(self) -> Rule
+        ensures { result ≡ rule_of self }
     {
         match self {
-            LimitRule::S5 => 34,
-            LimitRule::S6 => 35,
+            LimitRule::S5 => Rule::S5,
+            LimitRule::S6 => Rule::S6,
         }
     }
 }

@@ -11,7 +11,7 @@ use std::alloc::{AllocError, Global};
 use venue_types::{FeatureId, Finding, List, PlaceRow, Report, Which};
 
 /// How many findings are told at most.
-const MOST: usize = 500;
+const SHOWN: usize = 500;
 
 /// A refusal that is told by its name alone.
 pub(crate) fn write_error(alloc: Global, out: &mut Writer, name: &str) -> Result<(), AllocError>
@@ -150,7 +150,7 @@ pub(crate) fn write_no_place(
 fn first_findings(findings: &[Finding]) -> &[Finding]
     ensures { result.now ≡ take 500 findings.now }
 {
-    &findings[..MOST.min(findings.len())]
+    &findings[..SHOWN.min(findings.len())]
 }
 
 /// The findings of a report that are told.

@@ -2,8 +2,8 @@ use Rattle.std.proofs.Common.{refl, sym}
 use Rattle.std.proofs.lemmas.Bool.{false≢true}
 use Rattle.plane_exact.specs.Figure.{part_points}
 use Rattle.std.proofs.Common.{flat_map}
+use Rattle.venue_types.proofs.Items.{Contains-flat_map}
 use Rattle.plane_exact.proofs.SegmentLemmas.{iff_along}
-use Rattle.report_laws.proofs.Passes.{Contains-flat_map}
 use Rattle.contain_rules.specs.Rules.{IsHeld}
 use Rattle.contain_rules.proofs.Closeness.{beside_fewer}
 use Rattle.contain_rules.proofs.Lists.{at_place, all_here, all_past}

@@ -1,10 +1,10 @@
 use Rattle.std.proofs.Common.{List, refl, sym, subst}
 use Rattle.std.proofs.lemmas.Bool.{false≢true}
+use Rattle.venue_types.proofs.Items.{Contains-flat_map}
 use Rattle.venue_types.specs.declared.point.Point.{Point}
 use Rattle.venue_types.specs.declared.point.Ring.{Ring}
 use Rattle.plane_exact.specs.Figure.{ring_points}
 use Rattle.plane_exact.proofs.SegmentLemmas.{iff_along}
-use Rattle.report_laws.proofs.Passes.{Contains-flat_map}
 use Rattle.contain_rules.specs.Rules.{IsHeld}
 use Rattle.contain_rules.specs.Judging.{AreBeside, SomeLeaves}
 use Rattle.contain_rules.proofs.Closeness.{beside_fewer}

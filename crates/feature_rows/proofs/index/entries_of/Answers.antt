@@ -1,8 +1,8 @@
 use Rattle.std.proofs.Common.{◌<◌, length, map, refl, arith, ◌∙◌, ap, ◌++◌, ◌∷◌, []}
 use Rattle.std.proofs.lemmas.Option.{slice_get_read}
+use Rattle.venue_types.proofs.Items.{at_map}
 use Rattle.venue_types.specs.declared.feature_id.FeatureId.{FeatureId}
 use Rattle.feature_rows.proofs.Entries.{entry, none_yet, one_more, enough}
-use Rattle.feature_rows.proofs.Lists.{at_map}
 use Rattle.feature_rows.proofs.index.entries_of.Goals as goal
 
 pub loop-place-init : goal.loop-place-init

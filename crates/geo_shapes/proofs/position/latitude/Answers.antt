@@ -7,10 +7,10 @@ use Rattle.geo_shapes.proofs.Positions.{none_low, none_high, wider}
 use Rattle.geo_shapes.proofs.position.latitude.Goals as goal
 
 pub returns-in_default : goal.returns-in_default
-returns-in_default c = none_high c.has_one_value.ensures (tree_view c.args.tree.now) c.in-Some.n c.in-Some.ensures (omega (arith, ints))
+returns-in_default c = none_high c.one_value_law.ensures (tree_view c.args.tree.now) c.in-Some.n c.in-Some.ensures (omega (arith, ints))
 
 pub returns-in_default-2 : goal.returns-in_default-2
-returns-in_default-2 c = none_low c.has_one_value.ensures (tree_view c.args.tree.now) c.in-Some.n c.in-Some.ensures (omega (arith, ints))
+returns-in_default-2 c = none_low c.one_value_law.ensures (tree_view c.args.tree.now) c.in-Some.n c.in-Some.ensures (omega (arith, ints))
 
 pub returns-in_default-3 : goal.returns-in_default-3
 returns-in_default-3 c m a =

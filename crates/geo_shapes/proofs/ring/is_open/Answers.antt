@@ -15,7 +15,7 @@ returns-in-Some c =
     let start = point_at xs ys 0 0 c.copied.result h refl (c.copied.ensures ∙ c.first.ensures.value ∙ ap (λ zs. slice_get zs 0) c.deref.ensures.value) in
     let end = point_at xs ys (length ys - 1) (length xs - 1) c.copied-in-Some.result h (ap (λ n. n - 1) (AllZip-long IsPosition xs ys h))
     (c.copied-in-Some.ensures ∙ c.last.ensures.value ∙ ap (λ zs. slice_get zs (length zs - 1)) c.deref-in-Some.ensures.value) in
-    both_ways c.are_apart.ensures (open_ends c.has_one_value.ensures xs c.copied.result c.copied-in-Some.result start end)
+    both_ways c.are_apart.ensures (open_ends c.one_value_law.ensures xs c.copied.result c.copied-in-Some.result start end)
 
 pub returns-in-None : goal.returns-in-None
 returns-in-None c =
@@ -24,4 +24,4 @@ returns-in-None c =
     let last = maybe_at tree_view ts (length ts - 1) c.last-in-None.result c.maybe_position-in-None.result c.last-in-None.ensures.value c.maybe_position-in-None.ensures in
     let same : length ts - 1 ≡ length (map tree_view ts) - 1 = ap (λ n. n - 1) (sym (length-map ts tree_view)) in
     let at_last = subst (λ k. ReadsMaybe (slice_get (map tree_view ts) k) c.maybe_position-in-None.result) same last in
-    both_ways c.are_apart-in-None.ensures (open_ends c.has_one_value.ensures (map tree_view ts) c.maybe_position.result c.maybe_position-in-None.result first at_last)
+    both_ways c.are_apart-in-None.ensures (open_ends c.one_value_law.ensures (map tree_view ts) c.maybe_position.result c.maybe_position-in-None.result first at_last)

@@ -2,11 +2,12 @@ use Rattle.std.proofs.Common.{◌≡◌, ◌+◌, ◌<◌, ◌++◌, [], ◌∷�
 use Rattle.std.specs.List.{AllZip}
 use Rattle.std.proofs.lemmas.List.{length-map}
 use Rattle.std.proofs.lemmas.Option.{slice_get_read}
+use Rattle.venue_types.proofs.Items.{at_map}
 use Rattle.exact_json.specs.Json.{Json}
 use Rattle.exact_json.specs.View.{tree_view}
 use Rattle.imdf_read.specs.Counts.{item_positions}
 use Rattle.imdf_read.specs.Gathering.{FindsInItem, NotesInItem}
-use Rattle.report_laws.proofs.Adding.{Adds-step, Adds-end, at_map}
+use Rattle.report_laws.proofs.Adding.{Adds-step, Adds-end}
 use Rattle.imdf_read.proofs.ItemLists.{finds_in_items, notes_in_items, map_more, more_positions, takes_all}
 use Rattle.imdf_read.proofs.items.take_items.Goals as goal
 

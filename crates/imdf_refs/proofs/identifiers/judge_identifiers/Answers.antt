@@ -6,7 +6,7 @@ use Rattle.imdf_schema.specs.Files.{feature_files}
 use Rattle.report_laws.proofs.Adding.{Adds-start, Adds-step, Adds-end}
 use Rattle.imdf_refs.specs.Index.{HasBefore}
 use Rattle.imdf_refs.specs.Gathering.{RepeatsIn}
-use Rattle.imdf_refs.proofs.FileOrder.{nth_number}
+use Rattle.imdf_schema.proofs.FileNumbers.{nth_number}
 use Rattle.imdf_refs.proofs.Indexing.{starts, all_files}
 use Rattle.imdf_refs.proofs.Naming.{told_in_files}
 use Rattle.imdf_refs.proofs.identifiers.judge_identifiers.Goals as goal

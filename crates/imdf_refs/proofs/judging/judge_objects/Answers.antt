@@ -2,12 +2,12 @@ use Rattle.std.proofs.Common.{◌≡◌, ◌<◌, Some, Option, ℕ, get_or, len
 use Rattle.std.specs.Prelude.{slice_get}
 use Rattle.std.proofs.lemmas.List.{length-map}
 use Rattle.std.proofs.lemmas.Option.{slice_get-get_or}
+use Rattle.venue_types.proofs.Items.{at_map}
 use Rattle.venue_types.specs.declared.features.Ref.{Ref}
 use Rattle.report_laws.specs.Passes.{Adds}
-use Rattle.report_laws.proofs.Adding.{Adds-start, Adds-step, Adds-end, at_map}
-use Rattle.imdf_refs.specs.declared.place.Place.{Place}
+use Rattle.report_laws.proofs.Adding.{Adds-start, Adds-step, Adds-end}
 use Rattle.imdf_refs.specs.References.{by_object, file_named}
-use Rattle.imdf_refs.specs.Gathering.{Dangles, DanglesAt}
+use Rattle.imdf_refs.specs.Gathering.{place_of, Dangles, DanglesAt}
 use Rattle.imdf_refs.proofs.Dangling.{at_all}
 use Rattle.imdf_refs.proofs.judging.judge_objects.Goals as goal
 
@@ -25,8 +25,8 @@ loop-k-preserved c =
     let within : k < length objects = omega arith in
     let at : slice_get (map by_object objects) k ≡ Some (by_object item) = at_map by_object objects k item (slice_get-get_or objects k none within) in
     Adds-step (DanglesAt known row c.args.index) (map by_object objects) k (by_object item) at c.loop-k.invariant
-    (subst (λ (place : Place). Adds (Dangles known place item.id (file_named row.names (by_object item))) c.loop-k.findings.items c.judge.new.findings.items) c.in_ok-item_place.ensures.is
-    (subst (λ (f : Option ℕ). Adds (Dangles known c.in_ok-item_place.field-0 item.id f) c.loop-k.findings.items c.judge.new.findings.items) (c.named_file-file.ensures item.id) c.in_ok-judge.ensures))
+    (subst (λ (member : ℕ). Adds (Dangles known (place_of row.file c.args.index) member item.id (file_named row.names (by_object item))) c.loop-k.findings.items c.judge.new.findings.items) c.in_ok-member.ensures.is
+    (subst (λ (f : Option ℕ). Adds (Dangles known (place_of row.file c.args.index) c.in_ok-member.member item.id f) c.loop-k.findings.items c.judge.new.findings.items) (c.named_file-file.ensures item.id) c.in_ok-judge.ensures))
 
 pub returns : goal.returns
 returns c =

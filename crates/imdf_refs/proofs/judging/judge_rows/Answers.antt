@@ -1,8 +1,9 @@
 use Rattle.std.proofs.Common.{◌<◌, List, length, map, refl, subst, arith}
 use Rattle.std.proofs.lemmas.List.{length-map}
 use Rattle.std.proofs.lemmas.Option.{slice_get_read}
+use Rattle.venue_types.proofs.Items.{at_map}
 use Rattle.report_laws.specs.Passes.{Adds}
-use Rattle.report_laws.proofs.Adding.{Adds-start, Adds-step, Adds-end, at_map}
+use Rattle.report_laws.proofs.Adding.{Adds-start, Adds-step, Adds-end}
 use Rattle.imdf_refs.specs.References.{Reference}
 use Rattle.imdf_refs.specs.Gathering.{DanglesAmong}
 use Rattle.imdf_refs.proofs.Dangling.{in_all}

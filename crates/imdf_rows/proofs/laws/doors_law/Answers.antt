@@ -1,6 +1,7 @@
 use Rattle.std.proofs.Common.{◌≡◌, ◌∙◌, ℕ, List, true, get_or, refl, ap, sym, arith, codes}
 use Rattle.std.specs.Str.{bytes_eq}
 use Rattle.std.proofs.lemmas.Slice.Eq.{bytes_eq-Decides}
+use Rattle.venue_types.proofs.Zips.{zip_all}
 use Rattle.exact_json.specs.Json.{Json, member}
 use Rattle.imdf_access.specs.Categories.{before_dot}
 use Rattle.imdf_schema.specs.declared.table.Property.TheVariants as property
@@ -9,7 +10,6 @@ use Rattle.imdf_schema.specs.Items as item
 use Rattle.imdf_rows.specs.Fields.{text_field}
 use Rattle.imdf_rows.specs.Laws.{IsOneDoor}
 use Rattle.imdf_rows.specs.Rows.{IsOpeningRow}
-use Rattle.imdf_rows.proofs.Zips.{zip_all}
 use Rattle.imdf_rows.proofs.laws.doors_law.Goals as goal
 
 apart : (a b : ℕ) → a ≡ b → a ≡ 114 → b ≡ 116 → ⊥

@@ -1,4 +1,5 @@
 use Rattle.std.proofs.Common.{◌≡◌, ◌∙◌, ℕ, List, Some, sym}
+use Rattle.venue_types.proofs.Zips.{zip_all}
 use Rattle.venue_types.specs.declared.kind.Kind.TheVariants as kind
 use Rattle.imdf_access.specs.declared.meaning.Meaning.{Meaning}
 use Rattle.imdf_access.specs.declared.meaning.Meaning.TheVariants.{Elevator, Escalator, Movingwalkway, Ramp, Stairs, Steps, Traversal, Ground, Solid, Unknown}
@@ -6,7 +7,6 @@ use Rattle.imdf_access.specs.Categories.{kind_between, meaning_of, passage_of}
 use Rattle.imdf_schema.specs.Contents.{content_items}
 use Rattle.imdf_rows.specs.Laws.{IsPassageOrNone}
 use Rattle.imdf_rows.specs.Rows.{IsRelationshipRow}
-use Rattle.imdf_rows.proofs.Zips.{zip_all}
 use Rattle.imdf_rows.proofs.laws.passages_law.Goals as goal
 
 no_floor : (m : Meaning) → kind_between m ≡ Some kind.Floor → ⊥

@@ -1,4 +1,5 @@
 use Rattle.std.proofs.Common.{◌≡◌, List, sym, subst}
+use Rattle.venue_types.proofs.Zips.{zip_all}
 use Rattle.exact_json.specs.Json.{Json}
 use Rattle.venue_types.specs.declared.features.Label.{Label}
 use Rattle.imdf_schema.specs.declared.table.Property.TheVariants as property
@@ -8,7 +9,6 @@ use Rattle.imdf_rows.specs.Fields.{labels_field}
 use Rattle.imdf_rows.specs.Laws.{TagsAscend}
 use Rattle.imdf_rows.specs.Rows.{IsAmenityRow, IsOccupantRow, IsUnitRow}
 use Rattle.imdf_rows.proofs.LabelLists.{labels_are}
-use Rattle.imdf_rows.proofs.Zips.{zip_all}
 use Rattle.imdf_rows.proofs.laws.tags_law.Goals as goal
 
 ascend : (v : Json) (labels : List Label) → labels ≡ labels_field v → TagsAscend labels

@@ -15,7 +15,7 @@ returns-in-Ok-clause-none c =
     let nano = c.in-Ok.nano in
     let fits : SFits w64 nano = search rules in
     let same : to_z w64 (of_z w64 nano) ≡ nano = omega (arith, ints) in
-    none_whole c.has_one_value.ensures c.args.token.now nano (to_z w64 (of_z w64 nano)) c.whole.result same c.in-Ok.ensures.value.0 c.whole.ensures.none
+    none_whole c.one_value_law.ensures c.args.token.now nano (to_z w64 (of_z w64 nano)) c.whole.result same c.in-Ok.ensures.value.0 c.whole.ensures.none
 
 pub returns-in-Err-clause-none : goal.returns-in-Err-clause-none
-returns-in-Err-clause-none c = err_whole c.has_one_value.ensures c.args.token.now c.in-Err.field-0 c.in-Err.ensures.form c.in-Err.ensures.size
+returns-in-Err-clause-none c = err_whole c.one_value_law.ensures c.args.token.now c.in-Err.field-0 c.in-Err.ensures.form c.in-Err.ensures.size

@@ -5,12 +5,12 @@ use Rattle.venue_types.specs.declared.finding.Finding.{Finding}
 use Rattle.report_laws.specs.Passes.{Adds}
 use Rattle.report_laws.specs.Reports.{IsReport}
 use Rattle.ring_rules.specs.Rules.{BreaksInRing}
-use Rattle.venue_build.proofs.Planes.{spread_finding, spread_report, misplaced_report}
+use Rattle.venue_build.proofs.Planes.{spread_report, misplaced_report}
 use Rattle.venue_build.proofs.plane.plane_findings.Goals as goal
 
 pub returns-then-is_spread : goal.returns-then-is_spread
 returns-then-is_spread c =
-    let gathered = c.in_ok-push.ensures.items ∙ ap (λ (xs : List Finding). xs ++ spread_finding ∷ []) c.new-findings.ensures.items in
+    let gathered = c.in_ok-push.ensures.items ∙ ap (λ (xs : List Finding). xs ++ c.finding.result ∷ []) c.new-findings.ensures.items ∙ ap (λ (x : Finding). x ∷ []) c.finding.ensures in
     spread_report c.args.features.now c.args.settings.now.contain_tol c.in_order.result
     (c.is_spread.ensures.spread.0 c.if-is_spread.true)
     (subst (λ (xs : List Finding). IsReport (Contains xs) c.in_order.result) gathered c.in_order.ensures)

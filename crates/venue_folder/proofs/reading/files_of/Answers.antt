@@ -1,5 +1,5 @@
 use Rattle.std.proofs.Common.{refl}
-use Rattle.venue_folder.specs.Shelves.{all_files}
+use Rattle.imdf_schema.specs.Files.{all_files}
 use Rattle.venue_folder.proofs.Slots.{files_held}
 use Rattle.venue_folder.proofs.reading.files_of.Goals as goal
 
