@@ -7,6 +7,7 @@ pub data Asked : Type 0 where
   Verify : List ℕ → Asked
   Check : List ℕ → List ℕ → Asked
   Links : List ℕ → List ℕ → List ℕ → Asked
+  Session : List ℕ → List ℕ → Asked
 
 -- the name of a base: 1 to 1,024 bytes without a zero byte
 pub record IsBase (base : List ℕ) : Type 0 where
@@ -30,6 +31,7 @@ words_of (Price base) = codes "price" ∷ base ∷ []
 words_of (Verify base) = codes "verify" ∷ base ∷ []
 words_of (Check base folder) = codes "check" ∷ base ∷ folder ∷ []
 words_of (Links base folder profile) = codes "links" ∷ base ∷ folder ∷ profile ∷ []
+words_of (Session base folder) = codes "session" ∷ base ∷ folder ∷ []
 
 -- its words are of their form; any word may be a profile's name
 abbrev pub IsAsked : Asked → Type 0
@@ -37,6 +39,7 @@ IsAsked (Price base) = IsBase base
 IsAsked (Verify base) = IsBase base
 IsAsked (Check base folder) = IsBase base × IsFolder folder
 IsAsked (Links base folder profile) = IsBase base × IsFolder folder
+IsAsked (Session base folder) = IsBase base × IsFolder folder
 
 -- the words ask for a command
 pub record AskFor (words : List (List ℕ)) : Type 0 where

@@ -7,7 +7,8 @@ use Rattle.venue_cli.specs.declared.exit.WordsFault.TheVariants.{NotText, OutOfM
 use Rattle.venue_cli.specs.declared.status.Status.{Status}
 use Rattle.venue_cli.specs.declared.status.Status.TheVariants.{Memory}
 use Rattle.venue_cli.specs.Codes.{status_code}
-use Rattle.venue_cli.specs.Ends.{Run, Ends, NothingDone}
+use Rattle.venue_cli.specs.Ends.{Ends, NothingDone}
+use Rattle.venue_cli.specs.Runs.{Run}
 
 -- the number is that of the status with which a run over these words ends
 pub record Exits (words : List (List ℕ)) (files : Option (List StoredFile)) (run : Run) (number : ℕ) : Type 0 where

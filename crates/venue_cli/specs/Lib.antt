@@ -4,6 +4,9 @@ pub mod Verified
 pub mod Checked
 pub mod Linked
 pub mod Output
+pub mod Runs
+pub mod Served
+pub mod Headlines
 pub mod Steps
 pub mod Ends
 pub mod Codes

@@ -11,10 +11,10 @@ use Rattle.route_certificate.specs.Forms.{IsTable, IsWalkText}
 use Rattle.route_certificate.specs.Prices.{IsPriced}
 use Rattle.venue_cli.specs.declared.status.Status.{Status}
 use Rattle.venue_cli.specs.declared.status.Status.TheVariants.{Done, Negative, Wrong}
-use Rattle.venue_cli.specs.Commands.{Asked, Price, Verify, Check, Links, IsAsked, words_of}
+use Rattle.venue_cli.specs.Commands.{Asked, Price, Verify, Check, Links, Session, IsAsked, words_of}
 use Rattle.venue_cli.specs.Files.{Reads, Stops, links_limit, links_name, walk_limit, walk_name}
 use Rattle.venue_cli.specs.Verified.{VerifyOutput}
-use Rattle.venue_cli.specs.Checked.{CheckOutput}
+use Rattle.venue_cli.specs.Checked.{NoVenue, CheckOutput}
 use Rattle.venue_cli.specs.Linked.{LinksOutput}
 
 -- a walk's text over a table
@@ -49,3 +49,5 @@ pub data Output (words : List (List ℕ)) (files : List StoredFile) : List ℕ �
       → Output words files text status
   answers_links : {text : List ℕ} {status : Status} (base folder profile : List ℕ) → IsAsked (Links base folder profile) → words ≡ words_of (Links base folder profile)
       → LinksOutput files base folder profile text status → Output words files text status
+  stops_session : {text : List ℕ} {status : Status} (base folder : List ℕ) → IsAsked (Session base folder) → words ≡ words_of (Session base folder)
+      → NoVenue files base folder text status → Output words files text status
