@@ -46,3 +46,7 @@ pub record AskFor (words : List (List ℕ)) : Type 0 where
   pub asked : Asked
   pub form : IsAsked asked
   pub spelled : words ≡ words_of asked
+
+-- the words don't ask for a session
+abbrev pub IsNoSession : List (List ℕ) → Type 0
+IsNoSession words = (base folder : List ℕ) → IsAsked (Session base folder) → words ≡ words_of (Session base folder) → ⊥

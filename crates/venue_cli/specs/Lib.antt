@@ -8,6 +8,8 @@ pub mod Runs
 pub mod Served
 pub mod Headlines
 pub mod Steps
+pub mod Openings
 pub mod Ends
+pub mod Complete
 pub mod Codes
 pub mod Exits

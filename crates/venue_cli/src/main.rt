@@ -5,11 +5,14 @@ mod answer;
 mod base;
 mod checking;
 mod exit;
+mod laws;
 mod linking;
 mod load;
 mod making;
+mod opening;
 mod printing;
 mod running;
+mod serving_console;
 mod settings;
 mod status;
 #[cfg(test)]
@@ -20,6 +23,7 @@ mod verifying;
 mod words;
 
 pub use exit::{Exit, WordsFault, exit_after, words_fault};
+pub use laws::{run_complete_law, run_headline_law};
 pub use running::run;
 pub use status::{Outcome, Status};
 use std::env;
