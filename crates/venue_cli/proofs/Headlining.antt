@@ -62,9 +62,13 @@ says_printed : (words : List (List ℕ)) (told : Option (List StoredFile)) (run 
     → IsAsked (Session base folder) → words ≡ words_of (Session base folder) → told ≡ Some files → run.left ≡ Some came → run.written ≡ Some before
     → Printed words told run status → Says files base folder came before run status
 says_printed words told run status base folder files came before form spelled is left written printed =
-    let output = told_of (λ fs. Output words fs printed.text status) told files is printed.output in
-    (came, printed.text, printed.unread ∙ left, wrote_behind run.written run.written_now before printed.text written printed.wrote,
-    inl (stops_of words files base folder printed.text status form spelled output))
+    let output = told_of (λ fs. Output words fs printed.text status) told files is printed.output in (
+      came,
+      printed.text,
+      printed.unread ∙ left,
+      wrote_behind run.written run.written_now before printed.text written printed.wrote,
+      inl (stops_of words files base folder printed.text status form spelled output),
+    )
 
 -- of known bytes it is known what is left
 consumed : (old new : Option (List ℕ)) (taken came : List ℕ) → old ≡ Some came → Consumes old new taken → (left : List ℕ) × (new ≡ Some left)
@@ -121,15 +125,15 @@ says_served law words told run status base folder files came before form spelled
     let named = same_folder s.base base s.folder folder asked in
     let shared = s.opened.shared in
     let says : Headline s.venue.settings.staff_keys s.opening.files s.opening.worker s.opening.seen came rest.0 text.0 =
-      law s.venue.settings.staff_keys s.opening s.closing (console_of run) s.end came rest.0 before text.0 session whole left rest.1 written wrote in
+    law s.venue.settings.staff_keys s.opening s.closing (console_of run) s.end came rest.0 before text.0 session whole left rest.1 written wrote in
     let opened : Headline s.venue.settings.staff_keys (shelf_of told s.base) 1 (opening_history shared) came rest.0 text.0 =
-      subst (λ (f : Facts). Headline s.venue.settings.staff_keys f.files f.worker f.seen came rest.0 text.0) s.opened.facts_are says in
+    subst (λ (f : Facts). Headline s.venue.settings.staff_keys f.files f.worker f.seen came rest.0 text.0) s.opened.facts_are says in
     let here : Headline s.venue.settings.staff_keys (shelf_of (Some files) base) 1 (opening_history shared) came rest.0 text.0 =
-      subst (λ (o : Option (List StoredFile)). Headline s.venue.settings.staff_keys (shelf_of o base) 1 (opening_history shared) came rest.0 text.0) is
-      (subst (λ (b : List ℕ). Headline s.venue.settings.staff_keys (shelf_of told b) 1 (opening_history shared) came rest.0 text.0) based opened) in
+    subst (λ (o : Option (List StoredFile)). Headline s.venue.settings.staff_keys (shelf_of o base) 1 (opening_history shared) came rest.0 text.0) is
+    (subst (λ (b : List ℕ). Headline s.venue.settings.staff_keys (shelf_of told b) 1 (opening_history shared) came rest.0 text.0) based opened) in
     let has : HasVenue files s.base s.folder s.venue = told_of (λ fs. HasVenue fs s.base s.folder s.venue) told files is s.made in
     let made : HasVenue files base folder s.venue =
-      subst (λ (b : List ℕ). HasVenue files b folder s.venue) based (subst (λ (f : List ℕ). HasVenue files s.base f s.venue) named has) in
+    subst (λ (b : List ℕ). HasVenue files b folder s.venue) based (subst (λ (f : List ℕ). HasVenue files s.base f s.venue) named has) in
     (rest.0, text.0, rest.1, wrote, inr (record { venue = s.venue; made = made; shared = shared; publishes = s.opened.publishes; headline = here }))
 
 pub says_headline : Law → (words : List (List ℕ)) (told : Option (List StoredFile)) (run : Run) (status : Status) → Ends words told run status → SaysHeadline words told run status

@@ -1,5 +1,7 @@
 -- The text of settings has one meaning.
-use Rattle.std.proofs.Common.{◌≡◌, ℕ, List, Option, Some, None, Result, Ok, Err, refl, sym, ap, subst, ◌∙◌, codes}
+use mathlib.Core.HLevel.{is_prop→PathP}
+use native.Mathlib.Bridge.{le_prop}
+use Rattle.std.proofs.Common.{◌≡◌, ◌≤◌, ℕ, List, length, Option, Some, None, Result, Ok, Err, refl, sym, ap, subst, ◌∙◌, codes}
 use Rattle.std.specs.Prelude.{pos, MatchOption}
 use Rattle.toml.specs.Data.{Data, Members, integer, get_member}
 use Rattle.toml.specs.Parse.{parse_document}
@@ -30,7 +32,20 @@ one_extras table a b p q =
     let ramp : a.ramp ≡ b.ramp = one_number (get_member (codes "ramp_extra") table) 0 a.ramp b.ramp p.ramp q.ramp in
     let stairs : a.stairs ≡ b.stairs = one_number (get_member (codes "stairs_extra") table) 0 a.stairs b.stairs p.stairs q.stairs in
     let traversal : a.traversal ≡ b.traversal = one_number (get_member (codes "traversal_extra") table) 0 a.traversal b.traversal p.traversal q.traversal in
-    search
+    λ i. record {
+      elevator = elevator i;
+      escalator = escalator i;
+      movingwalkway = movingwalkway i;
+      ramp = ramp i;
+      stairs = stairs i;
+      traversal = traversal i;
+      elevator_range = is_prop→PathP (λ j. elevator j ≤ 1000000) (λ j. le_prop) a.elevator_range b.elevator_range i;
+      escalator_range = is_prop→PathP (λ j. escalator j ≤ 1000000) (λ j. le_prop) a.escalator_range b.escalator_range i;
+      movingwalkway_range = is_prop→PathP (λ j. movingwalkway j ≤ 1000000) (λ j. le_prop) a.movingwalkway_range b.movingwalkway_range i;
+      ramp_range = is_prop→PathP (λ j. ramp j ≤ 1000000) (λ j. le_prop) a.ramp_range b.ramp_range i;
+      stairs_range = is_prop→PathP (λ j. stairs j ≤ 1000000) (λ j. le_prop) a.stairs_range b.stairs_range i;
+      traversal_range = is_prop→PathP (λ j. traversal j ≤ 1000000) (λ j. le_prop) a.traversal_range b.traversal_range i;
+    }
 
 one_settings : (table : Members) (a b : Settings) → HasSettings table a → HasSettings table b → a ≡ b
 one_settings table a b p q =
@@ -42,7 +57,26 @@ one_settings table a b p q =
     let last : a.last_version ≡ b.last_version = one_number (get_member (codes "last_version") table) 4294967295 a.last_version b.last_version p.last_version q.last_version in
     let keys : a.staff_keys ≡ b.staff_keys = p.staff_keys ∙ sym q.staff_keys in
     let profiles : a.profiles ≡ b.profiles = p.profiles ∙ sym q.profiles in
-    search
+    λ i. record {
+      kx = kx i;
+      ky = ky i;
+      border_tol = border i;
+      contain_tol = contain i;
+      extras = extras i;
+      last_version = last i;
+      staff_keys = keys i;
+      profiles = profiles i;
+      kx_some = is_prop→PathP (λ j. 1 ≤ kx j) (λ j. le_prop) a.kx_some b.kx_some i;
+      kx_range = is_prop→PathP (λ j. kx j ≤ 20000000) (λ j. le_prop) a.kx_range b.kx_range i;
+      ky_some = is_prop→PathP (λ j. 1 ≤ ky j) (λ j. le_prop) a.ky_some b.ky_some i;
+      ky_range = is_prop→PathP (λ j. ky j ≤ 20000000) (λ j. le_prop) a.ky_range b.ky_range i;
+      border_range = is_prop→PathP (λ j. border j ≤ 100000) (λ j. le_prop) a.border_range b.border_range i;
+      contain_range = is_prop→PathP (λ j. contain j ≤ 1000000) (λ j. le_prop) a.contain_range b.contain_range i;
+      version_some = is_prop→PathP (λ j. 1 ≤ last j) (λ j. le_prop) a.version_some b.version_some i;
+      staff_range = is_prop→PathP (λ j. length (keys j) ≤ 64) (λ j. le_prop) a.staff_range b.staff_range i;
+      profiles_some = is_prop→PathP (λ j. 1 ≤ length (profiles j)) (λ j. le_prop) a.profiles_some b.profiles_some i;
+      profiles_range = is_prop→PathP (λ j. length (profiles j) ≤ 16) (λ j. le_prop) a.profiles_range b.profiles_range i;
+    }
 
 pub same_settings : (bytes : List ℕ) (a b : Settings) → IsSettingsOf bytes (Ok a) → IsSettingsOf bytes (Ok b) → a ≡ b
 same_settings bytes a b (sound table a' document none has) (sound table' b' document' none' has') =

@@ -44,15 +44,15 @@ pub(crate) fn serve_console<F: Folders, C: Stream>(
     ensures ends { (words : List (List ℕ)) (files : Option (List StoredFile)) (faults : ℕ) → IsOpening words files opening
         → F.files folders ≡ files → F.faults folders ≡ faults
         → Ends words files (record {
-      left = C.left console.old;
-      left_now = C.left console.new;
-      written = C.written console.old;
-      written_now = C.written console.new;
-      console = C.faults console.old;
-      console_now = C.faults console.new;
-      folders = faults;
-      folders_now = F.faults result.folders;
-    }) result.status }
+          left = C.left console.old;
+          left_now = C.left console.new;
+          written = C.written console.old;
+          written_now = C.written console.new;
+          console = C.faults console.old;
+          console_now = C.faults console.new;
+          folders = faults;
+          folders_now = F.faults result.folders;
+        }) result.status }
     ensures files { F.files result.folders ≡ F.files folders }
     ensures folders_later { F.faults folders ≤ F.faults result.folders }
     ensures console_later { C.faults console.old ≤ C.faults console.new }

@@ -13,6 +13,8 @@ mod program;
 mod property_rows;
 mod reference_rows;
 mod ring_rows;
+mod session_rows;
+mod sessions;
 mod stop_rows;
 
 use accepted_rows::{HIGH, SOUND};
