@@ -1,17 +1,16 @@
 -- What a request gets to which no refusal applies.
-use Rattle.std.specs.Prelude.{◌≡◌, ◌⊎◌, ℕ, ◌<◌, true, Contains, Option}
+use Rattle.std.specs.Prelude.{◌≡◌, ◌⊎◌, ◌<◌, Contains, Option}
 use Rattle.venue_types.specs.declared.query.Ask.{Ask}
 use Rattle.venue_types.specs.declared.query.Ask.TheVariants as ask
 use Rattle.venue_types.specs.declared.query.Change.{Change}
 use Rattle.venue_types.specs.declared.query.Change.TheVariants as change
-use Rattle.venue_types.specs.declared.reply.Reply.{Reply}
 use Rattle.venue_nodes.specs.Nodes.{closables}
 use Rattle.venue_build.specs.Venues.{SeenVenue as Venue}
 use Rattle.venue_folder.specs.Shelves.{Shelf}
 use Rattle.venue_history.specs.Answers.{HasProfile, IsPlace}
 use Rattle.venue_history.specs.Changes.{Makes}
 use Rattle.venue_history.specs.Closed.{Version}
-use Rattle.venue_history.specs.Replies.{ReplyKind, version, places, place, closures, route, no_route, closure_done, published, folder_fault, out_of_memory, kind_of}
+use Rattle.venue_history.specs.Replies.{ReplyKind, version, places, place, closures, route, no_route, closure_done, published, folder_fault}
 
 -- what a question names is there: a place, and for a route a profile and both places
 abbrev pub IsThere : Version → Ask → Type 0

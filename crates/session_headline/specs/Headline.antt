@@ -1,9 +1,8 @@
 -- What a session promises whoever talks to it, said without the parts of which it is made.
-use Rattle.std.specs.Prelude.{◌≡◌, ◌⊎◌, ℕ, Bool, true, List, [], ◌∷◌, ◌++◌, drop, map, Option}
+use Rattle.std.specs.Prelude.{◌≡◌, ◌⊎◌, ℕ, ◌≤◌, ◌^◌, Bool, true, false, List, [], ◌∷◌, ◌++◌, length, drop, map, Option}
 use Rattle.std.specs.List.{flat_map}
 use mathlib.Core.List.{IsPrefix}
 use Rattle.venue_types.specs.declared.link.Link.{Link}
-use Rattle.venue_types.specs.declared.reply.Reply.{Reply}
 use Rattle.venue_types.specs.declared.reply.Reply.TheVariants as reply
 use Rattle.venue_types.specs.declared.settings.Profile.{Profile}
 use Rattle.walk_laws.specs.Walks.{HasNoWalk, IsLeast}
@@ -16,7 +15,7 @@ use Rattle.venue_history.specs.Closed.{Version}
 use Rattle.venue_history.specs.Histories.{IsLegal, Replays}
 use Rattle.venue_history.specs.Ways.{Usable, step_of}
 use Rattle.version_board.specs.Facts.{IsAnswered}
-use Rattle.wire_frames.specs.Frames.{IsRefused}
+use Rattle.wire_frames.specs.Frames.{IsShort, IsRefused}
 use Rattle.wire_frames.specs.declared.refusals.Refusal.{Refusal}
 use Rattle.venue_wire.specs.Messages.{At}
 use Rattle.venue_wire.specs.declared.messages.Message.{Message}
@@ -65,15 +64,28 @@ pub record IsExchange (keys : List (List ℕ)) (shelf : Option Shelf) (worker : 
   pub right : IsRight shelf worker before x.message x.answer x.seen
   pub way : TellsTheWay x.seen x.answer
 
--- message by message from the front of the bytes, and these are left behind the last
+-- message by message from the front of the bytes, none behind one that closes, and these are left behind the last
 abbrev pub AreExchanges : List (List ℕ) → Option Shelf → ℕ → List Entry → List ℕ → List Exchange → List ℕ → Type 0
 AreExchanges keys shelf worker before bytes [] rest = rest ≡ bytes
 AreExchanges keys shelf worker before bytes (x ∷ xs) rest =
-    IsExchange keys shelf worker before bytes x × AreExchanges keys shelf worker x.seen (drop x.length bytes) xs rest
+    IsExchange keys shelf worker before bytes x
+    × ((x.close ≡ false) ⊎ (xs ≡ []))
+    × AreExchanges keys shelf worker x.seen (drop x.length bytes) xs rest
 
--- nothing more was written; or what is left is no head of a message, and that was told
-abbrev pub IsLastText : List ℕ → List ℕ → Type 0
-IsLastText rest last = (last ≡ []) ⊎ ((refusal : Refusal) × IsRefused rest refusal × (last ≡ reply_text (No refusal) true))
+-- one of the messages closes, which is then the last
+abbrev pub Closes : List Exchange → Type 0
+Closes [] = ⊥
+Closes (x ∷ xs) = (x.close ≡ true) ⊎ Closes xs
+
+-- no message is left without an answer: of all bytes that came, or of 2^40 of them, nothing is left or less than a message
+abbrev pub NoneIsLeft : List ℕ → List ℕ → List ℕ → Type 0
+NoneIsLeft taken left rest = ((left ≡ []) ⊎ (2 ^ 40 ≤ length taken)) × ((rest ≡ []) ⊎ IsShort rest)
+
+-- what is written last: nothing, where a message closes or none is left without an answer; or that what is left is no head of a message
+abbrev pub IsLastText : List Exchange → List ℕ → List ℕ → List ℕ → List ℕ → Type 0
+IsLastText exchanges taken left rest last =
+    ((last ≡ []) × (Closes exchanges ⊎ NoneIsLeft taken left rest))
+    ⊎ ((refusal : Refusal) × IsRefused rest refusal × (last ≡ reply_text (No refusal) true))
 
 -- the session ended by itself: no link failed, and memory didn't run out
 abbrev pub IsWhole : End → Type 0
@@ -92,5 +104,5 @@ pub record Headline (keys : List (List ℕ)) (shelf : Option Shelf) (worker : �
   pub rest : List ℕ
   pub answered : AreExchanges keys shelf worker before taken exchanges rest
   pub last : List ℕ
-  pub last_is : IsLastText rest last
+  pub last_is : IsLastText exchanges taken left rest last
   pub wrote : written ≡ flat_map text_of exchanges ++ last

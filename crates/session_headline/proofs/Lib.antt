@@ -1,0 +1,4 @@
+pub mod Ways
+pub mod Exchanges
+pub mod Endings
+pub mod Completing
