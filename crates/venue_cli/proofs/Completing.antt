@@ -21,7 +21,7 @@ use Rattle.venue_cli.specs.Output.{Output}
 use Rattle.venue_cli.specs.Runs.{Run}
 use Rattle.venue_cli.specs.Served.{end_status, console_of, Served}
 use Rattle.venue_cli.proofs.Headlining.{stops_of, told_of}
-use Rattle.venue_cli.proofs.Settings.{same_settings, not_unfit}
+use Rattle.venue_cli.proofs.OneText.{same_settings, not_unfit}
 
 some_bytes : (x y : List ℕ) → ◌≡◌ {A = Option (List ℕ)} (Some x) (Some y) → x ≡ y
 some_bytes x y same = cc

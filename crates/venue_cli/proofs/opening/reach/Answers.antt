@@ -1,6 +1,6 @@
 use Rattle.std.specs.Prelude.{string_bytes, map}
 use Rattle.venue_cli.specs.Commands.{Session}
-use Rattle.venue_cli.proofs.Opening.{session_told}
+use Rattle.venue_cli.proofs.Openings.{session_told}
 use Rattle.venue_cli.proofs.opening.reach.Goals as goal
 
 pub returns-in-Some-clause-told : goal.returns-in-Some-clause-told

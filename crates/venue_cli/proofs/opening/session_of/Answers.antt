@@ -1,4 +1,4 @@
-use Rattle.venue_cli.proofs.Opening.{session_stopped, session_opened}
+use Rattle.venue_cli.proofs.Openings.{session_stopped, session_opened}
 use Rattle.venue_cli.proofs.opening.session_of.Goals as goal
 
 pub returns-in-Stopped-clause-told : goal.returns-in-Stopped-clause-told
