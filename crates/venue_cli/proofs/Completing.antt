@@ -33,9 +33,9 @@ read_on found text settings reads (large bytes there over) =
     let same = some_bytes bytes reads.bytes (sym there ∙ reads.there) in
     let within : length bytes ≤ settings_limit = subst (λ (b : List ℕ). length b ≤ settings_limit) (sym same) reads.within in
     absurd (omega (arith, over, within))
-read_on found text settings reads (unfit bytes why there within faulty printed) =
+read_on found text settings reads (unfit bytes why there within unfitting printed) =
     let same = some_bytes reads.bytes bytes (sym reads.there ∙ there) in
-    not_unfit bytes text settings why (subst (λ (b : List ℕ). SettingsForm b settings) same reads.form) faulty printed
+    not_unfit bytes text settings why (subst (λ (b : List ℕ). SettingsForm b settings) same reads.form) unfitting printed
 
 read_same : (found : Option (List ℕ)) (a b : Settings) → Reads SettingsForm settings_limit found a → Reads SettingsForm settings_limit found b → a ≡ b
 read_same found a b one other =

@@ -9,8 +9,8 @@ use Rattle.venue_cli.specs.declared.answer.Answer.{Answer}
 use Rattle.venue_cli.specs.declared.making.Made.{Made}
 use Rattle.venue_cli.specs.declared.making.Made.TheVariants as made
 use Rattle.venue_cli.specs.declared.opening.Opening.{Opening}
-use Rattle.venue_cli.specs.declared.opening.Reached.{Reached}
-use Rattle.venue_cli.specs.declared.opening.Reached.TheVariants as reached
+use Rattle.venue_cli.specs.declared.reaching.Reached.{Reached}
+use Rattle.venue_cli.specs.declared.reaching.Reached.TheVariants as reached
 use Rattle.venue_cli.specs.Checked.{NoVenue, HasVenue}
 use Rattle.venue_cli.specs.Commands.{Session, IsBase, IsFolder, words_of}
 use Rattle.venue_cli.specs.Openings.{IsOpeningOf, IsSessionReached, IsReached}

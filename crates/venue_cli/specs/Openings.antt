@@ -3,8 +3,8 @@ use Rattle.std.specs.Prelude.{◌≡◌, ℕ, List, Option, IfSome}
 use Rattle.std.specs.Arc.{arc_value}
 use Rattle.venue_ports.specs.Files.{StoredFile}
 use Rattle.venue_cli.specs.declared.opening.Opening.{Opening}
-use Rattle.venue_cli.specs.declared.opening.Reached.{Reached}
-use Rattle.venue_cli.specs.declared.opening.Reached.TheVariants as reached
+use Rattle.venue_cli.specs.declared.reaching.Reached.{Reached}
+use Rattle.venue_cli.specs.declared.reaching.Reached.TheVariants as reached
 use Rattle.venue_cli.specs.Checked.{NoVenue, HasVenue}
 use Rattle.venue_cli.specs.Commands.{Session, IsAsked, words_of}
 use Rattle.venue_cli.specs.Output.{Output}

@@ -11,6 +11,7 @@ mod load;
 mod making;
 mod opening;
 mod printing;
+mod reaching;
 mod running;
 mod serving_console;
 mod settings;

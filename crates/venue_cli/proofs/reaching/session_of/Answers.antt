@@ -1,5 +1,5 @@
 use Rattle.venue_cli.proofs.Openings.{session_stopped, session_opened}
-use Rattle.venue_cli.proofs.opening.session_of.Goals as goal
+use Rattle.venue_cli.proofs.reaching.session_of.Goals as goal
 
 pub returns-in-Stopped-clause-told : goal.returns-in-Stopped-clause-told
 returns-in-Stopped-clause-told g c =

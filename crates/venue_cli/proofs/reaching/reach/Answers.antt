@@ -1,7 +1,7 @@
 use Rattle.std.specs.Prelude.{string_bytes, map}
 use Rattle.venue_cli.specs.Commands.{Session}
 use Rattle.venue_cli.proofs.Openings.{session_told}
-use Rattle.venue_cli.proofs.opening.reach.Goals as goal
+use Rattle.venue_cli.proofs.reaching.reach.Goals as goal
 
 pub returns-in-Some-clause-told : goal.returns-in-Some-clause-told
 returns-in-Some-clause-told g c =
