@@ -16,7 +16,8 @@ use Rattle.venue_cli.specs.declared.status.Status.TheVariants.{Done, Negative, W
 use Rattle.venue_cli.specs.Checked.{HasVenue}
 use Rattle.venue_cli.specs.Ends.{Ends}
 use Rattle.venue_cli.specs.Openings.{IsOpening}
-use Rattle.venue_cli.specs.Runs.{Run}
+use Rattle.venue_cli.specs.Commands.{IsNoSession}
+use Rattle.venue_cli.specs.Runs.{Run, NoFault, IsUnread}
 use Rattle.venue_cli.specs.Served.{end_status, IsOpened, console_of, Served}
 
 -- the files of a shelf
@@ -74,3 +75,22 @@ ends_served words files run status opening front old new end opens keys facts se
       folders = folders;
       ended = ended;
     })
+
+-- the same, where what is told of the folders is told otherwise
+pub serves : (words : List (List ℕ)) (files held : Option (List StoredFile)) (run : Run) (failed : ℕ) (status : Status) (opening : Opening) (front : List (List ℕ)) (old new : Facts) (end : End)
+    → IsOpening words files opening → held ≡ files → failed ≡ run.folders → front ≡ (arc_value opening.venue).settings.staff_keys
+    → old ≡ one_thread held opening.base (opening_history opening.venue) failed 0
+    → IsSession front old new (console_of run) end → HasServed old new → run.folders_now ≡ new.faults → status ≡ end_status end → Ends words files run status
+serves words files held run failed status opening front old new end opens same kept keys facts session hall folders ended =
+    let held_files : old ≡ one_thread files opening.base (opening_history opening.venue) failed 0 =
+      subst (λ (o : Option (List StoredFile)). old ≡ one_thread o opening.base (opening_history opening.venue) failed 0) same facts in
+    let failed_so : old ≡ one_thread files opening.base (opening_history opening.venue) run.folders 0 =
+      subst (λ (n : ℕ). old ≡ one_thread files opening.base (opening_history opening.venue) n 0) kept held_files in
+    ends_served words files run status opening front old new end opens keys failed_so session hall folders ended
+
+pub ends_nothing : (words : List (List ℕ)) (files : Option (List StoredFile)) (run : Run) → run.written_now ≡ run.written → NoFault run → IsUnread run → Ends words files run Memory
+ends_nothing words files run written faultless unread = inl (record { written = written; faultless = faultless; unread = unread })
+
+-- words that open a hall ask for a session
+pub opens_session : (words : List (List ℕ)) (files : Option (List StoredFile)) (opening : Opening) → IsOpening words files opening → IsNoSession words → ⊥
+opens_session words files opening opens none = none opens.base opens.folder opens.form opens.spelled
