@@ -6,7 +6,12 @@ pub mod Linked
 pub mod Routed
 pub mod Kept
 pub mod Output
+pub mod Runs
+pub mod Served
+pub mod Headlines
 pub mod Steps
+pub mod Openings
 pub mod Ends
+pub mod Complete
 pub mod Codes
 pub mod Exits

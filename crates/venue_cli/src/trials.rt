@@ -15,6 +15,8 @@ mod reference_rows;
 mod ring_rows;
 mod route_rows;
 mod routing;
+mod session_rows;
+mod sessions;
 mod stop_rows;
 
 use accepted_rows::{HIGH, SOUND};

@@ -66,13 +66,13 @@ fn three_words(words: &[String]) -> Option<(&str, &str, &str)>
     }
 }
 
-/// The base and the folder, where the words ask for a check.
-pub(crate) fn folder_of(words: &[String]) -> Option<(&str, &str)>
-    ensures found { IfSome result (λ pair. IsBase pair.0.now × IsFolder pair.1.now × (map string_bytes words.now ≡ codes "check" ∷ pair.0.now ∷ pair.1.now ∷ [])) }
-    ensures none { IfNone result ((base folder : List ℕ) → IsBase base → IsFolder folder → map string_bytes words.now ≡ codes "check" ∷ base ∷ folder ∷ [] → ⊥) }
+/// The base and the folder, where the words are this command, a base and a folder.
+pub(crate) fn folder_of<'a>(words: &'a [String], name: &str) -> Option<(&'a str, &'a str)>
+    ensures found { IfSome result (λ pair. IsBase pair.0.now × IsFolder pair.1.now × (map string_bytes words.entry.now ≡ name.now ∷ pair.0.now ∷ pair.1.now ∷ [])) }
+    ensures none { IfNone result ((base folder : List ℕ) → IsBase base → IsFolder folder → map string_bytes words.entry.now ≡ name.now ∷ base ∷ folder ∷ [] → ⊥) }
 {
     let (command, base, folder) = three_words(words)?;
-    if command == "check" && is_base(base) && is_folder(folder) {
+    if command == name && is_base(base) && is_folder(folder) {
         Some((base, folder))
     } else {
         None

@@ -32,7 +32,7 @@ pub returns-clause-told : goal.returns-clause-told
 returns-clause-told g c =
     other_told (map string_bytes c.args.words.now) (g.F.Folders.files c.args.folders.now) c.printed.result
     (asks_nothing (map string_bytes c.args.words.now) c.in_default.ensures.none c.in_default-base_of.ensures.none c.in_default-folder_of.ensures.none c.in_default-links_of.ensures.none
-    c.in_default-route_of.ensures.none)
+    c.in_default-route_of.ensures.none c.requires)
     (c.printed.ensures.text ∙ c.in_ok-from_str.ensures.ok) c.printed.ensures.status
 
 pub returns-in-Some-clause-asked : goal.returns-in-Some-clause-asked
