@@ -26,17 +26,20 @@ use Rattle.gen_text.specs.Numbers.{identifier, unit_number, room_unit, lift_unit
 use Rattle.gen_text.specs.Texts.{building_files}
 
 -- the settings of every building: those of the station, and nobody is staff
-abbrev pub building_settings : Settings
-building_settings = record {
-  kx = 10000000;
-  ky = 10000000;
-  border_tol = 1000;
-  contain_tol = 5000;
-  extras = record { elevator = 3000; escalator = 800; movingwalkway = 0; ramp = 2000; stairs = 1500; traversal = 0 };
-  last_version = 2 ^ 32 - 1;
-  staff_keys = [];
-  profiles = built_in_profiles;
-}
+pub record AreBuildingSettings (settings : Settings) : Type 0 where
+  pub kx_is : settings.kx ≡ 10000000
+  pub ky_is : settings.ky ≡ 10000000
+  pub border_is : settings.border_tol ≡ 1000
+  pub contain_is : settings.contain_tol ≡ 5000
+  pub elevator_is : settings.extras.elevator ≡ 3000
+  pub escalator_is : settings.extras.escalator ≡ 800
+  pub movingwalkway_is : settings.extras.movingwalkway ≡ 0
+  pub ramp_is : settings.extras.ramp ≡ 2000
+  pub stairs_is : settings.extras.stairs ≡ 1500
+  pub traversal_is : settings.extras.traversal ≡ 0
+  pub last_is : settings.last_version ≡ 2 ^ 32 - 1
+  pub staff_is : settings.staff_keys ≡ []
+  pub profiles_are : settings.profiles ≡ built_in_profiles
 
 -- this is the identifier of the feature of this number
 abbrev pub IsNamed : ℕ → FeatureId → Type 0
@@ -110,5 +113,7 @@ pub record IsSummary (levels : ℕ) (venue : Venue) (text : List ℕ) : Type 0 w
 
 -- what is told of a building of so many levels, and whether its folder is accepted: its lines, or the report of its files
 pub data IsTold (levels : ℕ) : List ℕ → Bool → Type 0 where
-  accepted : {text : List ℕ} (venue : Venue) → IsVenueOf (building_files levels) building_settings venue → IsSummary levels venue text → IsTold levels text true
-  rejected : (report : Report) → IsRejected (building_files levels) building_settings report → IsTold levels (rejected_text report) false
+  accepted : {text : List ℕ} (settings : Settings) (venue : Venue) → AreBuildingSettings settings → IsVenueOf (building_files levels) settings venue
+      → IsSummary levels venue text → IsTold levels text true
+  rejected : (settings : Settings) (report : Report) → AreBuildingSettings settings → IsRejected (building_files levels) settings report
+      → IsTold levels (rejected_text report) false
