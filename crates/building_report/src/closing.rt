@@ -12,6 +12,7 @@ ghost use Rattle.building_report.specs.Costs.{IsBehindChange};
 use crate::hall::{OwnHall, changed};
 use crate::ways::named;
 use std::alloc::Global;
+use venue_history::entry_law;
 use venue_types::{Change, FeatureId, OutOfMemory, Reply};
 
 // Whether a reply tells that memory ran out.
@@ -30,6 +31,7 @@ fn close(hall: &mut OwnHall, feature: FeatureId) -> Result<(), OutOfMemory>
     ensures closed { IfOk result (λ _. (v w : Version) → v.number < v.settings.last_version → Replays (facts_of hall.old).seen v → Replays (facts_of hall.new).seen w → IsBehindChange feature v w) }
     ensures some { 1 ≤ length (facts_of hall.new).seen }
 {
+    entry_law();
     let reply = changed(
         hall,
         &Change::Closure {
