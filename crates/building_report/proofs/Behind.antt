@@ -1,12 +1,10 @@
 -- What a change that closes a feature leads to.
-use Rattle.std.proofs.Common.{◌≡◌, ◌≢◌, ◌∙◌, sym, ap, refl, subst, ℕ, ◌<◌, arith, List, [], ◌∷◌, ◌++◌, Option, Some, Bool, true, false, inl, inr}
-use Rattle.std.specs.Prelude.{IsTrue, Contains}
+use Rattle.std.proofs.Common.{◌≡◌, ◌≢◌, ◌∙◌, sym, ap, refl, subst, ℕ, ◌<◌, arith, List, [], ◌∷◌, ◌++◌, Option, Some, true, false, inl, inr}
 use Rattle.venue_types.specs.declared.feature_id.FeatureId.{FeatureId}
 use Rattle.venue_types.specs.declared.query.Change.TheVariants as change
 use Rattle.venue_types.specs.declared.reply.Reply.{Reply}
 use Rattle.venue_types.specs.declared.reply.Reply.TheVariants as reply
 use Rattle.venue_folder.specs.Shelves.{Shelf}
-use Rattle.venue_nodes.specs.Nodes.{closables}
 use Rattle.venue_history.specs.declared.entry.Act.{Act}
 use Rattle.venue_history.specs.declared.entry.Act.TheVariants as act
 use Rattle.venue_history.specs.declared.entry.Entry.{Entry}
@@ -36,11 +34,13 @@ accepted_behind enters shelf id h k r is v w before behind =
     let same : is.version ≡ v = one_version h is.version v is.stands before in
     let done : is.entry.act ≡ act.Closed id = closes shelf is.version id is.entry.act is.of_change in
     let next : Replays k (after is.version is.entry.act) =
-        subst (λ (es : List Entry). Replays es (after is.version is.entry.act)) (sym is.grown) (enters h is.version is.entry is.stands is.may) in
+    subst (λ (es : List Entry). Replays es (after is.version is.entry.act)) (sym is.grown) (enters h is.version is.entry is.stands is.may) in
     let leads : w ≡ after is.version is.entry.act = one_version k w (after is.version is.entry.act) behind next in
     let fits = subst (λ (a : Act). Fits is.version a) done is.may.fits in
-    inl (subst (λ (u : Version). Fits u (act.Closed id)) same fits,
-      leads ∙ ap (λ (a : Act). after is.version a) done ∙ ap (λ (u : Version). after u (act.Closed id)) same)
+    inl (
+      subst (λ (u : Version). Fits u (act.Closed id)) same fits,
+      leads ∙ ap (λ (a : Act). after is.version a) done ∙ ap (λ (u : Version). after u (act.Closed id)) same,
+    )
 
 published_never : (shelf : Option Shelf) (v : Version) (id : FeatureId) (done : Act) (number : ℕ) (dropped : List FeatureId)
     → done ≡ act.Closed id → TellsOf v done (reply.Published number dropped) → ⊥
@@ -51,8 +51,10 @@ published_never shelf v id (act.Published venue) number dropped is tells = cc is
 stays : (id : FeatureId) (h k : List Entry) (u v w : Version) → k ≡ h → Replays h u → Replays h v → Replays k w → ¬ Fits u (act.Closed id) → IsBehindChange id v w
 stays id h k u v w kept stands before behind unfit =
     let same : u ≡ v = one_version h u v stands before in
-    inr (subst (λ (x : Version). ¬ Fits x (act.Closed id)) same unfit,
-      one_version h w v (subst (λ (es : List Entry). Replays es w) kept behind) before)
+    inr (
+      subst (λ (x : Version). ¬ Fits x (act.Closed id)) same unfit,
+      one_version h w v (subst (λ (es : List Entry). Replays es w) kept behind) before,
+    )
 
 full_never : (h : List Entry) (u v : Version) → Replays h u → Replays h v → u.number ≡ u.settings.last_version → v.number < v.settings.last_version → ⊥
 full_never h u v one other full room =

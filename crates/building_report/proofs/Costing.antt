@@ -1,6 +1,5 @@
 -- What the reply to a question for a way tells of its cost.
-use Rattle.std.proofs.Common.{◌≡◌, ◌≢◌, ◌∙◌, sym, ap, refl, subst, ℕ, List, Option, Some, None, inl, inr, string_bytes, codes}
-use Rattle.venue_types.specs.Identifier.{identifier_read}
+use Rattle.std.proofs.Common.{◌≡◌, ◌≢◌, ◌∙◌, sym, ap, refl, subst, ℕ, List, Option, Some, None, inl, inr}
 use Rattle.venue_types.specs.declared.feature_id.FeatureId.{FeatureId}
 use Rattle.venue_types.specs.declared.link.Link.{Link}
 use Rattle.venue_types.specs.declared.reply.Reply.{Reply}
@@ -10,11 +9,10 @@ use Rattle.venue_types.specs.declared.settings.Profile.{Profile}
 use Rattle.walk_laws.specs.Walks.{IsWalk, HasNoWalk}
 use Rattle.venue_nodes.specs.Nodes.{place_of}
 use Rattle.link_graph.specs.Views.{link_view}
-use Rattle.gen_text.specs.Numbers.{identifier}
 use Rattle.venue_history.specs.Answers.{Answers, IsTrip}
 use Rattle.venue_history.specs.Closed.{Version}
 use Rattle.venue_history.specs.Ways.{Usable}
-use Rattle.building_report.specs.BuildingReports.{IsNamed, StandsAt, IsTripOf, IsWayLine}
+use Rattle.building_report.specs.BuildingReports.{IsNamed, StandsAt, IsWayLine}
 use Rattle.building_report.specs.Costs.{route_query, cost_told, way_line, IsCostBetween, IsCost}
 
 some_node : (m n : ℕ) → Some m ≡ Some n → m ≡ n

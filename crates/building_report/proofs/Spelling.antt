@@ -1,5 +1,5 @@
 -- Texts that are written piece by piece.
-use Rattle.std.proofs.Common.{◌≡◌, ◌∙◌, sym, List, ℕ, [], ◌∷◌, ◌++◌, append_assoc, codes}
+use Rattle.std.proofs.Common.{◌≡◌, ◌∙◌, sym, List, ℕ, [], ◌∷◌, ◌++◌, append_assoc}
 use Rattle.line_forms.specs.Lines.{line}
 
 pub three_lines : (a da b db c dc : List ℕ)

@@ -1,5 +1,5 @@
 -- The lines of a building, put together.
-use Rattle.std.proofs.Common.{◌≡◌, ◌∙◌, sym, ap, refl, subst, ℕ, List, ◌++◌, codes, decimal}
+use Rattle.std.proofs.Common.{◌≡◌, ◌∙◌, ap, subst, ℕ, List, ◌++◌, codes, decimal}
 use Rattle.line_forms.specs.Lines.{line}
 use Rattle.venue_build.specs.Venues.{SeenVenue as Venue}
 use Rattle.venue_history.specs.Closed.{Version}
@@ -30,7 +30,7 @@ summed levels venue size acts text is_size are spelled =
     let version = line (codes "version " ++ decimal are.later.number) in
     let both = are.behind_are.ways_are in
     let at : acts ≡ are.before ++ (version ++ (both.rolling ++ both.walking)) =
-        are.spelled ∙ ap (λ (x : List ℕ). are.before ++ x) (are.behind_are.spelled ∙ ap (λ (x : List ℕ). version ++ x) both.spelled) in
+    are.spelled ∙ ap (λ (x : List ℕ). are.before ++ x) (are.behind_are.spelled ∙ ap (λ (x : List ℕ). version ++ x) both.spelled) in
     record {
       later = are.later;
       closing = are.closing;
@@ -41,5 +41,5 @@ summed levels venue size acts text is_size are spelled =
       on_foot = both.walking;
       on_foot_is = both.walking_is;
       spelled = spelled ∙ ap (λ (x : List ℕ). x ++ acts) is_size ∙ ap (λ (x : List ℕ). size_lines venue ++ x) at
-        ∙ five_parts (size_lines venue) are.before version both.rolling both.walking;
+          ∙ five_parts (size_lines venue) are.before version both.rolling both.walking;
     }

@@ -3,7 +3,7 @@
 use crate::tell_building;
 use std::test::Fail;
 
-static LINES: [(u8, &str); 4] = [
+static LINES: [(u8, &str); 3] = [
     (
         1,
         "features 207\nnodes 205\nlinks 10710\nwheelchair 40600\nversion 2\nwheelchair 40600\nwalk 40600\n",
@@ -15,10 +15,6 @@ static LINES: [(u8, &str); 4] = [
     (
         3,
         "features 623\nnodes 615\nlinks 32138\nwheelchair 47403\nversion 2\nwheelchair none\nwalk 44003\n",
-    ),
-    (
-        50,
-        "features 10399\nnodes 10250\nlinks 535696\nwheelchair 188403\nversion 2\nwheelchair none\nwalk 114503\n",
     ),
 ];
 

@@ -8,9 +8,14 @@ returns c =
     let found = c.legal_law.ensures seen c.number-number.ensures.legal in
     let v = found.0 in
     let ways = string_bytes c.in_ok-ways.ways in
-    let number : c.number-number.result ≡ v.number = c.number-number.ensures.number ∙ sym (c.number_law.ensures seen v found.1) in
-    (v, (found.1, record {
-      ways = ways;
-      ways_are = c.in_ok-ways.ensures v found.1;
-      spelled = c.in_ok-text.ensures.ok ∙ ap (λ (n : ℕ). codes "version " ++ (decimal n ++ (codes "\n" ++ ways))) number ∙ line_before (codes "version ") (decimal v.number) ways;
-    }))
+    let number : c.number-number.result ≡ v.number = c.number-number.ensures.number ∙ sym (c.number_law.ensures seen v found.1) in (
+      v,
+      (
+        found.1,
+        record {
+          ways = ways;
+          ways_are = c.in_ok-ways.ensures v found.1;
+          spelled = c.in_ok-text.ensures.ok ∙ ap (λ (n : ℕ). codes "version " ++ (decimal n ++ (codes "\n" ++ ways))) number ∙ line_before (codes "version ") (decimal v.number) ways;
+        },
+      ),
+    )

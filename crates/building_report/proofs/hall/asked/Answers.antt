@@ -1,4 +1,4 @@
-use Rattle.std.proofs.Common.{◌≡◌, List, ap, subst}
+use Rattle.std.proofs.Common.{List, ap, subst}
 use Rattle.venue_history.specs.declared.entry.Entry.{Entry}
 use Rattle.version_board.specs.Facts.{Facts, IsAnswered}
 use Rattle.building_report.proofs.Seeing.{none_more}

@@ -1,11 +1,13 @@
-use Rattle.std.proofs.Common.{◌≡◌, ap, sym, subst, List, ℕ, length, string_bytes, false}
+use Rattle.std.proofs.Common.{ap, sym, subst, List, ℕ, length, false}
 use Rattle.venue_types.specs.declared.files.Files.{Files}
 use Rattle.venue_build.specs.declared.built.Built.{Built}
 use Rattle.venue_build.specs.Built.{IsBuilt, IsVenueOf, IsRejected}
+use Rattle.gen_text.specs.Texts.{building_files}
 use Rattle.building_report.specs.BuildingReports.{IsTold, accepted, rejected}
 use Rattle.building_report.proofs.telling.tell_building.Goals as goal
 
 pub build-requires : goal.build-requires
+unfolding building_files
 build-requires c = ap (λ (files : Files). length files.slots) c.in_ok-files.ensures
 
 pub returns-in-Venue : goal.returns-in-Venue

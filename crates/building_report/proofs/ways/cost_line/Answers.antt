@@ -1,4 +1,4 @@
-use Rattle.std.proofs.Common.{◌≡◌, ◌∙◌, ◌++◌, string_bytes, codes, decimal, Some, None, ap, sym}
+use Rattle.std.proofs.Common.{◌≡◌, ◌∙◌, ◌++◌, string_bytes, codes, decimal, ap, sym}
 use Rattle.std.proofs.lemmas.Result.{IfOk-weaker}
 use Rattle.building_report.specs.Costs.{way_line}
 use Rattle.building_report.proofs.Spelling.{two_pieces, three_pieces}
