@@ -83,9 +83,9 @@ pub serves : (words : List (List ℕ)) (files held : Option (List StoredFile)) (
     → IsSession front old new (console_of run) end → HasServed old new → run.folders_now ≡ new.faults → status ≡ end_status end → Ends words files run status
 serves words files held run failed status opening front old new end opens same kept keys facts session hall folders ended =
     let held_files : old ≡ one_thread files opening.base (opening_history opening.venue) failed 0 =
-      subst (λ (o : Option (List StoredFile)). old ≡ one_thread o opening.base (opening_history opening.venue) failed 0) same facts in
+    subst (λ (o : Option (List StoredFile)). old ≡ one_thread o opening.base (opening_history opening.venue) failed 0) same facts in
     let failed_so : old ≡ one_thread files opening.base (opening_history opening.venue) run.folders 0 =
-      subst (λ (n : ℕ). old ≡ one_thread files opening.base (opening_history opening.venue) n 0) kept held_files in
+    subst (λ (n : ℕ). old ≡ one_thread files opening.base (opening_history opening.venue) n 0) kept held_files in
     ends_served words files run status opening front old new end opens keys failed_so session hall folders ended
 
 pub ends_nothing : (words : List (List ℕ)) (files : Option (List StoredFile)) (run : Run) → run.written_now ≡ run.written → NoFault run → IsUnread run → Ends words files run Memory
