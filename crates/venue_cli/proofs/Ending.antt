@@ -1,5 +1,5 @@
 -- From the answer and what was written to how the run ends.
-use Rattle.std.proofs.Common.{◌≡◌, ℕ, List, [], ◌++◌, Option, Some, None, Result, Ok, Err, refl, sym, subst, inl, inr, codes, append-nil}
+use Rattle.std.proofs.Common.{◌≡◌, ℕ, List, [], ◌++◌, Option, Some, None, Result, Ok, Err, refl, sym, subst, ◌∙◌, inl, inr, codes, append-nil}
 use Rattle.std.specs.Prelude.{IfSome, IfOk, OnOk, OnErr}
 use Rattle.venue_ports.specs.Files.{StoredFile}
 use Rattle.venue_ports.specs.Causes.{Rose}
@@ -90,6 +90,20 @@ pub ends_cut : (words : List (List ℕ)) (files : Option (List StoredFile)) (run
     → run.folders_now ≡ run.folders → IsUnread run → Ends words files run Fault
 ends_cut words files run status text front rest wrote parts output cause kept unread =
     inl (record { text = front; rest = rest; status = status; wrote = wrote; output = subst (λ (t : List ℕ). IfSome files (λ fs. Output words fs t status)) parts output; cause = cause; folders = kept; unread = unread })
+
+-- all of the text was written, as it is spelled
+pub ends_told : (words : List (List ℕ)) (files : Option (List StoredFile)) (run : Run) (status : Status) (text spelled : List ℕ) → spelled ≡ text → IsPrinted status
+    → IfSome files (λ fs. Output words fs text status) → Wrote run.written run.written_now spelled → run.console_now ≡ run.console → run.folders_now ≡ run.folders → IsUnread run
+    → Ends words files run status
+ends_told words files run status text spelled is plain output wrote kept stayed unread =
+    ends_printed words files run status text plain (subst (Wrote run.written run.written_now) is wrote) (record { console = kept; folders = stayed }) unread output
+
+-- a front of it was
+pub ends_short : (words : List (List ℕ)) (files : Option (List StoredFile)) (run : Run) (status : Status) (text spelled : List ℕ) → spelled ≡ text
+    → IfSome files (λ fs. Output words fs text status) → (front : List ℕ) × (rest : List ℕ) × Wrote run.written run.written_now front × (spelled ≡ front ++ rest)
+    → Rose run.console run.console_now → run.folders_now ≡ run.folders → IsUnread run → Ends words files run Fault
+ends_short words files run status text spelled is output part rose stayed unread =
+    ends_cut words files run status text part.0 part.1 part.2 (sym is ∙ part.3) output rose stayed unread
 
 -- the folders failed, and this is what writing that came to
 pub ends_failed : (words : List (List ℕ)) (files : Option (List StoredFile)) (run : Run) (written : Result (Unit {0}) Failed) → AskFor words → Rose run.folders run.folders_now

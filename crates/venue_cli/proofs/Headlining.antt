@@ -18,7 +18,7 @@ use Rattle.venue_cli.specs.Checked.{NoVenue, HasVenue}
 use Rattle.venue_cli.specs.Commands.{Asked, Price, Verify, Check, Links, Session, IsAsked, words_of}
 use Rattle.venue_cli.specs.Ends.{Printed, Ends}
 use Rattle.venue_cli.specs.Headlines.{Answered, SaysHeadline}
-use Rattle.venue_cli.specs.Output.{Output, other_words, answers_price, answers_verify, answers_check, answers_links, stops_session}
+use Rattle.venue_cli.specs.Output.{Output, other_words, answers_price, answers_verify, answers_check, answers_links, answers_route, stops_session}
 use Rattle.venue_cli.specs.Runs.{Run, Wrote}
 use Rattle.venue_cli.specs.Served.{end_status, console_of, Served}
 
@@ -41,6 +41,7 @@ stops_of words files base folder text status form is (answers_price base' form' 
 stops_of words files base folder text status form is (answers_verify base' form' is' output) = absurd cc
 stops_of words files base folder text status form is (answers_check base' folder' form' is' output) = absurd (not_check base' base folder' folder (sym is' ∙ is))
 stops_of words files base folder text status form is (answers_links base' folder' profile form' is' output) = absurd cc
+stops_of words files base folder text status form is (answers_route base' folder' profile from to a b form' is' from-is to-is output) = absurd cc
 stops_of words files base folder text status form is (stops_session base' folder' form' is' output) =
     subst (λ (b : List ℕ). NoVenue files b folder text status) (same_base base' base folder' folder (sym is' ∙ is))
     (subst (λ (f : List ℕ). NoVenue files base' f text status) (same_folder base' base folder' folder (sym is' ∙ is)) output)

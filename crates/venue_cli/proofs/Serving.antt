@@ -1,5 +1,5 @@
 -- From a session over the console to how the run ends.
-use Rattle.std.proofs.Common.{◌≡◌, ℕ, List, Option, Some, None, refl, sym, subst, ap, ◌∙◌, inl, inr}
+use Rattle.std.proofs.Common.{◌≡◌, ◌≤◌, ℕ, List, Option, Some, None, refl, sym, subst, ap, ◌∙◌, inl, inr}
 use Rattle.std.specs.Prelude.{IfSome}
 use Rattle.std.specs.Arc.{arc_value}
 use Rattle.venue_folder.specs.Shelves.{Shelf}
@@ -21,7 +21,7 @@ use Rattle.venue_cli.specs.Runs.{Run, NoFault, IsUnread}
 use Rattle.venue_cli.specs.Served.{end_status, IsOpened, console_of, Served}
 
 -- the files of a shelf
-stored_of : Option Shelf → Option (List StoredFile)
+abbrev stored_of : Option Shelf → Option (List StoredFile)
 stored_of None = None
 stored_of (Some shelf) = Some shelf.stored
 
@@ -94,3 +94,7 @@ ends_nothing words files run written faultless unread = inl (record { written = 
 -- words that open a hall ask for a session
 pub opens_session : (words : List (List ℕ)) (files : Option (List StoredFile)) (opening : Opening) → IsOpening words files opening → IsNoSession words → ⊥
 opens_session words files opening opens none = none opens.base opens.folder opens.form opens.spelled
+
+-- what was no more is no more where both are told otherwise
+pub later_as : (a b a' b' : ℕ) → a' ≡ a → b' ≡ b → a ≤ b → a' ≤ b'
+later_as a b a' b' is is' later = subst (λ (n : ℕ). n ≤ b') (sym is) (subst (λ (m : ℕ). a ≤ m) (sym is') later)

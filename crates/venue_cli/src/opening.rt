@@ -20,16 +20,43 @@ pub(crate) struct Opening {
     pub ghost keys: { front ≡ (arc_value venue).settings.staff_keys },
 }
 
+fn text_of(alloc: Global, base: &str) -> Result<Text, OutOfMemory>
+    ensures { IfOk result (λ text. text ≡ base.now) }
+{
+    let text = String::from_str(alloc, base)?;
+    Ok(Text::from_string(text))
+}
+
+fn front_of(alloc: Global, settings: &Settings) -> Result<Front, OutOfMemory>
+    ensures { IfOk result (λ front. front ≡ settings.now.staff_keys) }
+{
+    Front::new(alloc, &settings.staff_keys)
+}
+
+fn shared_settings(alloc: Global, settings: &Settings) -> Result<Arc<Settings>, OutOfMemory>
+    ensures { IfOk result (λ shared. arc_value shared ≡ settings.now) }
+{
+    let copy = settings.copy(alloc)?;
+    let shared = Arc::new(alloc, copy)?;
+    Ok(shared)
+}
+
+fn shared_venue(alloc: Global, venue: Venue) -> Result<Arc<Venue>, OutOfMemory>
+    ensures { IfOk result (λ shared. arc_value shared ≡ venue) }
+{
+    let shared = Arc::new(alloc, venue)?;
+    Ok(shared)
+}
+
 /// What a hall is opened with, of a venue of the base.
 pub(crate) fn opening_of(alloc: Global, base: &str, venue: Venue) -> Result<Opening, OutOfMemory>
     ensures base { IfOk result (λ opening. opening.base ≡ base.now) }
     ensures venue { IfOk result (λ opening. arc_value opening.venue ≡ venue) }
 {
-    let base = Text::from_string(String::from_str(alloc, base)?);
-    let settings = venue.settings().copy(alloc)?;
-    let front = Front::new(alloc, &settings.staff_keys)?;
-    let settings = Arc::new(alloc, settings)?;
-    let venue = Arc::new(alloc, venue)?;
+    let base = text_of(alloc, base)?;
+    let front = front_of(alloc, venue.settings())?;
+    let settings = shared_settings(alloc, venue.settings())?;
+    let venue = shared_venue(alloc, venue)?;
     Ok(Opening {
         base,
         venue,
