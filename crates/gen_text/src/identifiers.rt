@@ -1,11 +1,11 @@
 //! Writing numbers and identifiers.
 
-ghost use Rattle.std.specs.Prelude.{◌≡◌, ◌++◌, OnOk};
+ghost use Rattle.std.specs.Prelude.{◌≡◌, ◌++◌, IfOk, OnOk};
 ghost use Rattle.std.specs.Fmt.{signed_decimal};
 ghost use Rattle.gen_text.specs.Numbers.{padded, identifier};
 
 use line_forms::push_number;
-use std::alloc::AllocError;
+use std::alloc::{AllocError, Global};
 
 /// Adds the last digits of a number, so many of them.
 pub(crate) fn push_padded(out: &mut Vec<u8>, width: u8, n: u32) -> Result<(), AllocError>
@@ -26,6 +26,15 @@ pub(crate) fn push_identifier(out: &mut Vec<u8>, number: u32) -> Result<(), Allo
     out.extend_from_slice(b"00000000-0000-4000-8000-")?;
     push_padded(out, 12, number)?;
     Ok(())
+}
+
+/// The text of the identifier of the feature of a number.
+pub fn identifier_text(alloc: Global, number: u32) -> Result<Vec<u8>, AllocError>
+    ensures { IfOk result (λ text. text.items ≡ identifier number) }
+{
+    let mut out = Vec::new(alloc);
+    push_identifier(&mut out, number)?;
+    Ok(out)
 }
 
 /// Adds a number with its sign, where it has one.

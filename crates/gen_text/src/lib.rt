@@ -10,3 +10,5 @@ mod numbers;
 mod tests;
 
 pub use files::gen_files;
+pub use identifiers::identifier_text;
+pub use numbers::{lift_number, room_number};

@@ -1,6 +1,6 @@
 //! The numbers of a building's features.
 
-ghost use Rattle.std.specs.Prelude.{◌≡◌};
+ghost use Rattle.std.specs.Prelude.{◌≡◌, ◌<◌};
 ghost use Rattle.gen_text.specs.Numbers as numbers;
 
 /// The place of the lift's opening among those of a level.
@@ -88,4 +88,19 @@ pub(crate) fn unit_number(levels: u8, level: u8, place: u8) -> u32
     ensures { result ≡ numbers.unit_number levels level place }
 {
     first_unit(levels) + 103 * level as u32 + place as u32
+}
+
+/// The number of a room, by its level and its place among the hundred rooms of that level, both from 0.
+pub fn room_number(levels: u8, level: u8, room: u8) -> u32
+    requires { room < 100 }
+    ensures { result ≡ numbers.unit_number levels level (numbers.room_unit room) }
+{
+    unit_number(levels, level, 1 + room)
+}
+
+/// The number of the lift of a level, from 0.
+pub fn lift_number(levels: u8, level: u8) -> u32
+    ensures { result ≡ numbers.unit_number levels level numbers.lift_unit }
+{
+    unit_number(levels, level, LIFT_UNIT)
 }

@@ -1,0 +1,5 @@
+mod Spelling
+mod Seeing
+mod Costing
+mod Behind
+mod Summing

@@ -1,0 +1,2 @@
+pub mod BuildingReports
+pub mod Costs
