@@ -14,4 +14,4 @@ mod tests;
 
 pub use coordinate::nano;
 pub use fault::NumberFault;
-pub use laws::{one_value_law, value_law, reads_back_law, rounding_law};
+pub use laws::{one_value_law, reads_back_law, rounding_law, value_law};

@@ -6,7 +6,7 @@ ghost use Rattle.geo_shapes.specs.Position.{half_turn, quarter_turn};
 ghost use Rattle.geo_shapes.specs.Reading.{ReadsAngle, ReadsMaybe, ReadsPosition, ReadsPositions};
 
 use exact_json::Tree;
-use geo_decimal::{one_value_law, nano};
+use geo_decimal::{nano, one_value_law};
 use std::alloc::Global;
 use venue_types::{OutOfMemory, Point};
 
