@@ -10,7 +10,8 @@ use Rattle.venue_types.specs.declared.settings.Settings.{Settings}
 use Rattle.venue_settings.specs.declared.fault.SettingsFault.{SettingsFault}
 use Rattle.venue_settings.specs.Settings.{HasExtras, HasSettings, IsDocument, IsSettingsOf, no_document, faulty, sound, no_memory}
 use Rattle.venue_ports.specs.Files.{StoredFile, file_at}
-use Rattle.venue_folder.specs.Shelves.{all_files, slot_at, folder_path, folder_files}
+use Rattle.imdf_schema.specs.Files.{all_files}
+use Rattle.venue_folder.specs.Shelves.{slot_at, folder_path, folder_files}
 use Rattle.venue_build.specs.Venues.{SeenVenue as Venue}
 use Rattle.venue_build.specs.Built.{IsRejected, IsVenueOf}
 use Rattle.venue_cli.specs.declared.status.Status.{Status}
