@@ -168,6 +168,17 @@ fn search<L: Ledger>(
     time_search(rt, graph, &marks, profile, ends, rounds, &mut steps)
 }
 
+// The search, counted in a ledger that is picked here.
+fn begin(
+    rt: &HostRuntime,
+    graph: &Graph,
+    profile: &Profile,
+    ends: (u32, u32),
+    rounds: u32,
+) -> io::Result<()> {
+    search::<Brand>(rt, graph, profile, ends, rounds, Blank::new(1))
+}
+
 fn number(words: &[String], k: usize) -> u32 {
     match words.get(k) {
         Some(word) => match word.as_str().parse::<u32>() {
@@ -186,7 +197,7 @@ fn judged(rt: &HostRuntime, venue: &Venue, words: &[String]) -> io::Result<()> {
     let ends = (number(words, 3), number(words, 4));
     for profile in venue.settings().profiles.as_slice() {
         if profile.name.as_str() == name.as_str() {
-            return search::<Brand>(rt, graph, profile, ends, number(words, 5), Blank::new(1));
+            return begin(rt, graph, profile, ends, number(words, 5));
         }
     }
     Err(Error::other("no such profile"))
@@ -208,6 +219,13 @@ fn main(rt: HostRuntime) -> io::Result<()> {
         Built::Rejected(_) => Err(Error::other("rejected")),
     }
 }
+END
+    mkdir -p "$work/crates/venue_calls/proofs/begin"
+    cat >"$work/crates/venue_calls/proofs/begin/Invariants.antt" <<'END'
+use Rattle.venue_calls.proofs.begin.Given as goal
+
+abbrev pub ghosts-search : goal.ghosts-search
+ghosts-search a = record { name = a.blank.name; parts = a.blank.parts }
 END
     calls=$work/crates/venue_calls/out/venue_calls
     (cd "$work/crates/venue_calls" && rt run) >"$work/build.log" 2>&1 || [ -x "$calls" ] || { tail -n 20 "$work/build.log" >&2; return 1; }
