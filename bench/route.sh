@@ -15,7 +15,7 @@ python3 bench/search_folders.py "$work/base" >"$work/ends"
 rustc --edition 2021 -O -C codegen-units=1 -o "$work/time_search" bench/time_search.rs
 build_calls "$work/repository"
 
-# usage: least WORDS, lines of a time, a cost and a count: the line of the least time
+# Of lines of a time, a cost and a count that of the least time.
 least() { sort -n | head -n 1; }
 
 # usage: judge FOLDER PROFILE FROM TO ROUNDS

@@ -1,6 +1,6 @@
 //! Ways through the station, each judged over all its links.
 
-ghost use Rattle.std.specs.Prelude.{◌≡◌, ◌<◌, length};
+ghost use Rattle.std.specs.Prelude.{◌≡◌, ◌<◌, length, IfOk};
 ghost use Rattle.link_graph.specs.Graphs.{network};
 ghost use Rattle.link_graph.specs.Marking.{AreMarksOf};
 
@@ -26,12 +26,21 @@ fn node(rt: &impl Abort, graph: &Graph, tail: u128) -> u32
     n
 }
 
-fn marks_of(rt: &impl Abort, alloc: Global, graph: &Graph, closed: &[u128]) -> Result<Marks, Fail> {
+fn close(rt: &impl Abort, graph: &Graph, marks: &mut Marks, tail: u128)
+    requires { AreMarksOf (network graph.now) marks.old }
+    ensures { AreMarksOf (network graph.now) marks.new }
+{
+    let k = graph.closable(id(tail)).expect(rt, "what can be closed");
+    assert!(rt; k < graph.closables());
+    marks.mark(k, true);
+}
+
+fn marks_of(rt: &impl Abort, alloc: Global, graph: &Graph, closed: &[u128]) -> Result<Marks, Fail>
+    ensures { IfOk result (λ marks. AreMarksOf (network graph.now) marks) }
+{
     let mut marks = Marks::none(alloc, graph)?;
     for tail in closed {
-        let k = graph.closable(id(*tail)).expect(rt, "what can be closed");
-        assert!(rt; k < graph.closables());
-        marks.mark(k, true);
+        close(rt, graph, &mut marks, *tail);
     }
     Ok(marks)
 }

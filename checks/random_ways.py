@@ -1,0 +1,239 @@
+#!/usr/bin/env python3
+"""Looks for ways through small venues made by arithmetic by `route`, compares each answer with plain rounds over the table of all links
+that `links` prints, and has it judged by `verify`.
+
+usage: random_ways.py [PROGRAM [VENUES [FIRST]]]   (without PROGRAM the launcher ./venue, which builds the program if need be)
+The venues have one to three levels of square rooms with doors in their walls, halls that lie over several rooms and share their doors,
+restricted rooms, doors that a wheelchair can't pass, amenities in two units, and passages between units and doors of neighbouring levels:
+directed or not, with an intermediary, twice between one pair, and without anything beside their way. It prints one line, and ends with
+status 1 at a difference.
+"""
+import json
+import os
+import random
+import shutil
+import subprocess
+import sys
+import tempfile
+
+HERE = os.path.dirname(os.path.abspath(__file__))
+ROOM = 10
+FREE = 10**18
+
+
+def position(point):
+    x, y = point
+    return [round(10 + x / 100000, 7), round(50 + y / 100000, 7)]
+
+
+def line(a, b):
+    return {"type": "LineString", "coordinates": [position(a), position(b)]}
+
+
+def box(x1, y1, x2, y2):
+    return {"type": "Polygon", "coordinates": [[position(p) for p in [(x1, y1), (x2, y1), (x2, y2), (x1, y2), (x1, y1)]]]}
+
+
+class Venue:
+    """Features by type, each with an identifier of its own."""
+
+    def __init__(self, draw):
+        self.draw = draw
+        self.rows = {}
+        self.count = 0
+
+    def add(self, kind, geometry, properties):
+        self.count += 1
+        name = f"00000000-0000-4000-8000-{self.count:012d}"
+        feature = {"type": "Feature", "id": name, "feature_type": kind, "geometry": geometry, "properties": properties}
+        self.rows.setdefault(kind, []).append(feature)
+        return name
+
+    def write(self, folder):
+        os.makedirs(folder)
+        with open(os.path.join(folder, "manifest.json"), "w", encoding="utf-8") as file:
+            json.dump({"version": "1.0.0", "created": "", "language": "en"}, file)
+        for kind, features in self.rows.items():
+            with open(os.path.join(folder, kind + ".geojson"), "w", encoding="utf-8") as file:
+                json.dump({"type": "FeatureCollection", "features": features}, file)
+
+
+def reference(kind, name):
+    return {"id": name, "feature_type": kind}
+
+
+def venue_of(draw):
+    venue = Venue(draw)
+    wide, deep, high = draw.randint(1, 4), draw.randint(1, 3), draw.randint(1, 3)
+    around = box(0, 0, wide * ROOM, deep * ROOM)
+    venue.add("venue", around, {})
+    units, doors = [], []
+    for k in range(high):
+        level = venue.add("level", around, {"ordinal": k})
+        here, walls = [], []
+        for i in range(wide):
+            for j in range(deep):
+                word = draw.choice(["room", "room", "walkway", "stairs", "elevator", "escalator", "ramp", "movingwalkway", "column"])
+                properties = {"level_id": level, "category": word}
+                if draw.random() < 0.1:
+                    properties["restriction"] = draw.choice(["employeesonly", "restricted"])
+                here.append(venue.add("unit", box(i * ROOM, j * ROOM, (i + 1) * ROOM, (j + 1) * ROOM), properties))
+        if draw.random() < 0.5:
+            i, j = draw.randint(0, wide - 1), draw.randint(0, deep - 1)
+            shape = box(i * ROOM, j * ROOM, draw.randint(i + 1, wide) * ROOM, draw.randint(j + 1, deep) * ROOM)
+            here.append(venue.add("unit", shape, {"level_id": level, "category": draw.choice(["lobby", "walkway"])}))
+        for i in range(wide + 1):
+            for j in range(deep):
+                walls.append([(i * ROOM, j * ROOM + t) for t in (3, 5, 7)])
+        for i in range(wide):
+            for j in range(deep + 1):
+                walls.append([(i * ROOM + t, j * ROOM) for t in (3, 5, 7)])
+        found = []
+        for a, b, c in walls:
+            for pair in [(a, b), (b, c)]:
+                if draw.random() < 0.4:
+                    properties = {"level_id": level}
+                    if draw.random() < 0.15:
+                        properties["door"] = {"type": "revolving", "automatic": True, "material": "glass"}
+                    found.append(venue.add("opening", line(*pair), properties))
+        if draw.random() < 0.5:
+            point = {"type": "Point", "coordinates": position((draw.randint(0, wide * ROOM), draw.randint(0, deep * ROOM)))}
+            i, j = min(int((point["coordinates"][0] - 10) * 100000 + 0.5) // ROOM, wide - 1), min(
+                int((point["coordinates"][1] - 50) * 100000 + 0.5) // ROOM, deep - 1
+            )
+            inside = here[i * deep + j]
+            names = [inside] + ([draw.choice(here)] if draw.random() < 0.5 else [])
+            venue.add("amenity", point, {"category": "restroom", "unit_ids": names})
+        units.append(here)
+        doors.append(found)
+    for k in range(high - 1):
+        for _ in range(draw.randint(0, 4)):
+            category = draw.choice(["elevator", "stairs", "escalator", "ramp", "traversal.path"])
+            ends = []
+            for at in (k, k + 1):
+                kind = "opening" if doors[at] and draw.random() < 0.5 else "unit"
+                ends.append(reference(kind, draw.choice(doors[at] if kind == "opening" else units[at])))
+            if draw.random() < 0.3:
+                ends.reverse()
+            properties = {
+                "category": category,
+                "direction": draw.choice(["directed", "undirected"]),
+                "origin": ends[0],
+                "destination": ends[1],
+            }
+            if draw.random() < 0.2:
+                properties["intermediary"] = [reference("unit", draw.choice(units[k]))] + ([ends[0]] if draw.random() < 0.5 else [])
+            for _ in range(2 if draw.random() < 0.1 else 1):
+                venue.add("relationship", None, properties)
+    return venue
+
+
+def settings(draw):
+    extras = draw.choice([(3000, 800, 2000, 1500), (0, 0, 0, 0), (1, 1, 1, 1)])
+    names = ["elevator_extra", "escalator_extra", "ramp_extra", "stairs_extra"]
+    text = "kx = 10000000\nky = 10000000\n" + "".join(f"{name} = {extra}\n" for name, extra in zip(names, extras))
+    return text
+
+
+def table_of(text):
+    nodes, links = [], []
+    for row in text.splitlines():
+        words = row.split(" ")
+        if words[0] == "node":
+            nodes.append(words[1])
+        elif words[0] == "link":
+            links.append((int(words[1]), int(words[2]), int(words[3]), words[4]))
+    return nodes, links
+
+
+def rounds(count, links, start):
+    """The least cost of each node, by going over all links until nothing changes."""
+    costs = [FREE] * count
+    costs[start] = 0
+    changed = True
+    while changed:
+        changed = False
+        for a, b, cost, _ in links:
+            if costs[a] + cost < costs[b]:
+                costs[b] = costs[a] + cost
+                changed = True
+    return costs
+
+
+class Check:
+    def __init__(self, program, base):
+        self.program, self.base = program, base
+        self.asked = 0
+        self.differ = 0
+
+    def run(self, *words):
+        done = subprocess.run(self.program + list(words), capture_output=True)
+        return done.returncode, done.stdout
+
+    def wrong(self, *words):
+        self.differ += 1
+        print(*words, file=sys.stderr)
+
+    def judge_route(self, profile, nodes, links, a, b):
+        """`route` from node to node: its cost, its steps and its certificate; and what `verify` says of it."""
+        self.asked += 1
+        status, text = self.run("route", self.base, "venue", profile, nodes[a], nodes[b])
+        rows = [row.split(" ") for row in text.decode().splitlines()]
+        costs = rounds(len(nodes), links, a)
+        if rows[1:3] != [["from", str(a)], ["to", str(b)]]:
+            return self.wrong("ends", nodes[a], nodes[b], rows[:3])
+        if costs[b] == FREE:
+            reached = [int(row[1]) for row in rows if row[0] == "reach"]
+            if status != 1 or rows[3] != ["none"] or reached != [n for n, cost in enumerate(costs) if cost < FREE]:
+                return self.wrong("none", nodes[a], nodes[b], rows)
+        else:
+            steps = [links[int(row[1])] for row in rows if row[0] == "step"]
+            at = a
+            for link in steps:
+                if link[0] != at:
+                    return self.wrong("walk", nodes[a], nodes[b], rows)
+                at = link[1]
+            firsts = [links.index(link) for link in steps] == [int(row[1]) for row in rows if row[0] == "step"]
+            if status != 0 or rows[3] != ["route", str(costs[b])] or at != b or sum(link[2] for link in steps) != costs[b] or not firsts:
+                return self.wrong("route", nodes[a], nodes[b], costs[b], rows)
+        with open(os.path.join(self.base, "answer.txt"), "wb") as file:
+            file.write(text)
+        judged = self.run("verify", self.base)
+        if judged != (0, b"proved\n"):
+            self.wrong("verify", nodes[a], nodes[b], judged)
+
+    def judge_venue(self, draw):
+        venue = venue_of(draw)
+        folder = os.path.join(self.base, "venue")
+        shutil.rmtree(folder, ignore_errors=True)
+        venue.write(folder)
+        with open(os.path.join(self.base, "venue.toml"), "w", encoding="utf-8") as file:
+            file.write(settings(draw))
+        status, text = self.run("check", self.base, "venue")
+        if status != 0:
+            return self.wrong("check", status, text)
+        for profile in ("walk", "wheelchair"):
+            _, text = self.run("links", self.base, "venue", profile)
+            with open(os.path.join(self.base, "links.txt"), "wb") as file:
+                file.write(text)
+            nodes, links = table_of(text.decode())
+            for _ in range(4 if nodes else 0):
+                self.judge_route(profile, nodes, links, draw.randrange(len(nodes)), draw.randrange(len(nodes)))
+
+
+def main():
+    program = [sys.argv[1]] if len(sys.argv) > 1 else [os.path.join(HERE, "..", "venue")]
+    venues = int(sys.argv[2]) if len(sys.argv) > 2 else 150
+    first = int(sys.argv[3]) if len(sys.argv) > 3 else 1
+    with tempfile.TemporaryDirectory() as base:
+        check = Check(program, base)
+        for seed in range(first, first + venues):
+            before = check.differ
+            check.judge_venue(random.Random(seed))
+            if check.differ > before:
+                print(f"venue {seed}", file=sys.stderr)
+    print(f"random_ways: {venues} venues, {check.asked} ways, {check.differ} differences")
+    return 1 if check.differ else 0
+
+
+sys.exit(main())
