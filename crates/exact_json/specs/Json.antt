@@ -5,11 +5,11 @@ use Rattle.std.specs.Str.{bytes_eq, IsUtf8}
 mutual
   pub data Json : Type 0 where
     null : Json
-    boolean : Bool → Json
     number : List ℕ → Json
+    boolean : Bool → Json
     text : List ℕ → Json
-    items : Items → Json
     object : Members → Json
+    items : Items → Json
 
   pub data Items : Type 0 where
     no_items : Items
@@ -33,11 +33,11 @@ members_list (pair k j ms) = (k, j) ∷ members_list ms
 abbrev mutual
   pub depth : Json → ℕ
   depth null = 0
-  depth (boolean b) = 0
   depth (number t) = 0
+  depth (boolean b) = 0
   depth (text s) = 0
-  depth (items js) = suc (items_depth js)
   depth (object ms) = suc (members_depth ms)
+  depth (items js) = suc (items_depth js)
 
   pub items_depth : Items → ℕ
   items_depth no_items = 0
@@ -60,11 +60,11 @@ last_member name (pair k j ms) = first_of_two (last_member name ms) (cond (bytes
 -- the value of the last pair of that name, and null where there is none
 abbrev pub member : Json → List ℕ → Json
 member null name = null
-member (boolean b) name = null
 member (number t) name = null
+member (boolean b) name = null
 member (text s) name = null
-member (items js) name = null
 member (object ms) name = unwrap_or (last_member name ms) null
+member (items js) name = null
 
 -- the truth value that it is
 abbrev pub truth : Json → Option Bool
@@ -99,11 +99,11 @@ object_members _ = None
 abbrev mutual
   pub IsNarrow : ℕ → Json → Type 0
   IsNarrow n null = Unit {0}
-  IsNarrow n (boolean b) = Unit {0}
   IsNarrow n (number t) = Unit {0}
+  IsNarrow n (boolean b) = Unit {0}
   IsNarrow n (text s) = Unit {0}
-  IsNarrow n (items js) = (length (items_list js) ≤ n) × AreNarrow n js
   IsNarrow n (object ms) = (length (members_list ms) ≤ n) × HasNarrow n ms
+  IsNarrow n (items js) = (length (items_list js) ≤ n) × AreNarrow n js
 
   pub AreNarrow : ℕ → Items → Type 0
   AreNarrow n no_items = Unit {0}
@@ -117,11 +117,11 @@ abbrev mutual
 abbrev mutual
   pub HasTexts : Json → Type 0
   HasTexts null = Unit {0}
-  HasTexts (boolean b) = Unit {0}
   HasTexts (number t) = Unit {0}
+  HasTexts (boolean b) = Unit {0}
   HasTexts (text s) = IsUtf8 s
-  HasTexts (items js) = ItemsHaveTexts js
   HasTexts (object ms) = MembersHaveTexts ms
+  HasTexts (items js) = ItemsHaveTexts js
 
   pub ItemsHaveTexts : Items → Type 0
   ItemsHaveTexts no_items = Unit {0}
@@ -135,11 +135,11 @@ abbrev mutual
 abbrev mutual
   pub AllNumbers : (List ℕ → Type 0) → Json → Type 0
   AllNumbers P null = Unit {0}
-  AllNumbers P (boolean b) = Unit {0}
   AllNumbers P (number t) = P t
+  AllNumbers P (boolean b) = Unit {0}
   AllNumbers P (text s) = Unit {0}
-  AllNumbers P (items js) = AllItemNumbers P js
   AllNumbers P (object ms) = AllMemberNumbers P ms
+  AllNumbers P (items js) = AllItemNumbers P js
 
   pub AllItemNumbers : (List ℕ → Type 0) → Items → Type 0
   AllItemNumbers P no_items = Unit {0}
