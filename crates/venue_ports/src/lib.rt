@@ -5,7 +5,9 @@
 mod doors;
 mod folders;
 mod laws;
+mod limits;
 mod memory;
+mod memory_doors;
 mod memory_folders;
 mod memory_stream;
 mod outside;
@@ -13,16 +15,25 @@ mod plan;
 mod quiet;
 mod reports;
 mod room;
+#[cfg(test)]
+mod socket_tests;
+mod sockets;
 mod stream;
+mod tcp;
+mod tcp_link;
 #[cfg(test)]
 mod tests;
+mod waiting;
 
 pub use doors::Doors;
 pub use folders::{Folders, ReadFault};
 pub use laws::same_files_law;
 pub use memory::OutOfMemory;
+pub use memory_doors::MemoryDoors;
 pub use memory_folders::{MemoryFile, MemoryFolders};
 pub use memory_stream::MemoryStream;
 pub use outside::{Console, DirFolders};
 pub use quiet::{QuietDoors, QuietFolders};
 pub use stream::{Failed, Stream};
+pub use tcp::TcpDoors;
+pub use tcp_link::TcpLink;

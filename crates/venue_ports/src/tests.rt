@@ -1,13 +1,19 @@
 //! The real directory, the console and what is made of their reports, and the objects in memory, each call once.
 
+ghost use Rattle.std.specs.Prelude.{◌≡◌, true};
+ghost use Rattle.venue_ports.specs.Doors.{doors_ready};
+
 use crate::reports::{file_path, read_count, read_fault, write_count};
+use crate::waiting::Waiting;
 use crate::{
-    Console, DirFolders, Doors, Failed, Folders, MemoryFile, MemoryFolders, MemoryStream,
-    QuietDoors, ReadFault, Stream, same_files_law,
+    Console, DirFolders, Doors, Failed, Folders, MemoryDoors, MemoryFile, MemoryFolders,
+    MemoryStream, QuietDoors, ReadFault, Stream, same_files_law,
 };
 use std::fs;
 use std::io::{self, ErrorKind};
+use std::process::Abort;
 use std::test::Fail;
+use std::time::Duration;
 
 #[test]
 fn the_real_directory_is_read(rt: HostRuntime) -> Result<(), Fail> {
@@ -121,4 +127,76 @@ fn the_objects_in_memory_follow_their_plans(rt: HostRuntime) -> Result<(), Fail>
     assert_eq!(rt; past.write(b"ab"), Err(Failed));
     same_files_law();
     Ok(())
+}
+
+// Accepts a stream with this input, or fails where there is none.
+fn check_accept(rt: &impl Abort, doors: &mut MemoryDoors, input: Option<&[u8]>)
+    requires { doors_ready doors.old ≡ true }
+    ensures { doors_ready doors.new ≡ true }
+{
+    match doors.accept() {
+        Err(_) => assert!(rt; input.is_none()),
+        Ok(mut stream) => {
+            let mut buf = [0; 8];
+            let count = stream.read(&mut buf).expect(rt, "a read");
+            assert_eq!(rt; Some(&buf[..count]), input);
+        }
+    }
+}
+
+#[test]
+fn doors_in_memory_follow_their_plans(rt: HostRuntime) -> Result<(), Fail> {
+    let alloc = rt.alloc();
+    let mut streams = Vec::new(alloc);
+    for text in ["first", "second"] {
+        let input = Vec::from_slice(alloc, text.as_bytes())?;
+        let none = Vec::new(alloc);
+        let stream = MemoryStream::new(alloc, input, none, 0, Vec::new(alloc), Vec::new(alloc));
+        streams.push(stream.expect(&rt, "a memory stream"))?;
+    }
+    let failing_binds = Vec::from_slice(alloc, &[1])?;
+    let failing_accepts = Vec::from_slice(alloc, &[2])?;
+    let mut doors = MemoryDoors::new(alloc, streams, failing_binds, failing_accepts).expect(
+        &rt, "doors",
+    );
+    assert!(rt; doors.bind("127.0.0.1:80").is_err());
+    assert_eq!(rt; doors.fault_count(), 1);
+    doors.bind("127.0.0.1:81").expect(&rt, "a bind");
+    assert_eq!(rt; doors.fault_count(), 1);
+    check_accept(&rt, &mut doors, Some(b"first"));
+    check_accept(&rt, &mut doors, None);
+    check_accept(&rt, &mut doors, Some(b"second"));
+    check_accept(&rt, &mut doors, Some(b""));
+    assert_eq!(rt; doors.fault_count(), 2);
+    Ok(())
+}
+
+#[test]
+fn the_fourth_read_of_nine_seconds_is_past_unless_a_write_comes_between(rt: HostRuntime) {
+    let nine = Duration::from_secs(9);
+    for writes in [false, true] {
+        let mut waiting = Waiting::new(Duration::from_secs(30), Duration::from_secs(60));
+        for read in 0..4 {
+            if writes && read == 3 {
+                waiting.was_written(Duration::ZERO, true);
+            }
+            waiting.was_read(nine, true);
+            assert_eq!(rt; waiting.may_read(), read < 3 || writes, "read {read}");
+        }
+    }
+}
+
+#[test]
+fn the_seventh_write_of_nine_seconds_is_past_unless_bytes_are_read_between(rt: HostRuntime) {
+    let nine = Duration::from_secs(9);
+    for gave in [false, true] {
+        let mut waiting = Waiting::new(Duration::from_secs(30), Duration::from_secs(60));
+        for write in 0..7 {
+            if write == 6 {
+                waiting.was_read(Duration::ZERO, gave);
+            }
+            waiting.was_written(nine, true);
+            assert_eq!(rt; waiting.may_write(), write < 6 || gave, "write {write}");
+        }
+    }
 }
