@@ -12,3 +12,5 @@ mod tests;
 pub use alone::{Alone, Unopened};
 pub use hall::{Asks, Hall};
 pub use laws::{answered_law, changed_law};
+pub use making::{Outcome, ready_change};
+pub use reader::Reader;

@@ -20,7 +20,7 @@ use venue_types::{Change, FeatureId, Files, List, OutOfMemory, Reply, Settings, 
 
 /// What becomes of a change.
 #[derive(Drop)]
-pub(crate) enum Outcome {
+pub enum Outcome {
     /// The history stays, and this is the reply.
     Stays(Reply),
     /// The change is ready. The reply tells it once it is in the history; the files are those that were read for it.
@@ -212,7 +212,7 @@ fn ready_folder<F: Folders>(
 
 /// Makes a worker's change ready at a board, with all memory that it needs but room in a history, or tells why not. Reads a folder
 /// for a publication, and then counts its faults.
-pub(crate) fn ready_change<F: Folders>(
+pub fn ready_change<F: Folders>(
     alloc: Global,
     board: &Board,
     settings: &Settings,

@@ -13,7 +13,7 @@ use venue_types::{Files, Text};
 
 /// Folders, and the base below which they are named.
 #[derive(Drop)]
-pub(crate) struct Reader<F: Folders> {
+pub struct Reader<F: Folders> {
     pub folders: F,
     pub base: Text,
 }
@@ -27,7 +27,7 @@ fn path_of(alloc: Global, base: &str, folder: &str) -> Result<String, AllocError
 
 impl<F: Folders> Reader<F> {
     /// The seventeen files of the folder of this name, read once each, in order, up to the first fault.
-    pub(crate) fn read(&mut self, alloc: Global, folder: &Text) -> Result<Files, ReadFault>
+    pub fn read(&mut self, alloc: Global, folder: &Text) -> Result<Files, ReadFault>
         ensures read { IfOk result (λ files. AreRead (shelf_of (F.files self.old.folders) self.old.base) folder.now files) }
         ensures same { F.files self.new.folders ≡ F.files self.old.folders }
         ensures base { self.new.base ≡ self.old.base }
