@@ -1,0 +1,42 @@
+-- What becomes of a change at the published board becomes of the office's entries.
+use Rattle.std.proofs.Common.{rules, ◌≡◌, refl, sym, subst}
+use Rattle.std.specs.Arc.{arc_value}
+use Rattle.board_copies.specs.declared.held.Held.{Held}
+use Rattle.board_copies.specs.Rules.{list_of}
+use Rattle.venue_history.specs.Histories.{Replays}
+use Rattle.version_board.specs.Making.{shelf_of}
+use Rattle.version_board.proofs.Entering.{enters, stays}
+use Rattle.shared_hall.proofs.Seen.{changes_seen}
+use Rattle.shared_hall.proofs.office.OfficeOf+N+F+Keeper.change.Goals as goal
+
+pub ready_change-outcome-requires-clause-closable : goal.ready_change-outcome-requires-clause-closable
+ready_change-outcome-requires-clause-closable g c =
+    let shown = c.self.inside.keeper.writer.desk.shown.value in
+    let h = list_of shown in
+    let held = c.deref.result.now in
+    let is : held ≡ arc_value shown.held = search rules in
+    let stands : Replays h held.board = subst (λ (x : Held). Replays h x.board) (sym is) (arc_value shown.held).stands in
+    c.version_law.ensures.closable h held.board stands
+
+pub returns-in-Stays-clause-reply : goal.returns-in-Stays-clause-reply
+returns-in-Stays-clause-reply g c =
+    let shelf = shelf_of (g.F.Folders.files c.self.inside.reader.folders) c.self.inside.reader.base in
+    let shown = c.self.inside.keeper.writer.desk.shown.value in
+    let h = list_of shown in
+    let held = c.deref.result.now in
+    let is : held ≡ arc_value shown.held = search rules in
+    let stands : Replays h held.board = subst (λ (x : Held). Replays h x.board) (sym is) (arc_value shown.held).stands in
+    changes_seen _ c.args.self.now _ c.args.pass.now c.args.change.now c.in-Stays.reply h c.self.view_is c.pass.view_is
+    (stays shelf held.board c.pass.inside.worker c.args.change.now h h c.in-Stays.reply stands c.in-Stays.ensures.outcome refl)
+
+pub returns-in-Ok-clause-reply : goal.returns-in-Ok-clause-reply
+returns-in-Ok-clause-reply g c =
+    let shelf = shelf_of (g.F.Folders.files c.self.inside.reader.folders) c.self.inside.reader.base in
+    let shown = c.self.inside.keeper.writer.desk.shown.value in
+    let h = list_of shown in
+    let held = c.deref.result.now in
+    let is : held ≡ arc_value shown.held = search rules in
+    let stands : Replays h held.board = subst (λ (x : Held). Replays h x.board) (sym is) (arc_value shown.held).stands in
+    let k = c.enter.new.self.entries in
+    changes_seen _ c.args.self.now _ c.args.pass.now c.args.change.now c.in-Made.reply k c.self.view_is c.pass.view_is
+    (enters shelf held.board c.pass.inside.worker c.args.change.now h k c.in-Made.ready c.in-Made.reply c.in-Made._files stands c.in-Made.ensures.outcome c.in-Ok.ensures.ok)

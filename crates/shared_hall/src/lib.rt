@@ -1,0 +1,15 @@
+//! The hall that workers share: each answers from a reader of its own and waits for nobody, and one lock orders all changes.
+#![tactic(auto)]
+
+mod copies;
+mod crossing;
+mod name;
+mod office;
+mod seat;
+#[cfg(test)]
+mod tests;
+
+pub use copies::Copies;
+pub use name::HallName;
+pub use office::{Closed, Office, OfficeOf, Opened, Pass, PassOf, close_hall, open_hall};
+pub use seat::{Seat, SeatIn};

@@ -1,0 +1,218 @@
+//! A pass of a worker, and the office under the lock.
+
+ghost use Rattle.std.specs.Prelude.{◌≡◌, ◌+◌, ◌^◌, ◌<◌, ◌≤◌, [], ◌∷◌, ◌++◌, length, OnOk, OnErr};
+ghost use mathlib.Core.List.{IsPrefix};
+ghost use Rattle.venue_history.specs.Changes.{Changes};
+ghost use Rattle.venue_history.specs.Closed.{Version};
+ghost use Rattle.venue_history.specs.Histories.{IsLegal, Replays};
+ghost use Rattle.venue_history.specs.Replies.{told};
+ghost use Rattle.venue_history.specs.Versions.{MayFollow, after};
+ghost use Rattle.venue_ports.specs.Causes.{one_more};
+ghost use Rattle.version_board.specs.Facts.{IsAnswered};
+ghost use Rattle.version_board.specs.Making.{CountsFault};
+ghost use Rattle.shared_hall.specs.Offices.{faulted};
+
+mod closing;
+mod opening;
+mod publishing;
+
+use crate::name::HallName;
+use board_copies::{Keeper, Reads, Roll, SideReader, Writes, meet_in, read_in, wait_for_ever};
+pub use closing::{Closed, close_hall};
+pub use opening::{Opened, open_hall};
+use publishing::publish_entry;
+use std::alloc::Global;
+use std::marker::Model;
+use std::sync::ledger::{Book, Share};
+use std::sync::{Arc, Wait};
+use venue_history::{legal_law, number_law, version_law};
+use venue_ports::Folders;
+use venue_state::Prepared;
+use venue_types::{Change, OutOfMemory, Query, Reply, Settings};
+use version_board::{Outcome, Reader, ready_change};
+
+/// What a worker has seen, and its part of the hall's changes.
+#[derive(Drop)]
+pub struct PassOf<N: HallName, Q: Reads> {
+    reader: Q,
+    number: u32,
+    worker: u8,
+    share: Share<N>,
+    faults: u64,
+    looks: u64,
+}
+
+/// A pass of the copies that a hall has.
+pub type Pass<N> = PassOf<N, SideReader>;
+
+impl<N: HallName, Q: Reads> Model for PassOf<N, Q> {
+    ghost use Rattle.std.specs.Prelude.{◌≡◌, ◌<◌, ◌≤◌, length, true};
+    ghost use Rattle.venue_history.specs.Histories.{IsLegal};
+    ghost use Rattle.board_copies.specs.Rules.{known};
+    ghost use Rattle.version_board.specs.Facts.{Facts};
+
+    ghost Value = { Facts };
+
+    ghost view = { λ p. record { worker = p.worker; parts = p.share.parts; files = N.folder_files; seen = (Q.client p.reader).seen; made = p.share.amount; faults = p.faults; looks = p.looks } };
+
+    ghost invariant = { λ p. ((Q.client p.reader).bound ≡ true) × (known (Q.client p.reader) ≡ N.book) × IsLegal (Q.client p.reader).seen × (p.number ≡ length (Q.client p.reader).seen) × (0 < p.share.parts) × (1 ≤ p.worker) × (p.worker ≤ 16) };
+}
+
+impl<N: HallName> PassOf<N, SideReader> {
+    /// The number of the version that it has seen. Takes no memory.
+    pub fn number(&self) -> u32
+        ensures number { result ≡ length self.now.seen }
+        ensures legal { IsLegal self.now.seen }
+    {
+        self.number
+    }
+
+    /// Answers at the copy that is published, and waits for nobody.
+    pub fn ask(&mut self, alloc: Global, query: &Query) -> Reply
+        ensures reply { IsAnswered self.new.seen query.now result }
+        ensures grows { IsPrefix self.old.seen self.new.seen }
+        ensures kept { self.new ≡ record self.old { seen = self.new.seen } }
+    {
+        legal_law();
+        match read_in(&mut self.reader, alloc, query) {
+            Some(found) => {
+                self.number = found.number;
+                found.reply
+            }
+            None => Reply::OutOfMemory,
+        }
+    }
+
+    // What the type keeps: the folders of a pass are those of the hall's name, and its count of faults has a bound.
+    pub(crate) fn pass_law(&self)
+        ensures files { self.now.files ≡ N.folder_files }
+        ensures faults { self.now.faults < 2 ^ 64 }
+    {
+        let _faults = self.faults;
+    }
+
+    // Counts a reply that tells a fault of the folders.
+    fn count_fault(&mut self, reply: &Reply)
+        ensures { self.new ≡ record self.old { faults = faulted reply.now self.old.faults } }
+    {
+        match reply {
+            Reply::FolderFault { .. } => self.faults = self.faults.saturating_add(1),
+            _ => {}
+        }
+    }
+}
+
+/// What is under the lock: the writer of the two copies, whose published one has the history; the count of all accepted changes; and
+/// the folders.
+#[derive(Drop)]
+pub struct OfficeOf<N: HallName, F: Folders, W: Writes> {
+    keeper: W,
+    roll: Roll,
+    book: Book<N>,
+    reader: Reader<F>,
+    settings: Arc<Settings>,
+    start: u32,
+}
+
+/// The office of the copies that a hall has.
+pub type Office<N, F> = OfficeOf<N, F, Keeper>;
+
+impl<N: HallName, F: Folders, W: Writes> Model for OfficeOf<N, F, W> {
+    ghost use Rattle.std.specs.Prelude.{◌≡◌, ◌+◌, ◌≤◌, length};
+    ghost use Rattle.std.specs.Arc.{arc_value};
+    ghost use Rattle.board_copies.specs.Rules.{list_of, book_of};
+    ghost use Rattle.version_board.specs.Making.{shelf_of};
+    ghost use Rattle.shared_hall.specs.Offices.{OfficeFacts};
+
+    ghost Value = { OfficeFacts };
+
+    ghost view = { λ o. record { entries = list_of (W.shown o.keeper); shelf = shelf_of (F.files o.reader.folders) o.reader.base; faults = F.faults o.reader.folders } };
+
+    ghost invariant = { λ o. (o.roll.seen.book ≡ N.book) × (book_of (W.shown o.keeper) ≡ N.book) × (arc_value o.settings ≡ (arc_value (W.shown o.keeper).held).board.settings) × (o.start ≡ N.start) × (o.book.total + N.start ≡ length (list_of (W.shown o.keeper))) × (N.folder_count ≤ F.faults o.reader.folders) × (shelf_of (F.files o.reader.folders) o.reader.base ≡ N.folder_files) };
+}
+
+impl<N: HallName, F: Folders> OfficeOf<N, F, Keeper> {
+    // Publishes what is ready and counts it, unless memory ran out: then all stays.
+    fn enter<R: Wait>(
+        &mut self,
+        rt: &R,
+        alloc: Global,
+        ready: Prepared,
+        pass: &mut Pass<N>,
+    ) -> Result<(), OutOfMemory>
+        requires may { (v : Version) → Replays self.old.entries v → MayFollow v ready.entry }
+        requires next { (v : Version) → Replays self.old.entries v → ready.next ≡ after v ready.entry.act }
+        ensures ok { OnOk result (self.new.entries ≡ self.old.entries ++ ready.entry ∷ []) }
+        ensures err { OnErr result (self.new.entries ≡ self.old.entries) }
+        ensures shelf { self.new.shelf ≡ self.old.shelf }
+        ensures faults { self.new.faults ≡ self.old.faults }
+        ensures counted { OnOk result (pass.new.made ≡ pass.old.made + 1) }
+        ensures uncounted { OnErr result (pass.new.made ≡ pass.old.made) }
+        ensures kept { pass.new ≡ record pass.old { made = pass.new.made } }
+    {
+        publish_entry(rt, alloc, &mut self.keeper, &mut self.roll, ready)?;
+        self.book.add(&mut pass.share, 1);
+        Ok(())
+    }
+
+    /// Makes a change by the pass's worker, or tells why not. The folder of a publication is read for it, with its seventeen files once
+    /// each, in order, up to the first fault. What the pass has seen stays: `tell` shows it the change.
+    pub fn change<R: Wait>(
+        &mut self,
+        rt: &R,
+        alloc: Global,
+        change: &Change,
+        pass: &mut Pass<N>,
+    ) -> Reply
+        ensures reply { Changes self.old.shelf pass.old.worker change.now self.old.entries result self.new.entries }
+        ensures fault { CountsFault self.old.faults self.new.faults result }
+        ensures later { self.old.faults ≤ self.new.faults }
+        ensures shelf { self.new.shelf ≡ self.old.shelf }
+        ensures named { self.old.shelf ≡ N.folder_files }
+        ensures made { pass.new.made ≡ pass.old.made + told result }
+        ensures faults { pass.new.faults ≡ faulted result pass.old.faults }
+        ensures kept { pass.new ≡ record pass.old { made = pass.new.made; faults = pass.new.faults } }
+    {
+        version_law();
+        let held = &self.keeper.writer.published().held;
+        let outcome = ready_change(
+            alloc,
+            &held.board,
+            &self.settings,
+            pass.worker,
+            &mut self.reader,
+            change,
+        );
+        match outcome {
+            Outcome::Stays(reply) => {
+                pass.count_fault(&reply);
+                reply
+            }
+            Outcome::Made(ready, reply, _files) => match self.enter(rt, alloc, ready, pass) {
+                Ok(()) => reply,
+                Err(OutOfMemory) => Reply::OutOfMemory,
+            },
+        }
+    }
+
+    /// Shows the pass all entries of the office. No other call raises a pass's count of looks. Takes no memory.
+    pub fn tell<R: Wait>(&mut self, rt: &R, pass: &mut Pass<N>)
+        ensures seen { pass.new.seen ≡ self.old.entries }
+        ensures grows { IsPrefix pass.old.seen pass.new.seen }
+        ensures legal { IsLegal pass.new.seen }
+        ensures looks { pass.new.looks ≡ one_more pass.old.looks }
+        ensures kept { pass.new ≡ record pass.old { seen = pass.new.seen; looks = pass.new.looks } }
+        ensures office { self.new ≡ self.old }
+    {
+        number_law();
+        let held = &*self.keeper.writer.published().held;
+        let number = held.board.number();
+        if !meet_in(&mut pass.reader, held) {
+            // What is published is what this writer published last: it never comes here.
+            wait_for_ever(rt);
+            unreachable!()
+        }
+        pass.number = number;
+        pass.looks = pass.looks.saturating_add(1);
+    }
+}

@@ -1,0 +1,91 @@
+//! A worker's seat at a hall: its pass, and the lock of the office.
+
+ghost use Rattle.std.specs.Prelude.{◌≡◌, ◌+◌, ◌≤◌};
+ghost use mathlib.Core.List.{IsPrefix};
+
+use crate::name::HallName;
+use crate::office::{Office, OfficeOf, Pass, PassOf};
+use board_copies::{Keeper, Reads, SideReader, Writes};
+use std::alloc::Global;
+use std::marker::Model;
+use std::sync::{Mutex, Wait};
+use venue_ports::Folders;
+use venue_types::{Change, Query, Reply};
+use version_board::{Asks, Hall};
+
+/// Who has it may ask without waiting, and take the lock for a change.
+#[derive(Drop)]
+pub struct SeatIn<'a, N: HallName, F: Folders, Q: Reads, W: Writes, R> {
+    pass: PassOf<N, Q>,
+    office: &'a Mutex<OfficeOf<N, F, W>>,
+    rt: &'a R,
+    alloc: Global,
+}
+
+/// A seat at the copies that a hall has.
+pub type Seat<'a, N, F, R> = SeatIn<'a, N, F, SideReader, Keeper, R>;
+
+impl<'a, N: HallName, F: Folders, Q: Reads, W: Writes, R> Model for SeatIn<'a, N, F, Q, W, R> {
+    ghost use Rattle.version_board.specs.Facts.{Facts};
+
+    ghost Value = { Facts };
+
+    ghost view = { λ s. s.pass };
+}
+
+impl<'a, N: HallName, F: Folders, R> SeatIn<'a, N, F, SideReader, Keeper, R> {
+    /// Takes a seat. Takes no memory.
+    pub fn sit(
+        rt: &'a R,
+        alloc: Global,
+        pass: Pass<N>,
+        office: &'a Mutex<Office<N, F>>,
+    ) -> Seat<'a, N, F, R>
+        ensures { result ≡ pass }
+    {
+        SeatIn {
+            pass,
+            office,
+            rt,
+            alloc,
+        }
+    }
+
+    /// Gives the pass back. Takes no memory.
+    pub fn leave(self) -> Pass<N>
+        ensures { result ≡ self.entry }
+    {
+        let SeatIn { pass, .. } = self;
+        pass
+    }
+}
+
+impl<N: HallName, F: Folders, R> Asks for SeatIn<'_, N, F, SideReader, Keeper, R> {
+    ghost facts = { λ s. s };
+
+    fn number(&self) -> u32 {
+        self.pass.number()
+    }
+
+    fn ask(&mut self, query: &Query) -> Reply {
+        self.pass.ask(self.alloc, query)
+    }
+}
+
+impl<N: HallName, F: Folders, R: Wait> Hall for SeatIn<'_, N, F, SideReader, Keeper, R> {
+    fn change(&mut self, change: &Change) -> Reply {
+        let mut guard = self.office.lock(self.rt);
+        let office = &mut *guard;
+        self.pass.pass_law();
+        office.tell(self.rt, &mut self.pass);
+        let reply = office.change(self.rt, self.alloc, change, &mut self.pass);
+        office.tell(self.rt, &mut self.pass);
+        reply
+    }
+
+    fn catch_up(&mut self) {
+        let mut guard = self.office.lock(self.rt);
+        let office = &mut *guard;
+        office.tell(self.rt, &mut self.pass);
+    }
+}
