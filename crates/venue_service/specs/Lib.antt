@@ -1,0 +1,4 @@
+pub mod Guests
+pub mod Desks
+pub mod Steps
+pub mod Services

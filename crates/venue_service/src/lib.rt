@@ -1,0 +1,17 @@
+//! The service: connections come through doors, workers serve them at one hall, and a closing count tells what came of it.
+#![tactic(auto)]
+
+mod desk;
+mod guest;
+#[cfg(test)]
+mod seat_tests;
+mod seating;
+mod service;
+#[cfg(test)]
+mod tests;
+mod working;
+
+pub use desk::{DoorDesk, Next};
+pub use guest::Guest;
+pub use service::{Counts, Service, serve_hall};
+pub use working::work;
