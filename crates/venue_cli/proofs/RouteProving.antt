@@ -1,6 +1,7 @@
 -- From what `links` and `route` print to what `verify` says of it.
 use Rattle.std.proofs.Common.{◌≡◌, ◌≢◌, ℕ, List, length, Option, Some, None, refl, sym, subst, ◌∙◌, codes, arith}
 use Rattle.std.proofs.lemmas.List.{length-map}
+use Rattle.std.proofs.lemmas.Option.{same_Some}
 use Rattle.std.specs.Prelude.{◌≤◌, ◌<◌}
 use Rattle.venue_types.specs.declared.feature_id.FeatureId.{FeatureId}
 use Rattle.venue_types.specs.declared.link.Node.{Node}
@@ -31,7 +32,7 @@ use Rattle.venue_cli.specs.Checked.{NoVenue, HasVenue, no_settings, rejected}
 use Rattle.venue_cli.specs.Linked.{profile_named, LinksOutput, no_venue as links_no_venue, no_profile as links_no_profile, linked}
 use Rattle.venue_cli.specs.Routed.{HasRouter, RouteOutput, no_venue, no_profile, no_start, no_end, routed}
 use Rattle.venue_cli.specs.Kept.{HaveAnswered, AreKept, IsProvedBy}
-use Rattle.venue_cli.proofs.OneVenue.{NotBoth, OneVenue, some_one, read_one, venue_one, stopped_wrongly}
+use Rattle.venue_cli.proofs.OneText.{NotBoth, OneVenue, read_one, not_both, venue_one}
 
 -- ---- what the two commands print
 
@@ -67,7 +68,7 @@ record HasRoute (fs : List StoredFile) (base folder name text : List ℕ) : Type
 
 route_in : NotBoth → (fs : List StoredFile) (base folder name : List ℕ) (from to : FeatureId) (venue : Venue) → HasVenue fs base folder venue → (text : List ℕ) (status : Status)
     → RouteOutput fs base folder name from to text status → status ≢ Wrong → HasRoute fs base folder name text
-route_in law fs base folder name from to here has text status (no_venue none) some = absurd (some (stopped_wrongly law fs base folder here has text status none))
+route_in law fs base folder name from to here has text status (no_venue none) some = absurd (not_both law fs base folder text status here none has)
 route_in law fs base folder name from to here has _ _ (no_profile venue is none) some = absurd (some refl)
 route_in law fs base folder name from to here has _ _ (no_start venue profile router none) some = absurd (some refl)
 route_in law fs base folder name from to here has _ _ (no_end venue profile a router starts none) some = absurd (some refl)
@@ -82,7 +83,7 @@ right_here : (name : List ℕ) (one other : Venue) (p q : Profile) (a b : ℕ) (
 right_here name one other p q a b answer same named also right =
     let named_here = subst (λ (v : Venue). profile_named v.settings name ≡ Some q) same also in
     let here = subst (λ (v : Venue). IsRouteAnswer v.features v.settings q a b answer) same right in
-    subst (λ (r : Profile). IsRouteAnswer one.features one.settings r a b answer) (some_one q p (sym named_here ∙ named)) here
+    subst (λ (r : Profile). IsRouteAnswer one.features one.settings r a b answer) (same_Some q p (sym named_here ∙ named)) here
 
 abbrev pub Truth : Type 0
 Truth = (table : Table) (answer : AnswerIn) → IsProved table answer → IsTrueAnswer table answer
@@ -117,10 +118,10 @@ not_by : {X : Type 0} (Form : List ℕ → X → Type 0) (limit : ℕ) (found : 
     → StopsBy Form limit found cause → ⊥
 not_by Form limit found bytes x Missing there within form why = let e : None ≡ Some bytes = sym why ∙ there in absurd cc
 not_by Form limit found bytes x Large there within form why =
-    let less = subst (λ (b : List ℕ). limit < length b) (some_one why.0 bytes (sym why.1 ∙ there)) why.2 in
+    let less = subst (λ (b : List ℕ). limit < length b) (same_Some why.0 bytes (sym why.1 ∙ there)) why.2 in
     absurd (omega arith)
 not_by {X} Form limit found bytes x (Malformed n) there within form why =
-    why.3.other (x, subst (λ (b : List ℕ). Form b x) (some_one bytes why.0 (sym there ∙ why.1)) form)
+    why.3.other (x, subst (λ (b : List ℕ). Form b x) (same_Some bytes why.0 (sym there ∙ why.1)) form)
 
 not_stopped : {X : Type 0} (Form : List ℕ → X → Type 0) (limit : ℕ) (name : List ℕ) (found : Option (List ℕ)) (bytes text : List ℕ) (x : X) → found ≡ Some bytes → length bytes ≤ limit
     → Form bytes x → Stops Form limit name found text → ⊥

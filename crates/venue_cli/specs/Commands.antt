@@ -1,5 +1,6 @@
 -- What the words of the command line can ask for.
 use Rattle.std.specs.Prelude.{◌≡◌, ℕ, ◌<◌, ◌≤◌, Bool, true, List, [], ◌∷◌, length, Some, codes, nat_le, ◌==◌, ◌&&◌, ◌||◌}
+use Rattle.std.specs.Fmt.{decimal}
 use Rattle.std.specs.List.{Contains, list_all}
 use Rattle.venue_types.specs.declared.feature_id.FeatureId.{FeatureId}
 use Rattle.venue_types.specs.Identifier.{identifier_read}
@@ -10,6 +11,8 @@ pub data Asked : Type 0 where
   Check : List ℕ → List ℕ → Asked
   Links : List ℕ → List ℕ → List ℕ → Asked
   Route : List ℕ → List ℕ → List ℕ → List ℕ → List ℕ → Asked
+  Session : List ℕ → List ℕ → Asked
+  Gen : ℕ → Asked
 
 -- the name of a base: 1 to 1,024 bytes without a zero byte
 pub record IsBase (base : List ℕ) : Type 0 where
@@ -38,6 +41,8 @@ words_of (Verify base) = codes "verify" ∷ base ∷ []
 words_of (Check base folder) = codes "check" ∷ base ∷ folder ∷ []
 words_of (Links base folder profile) = codes "links" ∷ base ∷ folder ∷ profile ∷ []
 words_of (Route base folder profile from to) = codes "route" ∷ base ∷ folder ∷ profile ∷ from ∷ to ∷ []
+words_of (Session base folder) = codes "session" ∷ base ∷ folder ∷ []
+words_of (Gen levels) = codes "gen" ∷ decimal levels ∷ []
 
 -- its words are of their form; any word may be a profile's name
 abbrev pub IsAsked : Asked → Type 0
@@ -46,9 +51,15 @@ IsAsked (Verify base) = IsBase base
 IsAsked (Check base folder) = IsBase base × IsFolder folder
 IsAsked (Links base folder profile) = IsBase base × IsFolder folder
 IsAsked (Route base folder profile from to) = IsBase base × IsFolder folder × IsIdentifier from × IsIdentifier to
+IsAsked (Session base folder) = IsBase base × IsFolder folder
+IsAsked (Gen levels) = (1 ≤ levels) × (levels ≤ 200)
 
 -- the words ask for a command
 pub record AskFor (words : List (List ℕ)) : Type 0 where
   pub asked : Asked
   pub form : IsAsked asked
   pub spelled : words ≡ words_of asked
+
+-- the words don't ask for a session
+abbrev pub IsNoSession : List (List ℕ) → Type 0
+IsNoSession words = (base folder : List ℕ) → IsAsked (Session base folder) → words ≡ words_of (Session base folder) → ⊥

@@ -7,7 +7,9 @@ use Rattle.venue_cli.specs.declared.exit.WordsFault.TheVariants.{NotText, OutOfM
 use Rattle.venue_cli.specs.declared.status.Status.{Status}
 use Rattle.venue_cli.specs.declared.status.Status.TheVariants.{Memory}
 use Rattle.venue_cli.specs.Codes.{status_code}
-use Rattle.venue_cli.specs.Ends.{Run, Ends, NothingDone}
+use Rattle.venue_cli.specs.Commands.{IsNoSession}
+use Rattle.venue_cli.specs.Ends.{Ends, NothingDone}
+use Rattle.venue_cli.specs.Runs.{Run}
 
 -- the number is that of the status with which a run over these words ends
 pub record Exits (words : List (List ℕ)) (files : Option (List StoredFile)) (run : Run) (number : ℕ) : Type 0 where
@@ -20,3 +22,8 @@ abbrev pub ExitsAfter : Result (Vec (String Global) Global) WordsFault → Optio
 ExitsAfter (Ok words) files run number = Exits (map string_bytes words.items) files run number
 ExitsAfter (Err NotText) files run number = Exits [] files run number
 ExitsAfter (Err OutOfMemory) files run number = NothingDone run × (number ≡ status_code Memory)
+
+-- nothing is read from the console, but where words were read that ask for a session
+abbrev pub LeavesAfter : Result (Vec (String Global) Global) WordsFault → Option (List ℕ) → Option (List ℕ) → Type 0
+LeavesAfter (Ok words) before now = IsNoSession (map string_bytes words.items) → now ≡ before
+LeavesAfter (Err fault) before now = now ≡ before

@@ -13,12 +13,13 @@ use Rattle.route_certificate.specs.Forms.{IsTable, IsWalkText}
 use Rattle.route_certificate.specs.Prices.{IsPriced}
 use Rattle.venue_cli.specs.declared.status.Status.{Status}
 use Rattle.venue_cli.specs.declared.status.Status.TheVariants.{Done, Negative, Wrong}
-use Rattle.venue_cli.specs.Commands.{Asked, Price, Verify, Check, Links, Route, IsAsked, words_of}
+use Rattle.venue_cli.specs.Commands.{Asked, Price, Verify, Check, Links, Route, Session, Gen, IsAsked, words_of}
 use Rattle.venue_cli.specs.Files.{Reads, Stops, links_limit, links_name, walk_limit, walk_name}
 use Rattle.venue_cli.specs.Verified.{VerifyOutput}
-use Rattle.venue_cli.specs.Checked.{CheckOutput}
+use Rattle.venue_cli.specs.Checked.{NoVenue, CheckOutput}
 use Rattle.venue_cli.specs.Linked.{LinksOutput}
 use Rattle.venue_cli.specs.Routed.{RouteOutput}
+use Rattle.venue_cli.specs.Generated.{GenOutput}
 
 -- a walk's text over a table
 abbrev pub WalkForm : Table → List ℕ → WalkIn → Type 0
@@ -55,3 +56,7 @@ pub data Output (words : List (List ℕ)) (files : List StoredFile) : List ℕ �
   answers_route : {text : List ℕ} {status : Status} (base folder profile from to : List ℕ) (a b : FeatureId) → IsAsked (Route base folder profile from to)
       → words ≡ words_of (Route base folder profile from to) → identifier_read from ≡ Some a → identifier_read to ≡ Some b
       → RouteOutput files base folder profile a b text status → Output words files text status
+  stops_session : {text : List ℕ} {status : Status} (base folder : List ℕ) → IsAsked (Session base folder) → words ≡ words_of (Session base folder)
+      → NoVenue files base folder text status → Output words files text status
+  answers_gen : {text : List ℕ} {status : Status} (levels : ℕ) → IsAsked (Gen levels) → words ≡ words_of (Gen levels) → GenOutput levels text status
+      → Output words files text status

@@ -2,19 +2,20 @@
 
 ghost use Rattle.std.specs.Prelude.{◌≡◌, IfOk, IfSome, IsErrOf, string_bytes, map};
 ghost use Rattle.venue_ports.specs.Files.{HasReadCause};
-ghost use Rattle.venue_cli.specs.Commands.{AskFor};
+ghost use Rattle.venue_cli.specs.Commands.{AskFor, IsNoSession};
 ghost use Rattle.venue_cli.specs.Files.{stop_text};
 ghost use Rattle.venue_cli.specs.Output.{priced_text, priced_status, PriceOutput, Output};
 ghost use Rattle.venue_cli.specs.Steps.{IsPrinted};
 
 use crate::base::{table_of, walk_of};
+use crate::building::building_answer;
 use crate::checking::check_answer;
 use crate::linking::links_answer;
 use crate::load::Cause;
 use crate::routing::routing_answer;
 use crate::status::Status;
 use crate::verifying::verify_answer;
-use crate::words::{base_of, folder_of, links_of, route_of};
+use crate::words::{base_of, folder_of, levels_of, links_of, route_of};
 use route_certificate::{Priced, price};
 use std::alloc::{AllocError, Global};
 use venue_ports::{Folders, ReadFault};
@@ -86,12 +87,13 @@ fn price_answer<F: Folders>(alloc: Global, base: &str, folders: &mut F) -> Resul
     Ok(priced(alloc, price(&table, &walk))?)
 }
 
-/// The answer to the words of the command line.
+/// The answer to the words of the command line, where they don't ask for a session.
 pub(crate) fn answer_to<F: Folders>(
     alloc: Global,
     words: &[String],
     folders: &mut F,
 ) -> Result<Answer, ReadFault>
+    requires { IsNoSession (map string_bytes words.now) }
     ensures told { IfOk result (λ answer. IfSome (F.files folders.old) (λ files. Output (map string_bytes words.now) files answer.text answer.status)) }
     ensures plain { IfOk result (λ answer. IsPrinted answer.status) }
     ensures asked { IsErrOf result ReadFault.Failed → AskFor (map string_bytes words.now) }
@@ -104,7 +106,7 @@ pub(crate) fn answer_to<F: Folders>(
     if let Some(base) = base_of(words, "verify") {
         return verify_answer(alloc, base, folders);
     }
-    if let Some((base, folder)) = folder_of(words) {
+    if let Some((base, folder)) = folder_of(words, "check") {
         return check_answer(alloc, base, folder, folders);
     }
     if let Some((base, folder, profile)) = links_of(words) {
@@ -112,6 +114,9 @@ pub(crate) fn answer_to<F: Folders>(
     }
     if let Some((base, folder, profile, from, to)) = route_of(words) {
         return routing_answer(alloc, base, folder, profile, from, to, folders);
+    }
+    if let Some(levels) = levels_of(words) {
+        return building_answer(alloc, levels);
     }
     Ok(printed(Status::Wrong, String::from_str(alloc, "words\n")?))
 }

@@ -3,7 +3,7 @@
 ghost use Rattle.std.specs.Prelude.{◌≡◌, ◌≤◌, ◌↔◌, false};
 ghost use Rattle.std.specs.Process.{exit_status};
 ghost use Rattle.venue_cli.specs.Codes.{status_code};
-ghost use Rattle.venue_cli.specs.Exits.{ExitsAfter};
+ghost use Rattle.venue_cli.specs.Exits.{ExitsAfter, LeavesAfter};
 
 use crate::running::run;
 use crate::status::{Outcome, Status};
@@ -62,6 +62,8 @@ pub fn exit_after<F: Folders + Send, D: Doors + Send, C: Stream>(
 ) -> Exit<F, D>
     requires { D.ready doors ≡ false }
     ensures exits { ExitsAfter words (F.files folders) (record {
+      left = C.left console.old;
+      left_now = C.left console.new;
       written = C.written console.old;
       written_now = C.written console.new;
       console = C.faults console.old;
@@ -71,7 +73,7 @@ pub fn exit_after<F: Folders + Send, D: Doors + Send, C: Stream>(
     }) (exit_status result.code) }
     ensures files { F.files result.folders ≡ F.files folders }
     ensures doors { result.doors ≡ doors }
-    ensures left { C.left console.new ≡ C.left console.old }
+    ensures left { LeavesAfter words (C.left console.old) (C.left console.new) }
     ensures folders_later { F.faults folders ≤ F.faults result.folders }
     ensures console_later { C.faults console.old ≤ C.faults console.new }
 {

@@ -3,15 +3,20 @@
 
 mod answer;
 mod base;
+mod building;
 mod checking;
 mod exit;
+mod laws;
 mod linking;
 mod load;
 mod making;
+mod opening;
 mod printing;
+mod reaching;
 mod route_law;
 mod routing;
 mod running;
+mod serving_console;
 mod settings;
 mod status;
 #[cfg(test)]
@@ -22,6 +27,7 @@ mod verifying;
 mod words;
 
 pub use exit::{Exit, WordsFault, exit_after, words_fault};
+pub use laws::{run_complete_law, run_headline_law};
 pub use route_law::route_is_proved;
 pub use running::run;
 pub use status::{Outcome, Status};

@@ -1,6 +1,7 @@
 //! Trials of commands over the station. Of `check` each row is a name, what is changed in the station, and what is then printed.
 
 mod accepted_rows;
+mod building;
 mod bulk_rows;
 mod figure_rows;
 mod file_rows;
@@ -15,6 +16,8 @@ mod reference_rows;
 mod ring_rows;
 mod route_rows;
 mod routing;
+mod session_rows;
+mod sessions;
 mod stop_rows;
 
 use accepted_rows::{HIGH, SOUND};

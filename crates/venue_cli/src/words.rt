@@ -1,11 +1,13 @@
 //! The words of the command line.
 
-ghost use Rattle.std.specs.Prelude.{◌≡◌, ℕ, List, [], ◌∷◌, map, codes, string_bytes, IfSome, IfNone};
+ghost use Rattle.std.specs.Prelude.{◌≡◌, ◌≤◌, ℕ, List, [], ◌∷◌, map, codes, string_bytes, IfSome, IfNone};
 ghost use Rattle.std.specs.Bool.{OnTrue, OnFalse};
+ghost use Rattle.std.specs.Fmt.{decimal};
 ghost use Rattle.std.specs.List.{list_all};
 ghost use Rattle.venue_cli.specs.Commands.{IsBase, IsFolder, IsIdentifier, is_folder_byte};
 ghost use Rattle.venue_cli.specs.Steps.{AsksRoute};
 
+use line_forms::number;
 use venue_types::FeatureId;
 
 // Whether a word names a base.
@@ -66,13 +68,13 @@ fn three_words(words: &[String]) -> Option<(&str, &str, &str)>
     }
 }
 
-/// The base and the folder, where the words ask for a check.
-pub(crate) fn folder_of(words: &[String]) -> Option<(&str, &str)>
-    ensures found { IfSome result (λ pair. IsBase pair.0.now × IsFolder pair.1.now × (map string_bytes words.now ≡ codes "check" ∷ pair.0.now ∷ pair.1.now ∷ [])) }
-    ensures none { IfNone result ((base folder : List ℕ) → IsBase base → IsFolder folder → map string_bytes words.now ≡ codes "check" ∷ base ∷ folder ∷ [] → ⊥) }
+/// The base and the folder, where the words are this command, a base and a folder.
+pub(crate) fn folder_of<'a>(words: &'a [String], name: &str) -> Option<(&'a str, &'a str)>
+    ensures found { IfSome result (λ pair. IsBase pair.0.now × IsFolder pair.1.now × (map string_bytes words.entry.now ≡ name.now ∷ pair.0.now ∷ pair.1.now ∷ [])) }
+    ensures none { IfNone result ((base folder : List ℕ) → IsBase base → IsFolder folder → map string_bytes words.entry.now ≡ name.now ∷ base ∷ folder ∷ [] → ⊥) }
 {
     let (command, base, folder) = three_words(words)?;
-    if command == "check" && is_base(base) && is_folder(folder) {
+    if command == name && is_base(base) && is_folder(folder) {
         Some((base, folder))
     } else {
         None
@@ -141,6 +143,40 @@ pub(crate) fn route_of(words: &[String]) -> Option<(&str, &str, &str, FeatureId,
     let to = FeatureId::read(to.as_bytes())?;
     if command == "route" && is_base(base) && is_folder(folder) {
         Some((base, folder, profile, from, to))
+    } else {
+        None
+    }
+}
+
+// Whether a building has so many levels: 1 to 200.
+fn is_height(levels: u64) -> bool
+    ensures yes { OnTrue result ((1 ≤ levels) × (levels ≤ 200)) }
+    ensures no { OnFalse result ((1 ≤ levels) × (levels ≤ 200) → ⊥) }
+{
+    1 <= levels && levels <= 200
+}
+
+// The number of levels that a word spells: 1 to 200.
+fn levels_in(word: &str) -> Option<u8>
+    ensures found { IfSome result (λ levels. (word.now ≡ decimal levels) × (1 ≤ levels) × (levels ≤ 200)) }
+    ensures none { IfNone result ((levels : ℕ) → 1 ≤ levels → levels ≤ 200 → word.now ≡ decimal levels → ⊥) }
+{
+    let levels = number(word.as_bytes())?;
+    if is_height(levels) {
+        Some(levels as u8)
+    } else {
+        None
+    }
+}
+
+/// How many levels, where the words ask for a building.
+pub(crate) fn levels_of(words: &[String]) -> Option<u8>
+    ensures found { IfSome result (λ levels. (1 ≤ levels) × (levels ≤ 200) × (map string_bytes words.now ≡ codes "gen" ∷ decimal levels ∷ [])) }
+    ensures none { IfNone result ((levels : ℕ) → 1 ≤ levels → levels ≤ 200 → map string_bytes words.now ≡ codes "gen" ∷ decimal levels ∷ [] → ⊥) }
+{
+    let (command, levels) = two_words(words)?;
+    if command == "gen" {
+        levels_in(levels)
     } else {
         None
     }

@@ -1,0 +1,27 @@
+-- What is measured of a run.
+use Rattle.std.specs.Prelude.{◌≡◌, ℕ, List, ◌++◌, Option, Some, None}
+
+-- what was before the run and what is after it: the bytes that the console holds still and those that were written, and the counts of faults
+pub record Run : Type 0 where
+  pub left : Option (List ℕ)
+  pub left_now : Option (List ℕ)
+  pub written : Option (List ℕ)
+  pub written_now : Option (List ℕ)
+  pub console : ℕ
+  pub console_now : ℕ
+  pub folders : ℕ
+  pub folders_now : ℕ
+
+-- exactly these bytes were appended, where the bytes are told
+abbrev pub Wrote : Option (List ℕ) → Option (List ℕ) → List ℕ → Type 0
+Wrote None new text = new ≡ None
+Wrote (Some old) new text = new ≡ Some (old ++ text)
+
+-- no count of faults rose
+pub record NoFault (run : Run) : Type 0 where
+  pub console : run.console_now ≡ run.console
+  pub folders : run.folders_now ≡ run.folders
+
+-- nothing was read from the console
+abbrev pub IsUnread : Run → Type 0
+IsUnread run = run.left_now ≡ run.left
