@@ -1,6 +1,6 @@
 #!/usr/bin/env python3
-"""Looks for ways through small venues made by arithmetic by `route`, compares each answer with plain rounds over the table of all links
-that `links` prints, and has it judged by `verify`.
+"""Looks for ways through small venues made by arithmetic, with nothing closed by `route` and with closures by `session`, and compares each
+answer with plain rounds over the table of all links that `links` prints.
 
 usage: random_ways.py [PROGRAM [VENUES [FIRST]]]   (without PROGRAM the launcher ./venue, which builds the program if need be)
 The venues have one to three levels of square rooms with doors in their walls, halls that lie over several rooms and share their doors,
@@ -17,6 +17,7 @@ import sys
 import tempfile
 
 HERE = os.path.dirname(os.path.abspath(__file__))
+KEY = "desk-key-1"
 ROOM = 10
 FREE = 10**18
 
@@ -132,7 +133,7 @@ def settings(draw):
     extras = draw.choice([(3000, 800, 2000, 1500), (0, 0, 0, 0), (1, 1, 1, 1)])
     names = ["elevator_extra", "escalator_extra", "ramp_extra", "stairs_extra"]
     text = "kx = 10000000\nky = 10000000\n" + "".join(f"{name} = {extra}\n" for name, extra in zip(names, extras))
-    return text
+    return text + f'staff_keys = ["{KEY}"]\n'
 
 
 def table_of(text):
@@ -166,8 +167,8 @@ class Check:
         self.asked = 0
         self.differ = 0
 
-    def run(self, *words):
-        done = subprocess.run(self.program + list(words), capture_output=True)
+    def run(self, *words, stdin=b""):
+        done = subprocess.run(self.program + list(words), input=stdin, capture_output=True)
         return done.returncode, done.stdout
 
     def wrong(self, *words):
@@ -202,6 +203,66 @@ class Check:
         if judged != (0, b"proved\n"):
             self.wrong("verify", nodes[a], nodes[b], judged)
 
+    def judge_session(self, draw, tables, closables):
+        """Closures and ways in turns, in one session."""
+        asked, requests = [], []
+        for _ in range(12):
+            if draw.random() < 0.4 and closables:
+                name, closed = draw.choice(closables), draw.random() < 0.8
+                body = json.dumps({"feature": name, "closed": closed})
+                requests.append(
+                    f"POST /v1/closures HTTP/1.1\r\nhost: a\r\nx-staff-key: {KEY}\r\ncontent-length: {len(body)}\r\n\r\n{body}"
+                )
+                asked.append(("closure", name, closed))
+            else:
+                profile = draw.choice(sorted(tables))
+                nodes = tables[profile][0]
+                a, b = draw.choice(nodes), draw.choice(nodes)
+                requests.append(
+                    f"GET /v1/route?from={a}&to={b}&profile={profile}&certificate=yes HTTP/1.1\r\nhost: a\r\n\r\n"
+                )
+                asked.append(("route", profile, a, b))
+        status, text = self.run("session", self.base, "venue", stdin="".join(requests).encode())
+        if status != 0:
+            return self.wrong("session", status, text)
+        shut = set()
+        for what in asked:
+            head, _, text = text.partition(b"\r\n\r\n")
+            size = int(head.split(b"content-length: ")[1].split(b"\r\n")[0])
+            reply, text = json.loads(text[:size]), text[size:]
+            if what[0] == "closure":
+                (shut.add if what[2] else shut.discard)(what[1])
+                if reply.get("closed") is not what[2]:
+                    self.wrong("closure", what, reply)
+            else:
+                self.judge_reply(tables[what[1]], shut, what, reply)
+        if text:
+            self.wrong("session", "more bytes", text)
+
+    def judge_reply(self, table, shut, what, reply):
+        self.asked += 1
+        nodes, links = table
+        usable = [link for link in links if link[3] not in shut and nodes[link[0]] not in shut and nodes[link[1]] not in shut]
+        a, b = nodes.index(what[2]), nodes.index(what[3])
+        costs = rounds(len(nodes), usable, a)
+        if costs[b] == FREE:
+            reached = [nodes[n] for n, cost in enumerate(costs) if cost < FREE]
+            if reply.get("result") != "none" or reply.get("reached") != reached:
+                self.wrong("reply none", what, shut, reply)
+            return
+        if reply.get("result") != "route" or reply.get("cost") != costs[b]:
+            return self.wrong("reply route", what, shut, costs[b], reply)
+        at = a
+        for step in reply["steps"]:
+            link = (at, nodes.index(step["to"]), step["cost"], step["via"])
+            if link not in usable:
+                return self.wrong("reply step", what, shut, link)
+            at = link[1]
+        potentials = {nodes.index(p["node"]): p["value"] for p in reply["potentials"]}
+        steep = [l for l in usable if potentials.get(l[1], costs[b]) > potentials.get(l[0], costs[b]) + l[2]]
+        if at != b or potentials.get(a, costs[b]) != 0 or potentials.get(b, costs[b]) != costs[b] or steep:
+            self.wrong("reply certificate", what, shut, reply)
+
     def judge_venue(self, draw):
         venue = venue_of(draw)
         folder = os.path.join(self.base, "venue")
@@ -212,13 +273,17 @@ class Check:
         status, text = self.run("check", self.base, "venue")
         if status != 0:
             return self.wrong("check", status, text)
+        tables = {}
         for profile in ("walk", "wheelchair"):
             _, text = self.run("links", self.base, "venue", profile)
             with open(os.path.join(self.base, "links.txt"), "wb") as file:
                 file.write(text)
-            nodes, links = table_of(text.decode())
+            nodes, links = tables[profile] = table_of(text.decode())
             for _ in range(4 if nodes else 0):
                 self.judge_route(profile, nodes, links, draw.randrange(len(nodes)), draw.randrange(len(nodes)))
+        closables = [row["id"] for kind in ("opening", "relationship", "unit") for row in venue.rows.get(kind, [])]
+        if tables["walk"][0]:
+            self.judge_session(draw, tables, closables)
 
 
 def main():

@@ -1,0 +1,97 @@
+#!/usr/bin/env python3
+"""Checks the body of a route's reply, asked for with certificate=yes, from docs/FORMATS.md alone. It shares no code with the program.
+
+usage: route_reply.py REPLY LINKS CLOSURES [OCCUPANTS]
+REPLY has the body; LINKS what `venue links` prints for the profile that the reply names, of the folder that was published last; CLOSURES
+the body of GET /v1/closures at the same version; OCCUPANTS is the occupant.geojson of that folder, needed where an end is an occupant.
+It prints `proved`, status 0, or `fails` and what doesn't hold, status 1. The `kind` of a step stands in no table and isn't checked.
+"""
+import json
+import re
+import sys
+
+IDENTIFIER = r"[0-9a-f]{8}(?:-[0-9a-f]{4}){3}-[0-9a-f]{12}"
+LINK = re.compile(r"link (\d+) (\d+) (\d+) (" + IDENTIFIER + ")")
+
+
+class Fails(Exception):
+    """What doesn't hold."""
+
+
+def need(holds, what):
+    if not holds:
+        raise Fails(what)
+
+
+def read(path):
+    with open(path, encoding="utf-8") as file:
+        return file.read()
+
+
+def open_links(table, closed):
+    """The nodes of a table, and its links as (from, to, cost, via), less those by or between what is closed."""
+    lines = table.splitlines()
+    need(lines[:1] == ["imdf-links 1"] and lines[-1] == "end", "table")
+    nodes = [line[5:] for line in lines if re.fullmatch("node " + IDENTIFIER, line)]
+    rows = [LINK.fullmatch(line) for line in lines[1 + len(nodes):-1]]
+    need(all(rows), "table")
+    links = [(nodes[int(a)], nodes[int(b)], int(cost), via) for a, b, cost, via in (row.groups() for row in rows)]
+    return set(nodes), [link for link in links if not closed & {link[0], link[1], link[3]}]
+
+
+def node_of(place, nodes, anchors):
+    """The node at which a place is: its own, or that of its anchor."""
+    node = place if place in nodes else anchors.get(place)
+    need(node in nodes, f"place {place}")
+    return node
+
+
+def check_route(reply, links, start, end):
+    need(reply["start"] == start, "start")
+    at, total, usable = start, 0, set(links)
+    for number, step in enumerate(reply["steps"], 1):
+        need((at, step["to"], step["cost"], step["via"]) in usable, f"step {number}")
+        at, total = step["to"], total + step["cost"]
+    need(at == end, "end")
+    need(total == reply["cost"], "cost")
+    cost, potential = reply["cost"], {mark["node"]: mark["value"] for mark in reply["potentials"]}
+    need(all(type(value) is int for value in potential.values()) and len(potential) == len(reply["potentials"]), "potentials")
+    need(potential.get(start, cost) == 0, f"potential {start}")
+    need(potential.get(end, cost) == cost, f"potential {end}")
+    for a, b, length, via in links:
+        need(potential.get(b, cost) <= potential.get(a, cost) + length, f"link {a} {b} {via}")
+
+
+def check_none(reply, links, start, end):
+    reached = set(reply["reached"])
+    need(start in reached, "start")
+    need(end not in reached, "end")
+    for a, b, _, via in links:
+        need(a not in reached or b in reached, f"link {a} {b} {via}")
+
+
+def check(reply, table, closures, occupants):
+    need(reply["version"] == closures["version"], "version")
+    anchors = {place["id"]: place["properties"]["anchor_id"] for place in occupants}
+    nodes, links = open_links(table, set(closures["closures"]))
+    start, end = (node_of(reply[key], nodes, anchors) for key in ("from", "to"))
+    need(reply["result"] in ("route", "none"), "result")
+    (check_route if reply["result"] == "route" else check_none)(reply, links, start, end)
+
+
+def main(words):
+    if len(words) not in (3, 4):
+        return "fails words"
+    try:
+        occupants = json.loads(read(words[3]))["features"] if len(words) == 4 else []
+        check(json.loads(read(words[0])), read(words[1]), json.loads(read(words[2])), occupants)
+    except Fails as fails:
+        return f"fails {fails}"
+    except (OSError, ValueError, KeyError, TypeError, IndexError, AttributeError) as error:
+        return f"fails form: {type(error).__name__} {error}"
+    return "proved"
+
+
+printed = main(sys.argv[1:])
+print(printed)
+sys.exit(0 if printed == "proved" else 1)
