@@ -537,13 +537,13 @@ pub fn turn_all<R: Threads + Wait + Clock + Sync>(
 }
 END
 cat >"$work/crates/time_hall/proofs/seating/hall_over/Invariants.antt" <<'END'
-use Rattle.std.proofs.Common.{length}
+use Rattle.std.proofs.Common.{length, None}
 use Rattle.version_board.specs.Making.{shelf_of}
 use Rattle.shared_hall.specs.Copied.{entries_in, book_in}
 use Rattle.time_hall.proofs.seating.hall_over.Given as goal
 
 abbrev pub ghosts-hall_under-N-HallName : goal.ghosts-hall_under-N-HallName
-ghosts-hall_under-N-HallName g a = record { book = book_in a.copies; start = length (entries_in a.copies); folder_count = g.F.Folders.faults a.folders; folder_files = shelf_of (g.F.Folders.files a.folders) a.base }
+ghosts-hall_under-N-HallName g a = record { book = book_in a.copies; start = length (entries_in a.copies); folder_count = g.F.Folders.faults a.folders; folder_files = shelf_of (g.F.Folders.files a.folders) a.base; connections = 0; accepted = 0; binds = None; bound = None; door_count = 0 }
 
 abbrev pub ghosts-hall_under-N-Ledger : goal.ghosts-hall_under-N-Ledger
 ghosts-hall_under-N-Ledger g a = record { name = a.blank.name; parts = a.blank.parts }
