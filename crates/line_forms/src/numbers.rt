@@ -6,7 +6,6 @@ ghost use Rattle.std.specs.Fmt.{decimal};
 ghost use Rattle.line_forms.specs.Lines.{word};
 ghost use Rattle.line_forms.specs.Plain.{is_plain};
 
-use crate::cuts::cut_at;
 use std::alloc::AllocError;
 
 // Whether a word has no leading zero and is not empty.
@@ -48,9 +47,18 @@ pub fn number_word(text: &[u8]) -> Option<(u64, &[u8])>
     ensures found { IfSome result (λ x. (text.now ≡ word (decimal x.0) x.1.now) × (x.0 < 2 ^ 64)) }
     ensures none { IfNone result ((n : ℕ) (rest : List ℕ) → n < 2 ^ 64 → text.now ≡ word (decimal n) rest → ⊥) }
 {
-    let (first, rest) = cut_at(text, b' ')?;
-    let value = number(first)?;
-    Some((value, rest))
+    let mut value = 0u64;
+    for (place, byte) in text.iter().enumerate() {
+        if *byte == b' ' {
+            if !is_plain(&text[..place]) {
+                return None;
+            }
+            return Some((value, &text[place + 1..]));
+        }
+        let next = digit(*byte)?;
+        value = value.checked_mul(10)?.checked_add(next)?;
+    }
+    None
 }
 
 // Adds the decimal digits of a number at the end. Behind a refusal what was there before is still at the front.

@@ -2,13 +2,15 @@
 
 ghost use Rattle.std.specs.Prelude.{◌≡◌, ◌<◌, ◌≤◌, ◌++◌, IfSome, IfNone, IfOk, length};
 ghost use Rattle.venue_types.specs.declared.feature_id.FeatureId.{FeatureId};
+ghost use Rattle.venue_types.specs.Identifier.{identifier_text};
+ghost use Rattle.line_forms.specs.Lines.{line};
 ghost use Rattle.line_forms.specs.Fronts.{HasNone, IsFront};
 ghost use Rattle.route_certificate.specs.declared.table.TableLink.{TableLink};
-ghost use Rattle.route_certificate.specs.Forms.{FitsId, FitsLink, node_body, link_body, node_line, link_line};
+ghost use Rattle.route_certificate.specs.Forms.{FitsId, FitsLink, node_line, link_line};
 ghost use Rattle.route_certificate.specs.Fronts.{IsNodeFront};
 
 use crate::table::TableLink;
-use line_forms::{after, cut_at, number_word};
+use line_forms::{after, number_word};
 use std::alloc::{AllocError, Global};
 use venue_types::FeatureId;
 
@@ -18,33 +20,19 @@ const MAX_NODES: usize = 400_000;
 // The most that a link costs, in centimetres.
 const MAX_COST: u64 = 6_700_000;
 
-fn node_of(body: &[u8]) -> Option<FeatureId>
-    ensures found { IfSome result (λ id. (body.now ≡ node_body id) × FitsId id) }
-    ensures none { IfNone result ((id : FeatureId) → FitsId id → body.now ≡ node_body id → ⊥) }
+// An identifier that ends its line, and what follows the line.
+fn id_line(text: &[u8]) -> Option<(FeatureId, &[u8])>
+    ensures found { IfSome result (λ x. (text.now ≡ line (identifier_text x.0) ++ x.1.now) × FitsId x.0) }
+    ensures none { IfNone result (HasNone (λ id. line (identifier_text id)) FitsId text.now) }
+    ensures shorter { IfSome result (λ x. length x.1.now < length text.now) }
 {
-    FeatureId::read_canonical(after(body, b"node ")?)
-}
-
-fn link_of(nodes: u32, body: &[u8]) -> Option<TableLink>
-    requires { nodes ≤ 400000 }
-    ensures found { IfSome result (λ link. (body.now ≡ link_body link) × FitsLink nodes link) }
-    ensures none { IfNone result ((link : TableLink) → FitsLink nodes link → body.now ≡ link_body link → ⊥) }
-{
-    let rest = after(body, b"link ")?;
-    let (from, rest) = number_word(rest)?;
-    let (to, rest) = number_word(rest)?;
-    let (cost, rest) = number_word(rest)?;
-    let via = FeatureId::read_canonical(rest)?;
-    if from < nodes as u64 && to < nodes as u64 && cost <= MAX_COST {
-        Some(TableLink {
-            from: from as u32,
-            to: to as u32,
-            cost: cost as u32,
-            via,
-        })
-    } else {
-        None
+    if text.len() < 36 {
+        return None;
     }
+    let (front, rest) = text.split_at(36);
+    let id = FeatureId::read_canonical(front)?;
+    let rest = after(rest, b"\n")?;
+    Some((id, rest))
 }
 
 fn next_node(text: &[u8]) -> Option<(FeatureId, &[u8])>
@@ -52,8 +40,8 @@ fn next_node(text: &[u8]) -> Option<(FeatureId, &[u8])>
     ensures none { IfNone result (HasNone node_line FitsId text.now) }
     ensures shorter { IfSome result (λ x. length x.1.now < length text.now) }
 {
-    let (body, rest) = cut_at(text, b'\n')?;
-    let id = node_of(body)?;
+    let rest = after(text, b"node ")?;
+    let (id, rest) = id_line(rest)?;
     Some((id, rest))
 }
 
@@ -63,9 +51,22 @@ fn next_link(nodes: u32, text: &[u8]) -> Option<(TableLink, &[u8])>
     ensures none { IfNone result (HasNone link_line (FitsLink nodes) text.now) }
     ensures shorter { IfSome result (λ x. length x.1.now < length text.now) }
 {
-    let (body, rest) = cut_at(text, b'\n')?;
-    let link = link_of(nodes, body)?;
-    Some((link, rest))
+    let rest = after(text, b"link ")?;
+    let (from, rest) = number_word(rest)?;
+    let (to, rest) = number_word(rest)?;
+    let (cost, rest) = number_word(rest)?;
+    let (via, rest) = id_line(rest)?;
+    if from < nodes as u64 && to < nodes as u64 && cost <= MAX_COST {
+        let link = TableLink {
+            from: from as u32,
+            to: to as u32,
+            cost: cost as u32,
+            via,
+        };
+        Some((link, rest))
+    } else {
+        None
+    }
 }
 
 /// The nodes at the front, as many as there are and a table may have, and what follows them.

@@ -1,19 +1,88 @@
-use Rattle.std.proofs.Common.{arith}
-use Rattle.route_certificate.specs.Forms.{link_body, link_line, FitsLink}
-use Rattle.line_forms.proofs.LineLemmas.{no_item_line, other_item_line, item_line}
-use Rattle.route_certificate.proofs.LineLemmas.{link_line_is, Lacks-link_body, small_link}
+use Rattle.std.proofs.Common.{◌≡◌, ◌++◌, List, ℕ, codes, sym, ap, ◌∙◌, arith}
+use Rattle.std.specs.Fmt.{decimal}
+use Rattle.line_forms.specs.Lines.{line, word}
+use Rattle.route_certificate.specs.declared.table.TableLink.{TableLink}
+use Rattle.route_certificate.specs.Forms.{FitsLink}
+use Rattle.venue_types.specs.Identifier.{identifier_text}
+use Rattle.route_certificate.proofs.LineLemmas.{small_link, link_words, link_0, link_1, link_2, link_3, link_line_words}
 use Rattle.route_certificate.proofs.table_reading.next_link.Goals as goal
+use Rattle.route_certificate.proofs.table_reading.next_link.Goals.{else-from-nodes-via-then-from-nodes+then-to-nodes+else-cost-le-MAX_COST, else-from-nodes-via-then-from-nodes+else-to-nodes, else-from-nodes-via-else-from-nodes}
 
-pub returns-in_err-body-clause-none : goal.returns-in_err-body-clause-none
-returns-in_err-body-clause-none c = rw c.from_residual.ensures (no_item_line link_line link_body (FitsLink c.args.nodes) link_line_is c.args.text.now c.in_err-body.ensures.none)
+pub returns-in_err-rest-clause-none : goal.returns-in_err-rest-clause-none
+returns-in_err-rest-clause-none c = rw c.from_residual.ensures (λ link more fits e.
+    c.in_err-rest.ensures.none (link_words link (line (identifier_text link.via) ++ more)) (e ∙ link_line_words link more))
 
-pub returns-in_err-link-clause-none : goal.returns-in_err-link-clause-none
-returns-in_err-link-clause-none c =
-    rw c.from_residual-in_err-link.ensures
-    (other_item_line link_line link_body (FitsLink c.args.nodes) link_line_is (λ link fits. Lacks-link_body link (small_link c.args.nodes link (omega arith) fits))
-    c.args.text.now c.in_ok-body.body.now c.in_ok-body.rest.now c.in_ok-body.ensures.found c.in_err-link.ensures.none)
+pub returns-in_err-from-clause-none : goal.returns-in_err-from-clause-none
+returns-in_err-from-clause-none c =
+    rw c.from_residual-in_err-from.ensures (λ link more fits e.
+    let small = small_link c.args.nodes link (omega arith) fits in
+    let rest = link_0 c.in_ok-rest.rest.now (line (identifier_text link.via) ++ more) link (sym c.in_ok-rest.ensures.found ∙ e ∙ link_line_words link more) in
+    c.in_err-from.ensures.none link.from _ small.from rest)
 
-pub returns-clause-found : goal.returns-clause-found
-returns-clause-found c =
-    let found = c.in_ok-link.ensures.found in
-    (item_line link_line link_body link_line_is c.args.text.now c.in_ok-body.body.now c.in_ok-body.rest.now c.in_ok-link.link c.in_ok-body.ensures.found found.0, found.1)
+pub returns-in_err-to-clause-none : goal.returns-in_err-to-clause-none
+returns-in_err-to-clause-none c =
+    rw c.from_residual-in_err-to.ensures (λ link more fits e.
+    let small = small_link c.args.nodes link (omega arith) fits in
+    let end = line (identifier_text link.via) ++ more in
+    let rest = link_0 c.in_ok-rest.rest.now end link (sym c.in_ok-rest.ensures.found ∙ e ∙ link_line_words link more) in
+    let from = c.in_ok-from.ensures.found in
+    let one = link_1 c.in_ok-from.from c.in_ok-from.rest.now end link from.1 small (sym from.0 ∙ rest) in
+    c.in_err-to.ensures.none link.to _ small.to one.1)
+
+pub returns-in_err-cost-clause-none : goal.returns-in_err-cost-clause-none
+returns-in_err-cost-clause-none c =
+    rw c.from_residual-in_err-cost.ensures (λ link more fits e.
+    let small = small_link c.args.nodes link (omega arith) fits in
+    let end = line (identifier_text link.via) ++ more in
+    let rest = link_0 c.in_ok-rest.rest.now end link (sym c.in_ok-rest.ensures.found ∙ e ∙ link_line_words link more) in
+    let from = c.in_ok-from.ensures.found in
+    let to = c.in_ok-to.ensures.found in
+    let whole = ap (word (decimal c.in_ok-from.from)) (sym to.0) ∙ sym from.0 ∙ rest in
+    let two = link_2 c.in_ok-from.from c.in_ok-to.to c.in_ok-to.rest.now end link from.1 to.1 small whole in
+    c.in_err-cost.ensures.none link.cost _ small.cost two.2)
+
+pub returns-in_err-via-clause-none : goal.returns-in_err-via-clause-none
+returns-in_err-via-clause-none c =
+    rw c.from_residual-in_err-via.ensures (λ link more fits e.
+    let small = small_link c.args.nodes link (omega arith) fits in
+    let end = line (identifier_text link.via) ++ more in
+    let rest = link_0 c.in_ok-rest.rest.now end link (sym c.in_ok-rest.ensures.found ∙ e ∙ link_line_words link more) in
+    let from = c.in_ok-from.ensures.found in
+    let to = c.in_ok-to.ensures.found in
+    let cost = c.in_ok-cost.ensures.found in
+    let whole = ap (word (decimal c.in_ok-from.from)) (ap (word (decimal c.in_ok-to.to)) (sym cost.0) ∙ sym to.0) ∙ sym from.0 ∙ rest in
+    let three = link_3 c.in_ok-from.from c.in_ok-to.to c.in_ok-cost.cost c.in_ok-cost.rest.now end link from.1 to.1 cost.1 small whole in
+    c.in_err-via.ensures.none link.via more fits.via three.3)
+
+pub returns-else-from-nodes-clause-none : goal.returns-else-from-nodes-clause-none
+returns-else-from-nodes-clause-none c = λ link more fits e.
+    let small = small_link c.args.nodes link (omega arith) fits in
+    let end = line (identifier_text link.via) ++ more in
+    let rest = link_0 c.in_ok-rest.rest.now end link (sym c.in_ok-rest.ensures.found ∙ e ∙ link_line_words link more) in
+    let from = c.in_ok-from.ensures.found in
+    let to = c.in_ok-to.ensures.found in
+    let cost = c.in_ok-cost.ensures.found in
+    let whole = ap (word (decimal c.in_ok-from.from)) (ap (word (decimal c.in_ok-to.to)) (sym cost.0) ∙ sym to.0) ∙ sym from.0 ∙ rest in
+    let three = link_3 c.in_ok-from.from c.in_ok-to.to c.in_ok-cost.cost c.in_ok-cost.rest.now end link from.1 to.1 cost.1 small whole in
+    elim c.else-from-nodes.branch [
+      | else-from-nodes-via-then-from-nodes+then-to-nodes+else-cost-le-MAX_COST w ↦ omega (arith, three.2, fits.cost)
+      | else-from-nodes-via-then-from-nodes+else-to-nodes w ↦ omega (arith, three.1, fits.to)
+      | else-from-nodes-via-else-from-nodes w ↦ omega (arith, three.0, fits.from)
+    ]
+
+pub returns-then-cost-le-MAX_COST-clause-found : goal.returns-then-cost-le-MAX_COST-clause-found
+returns-then-cost-le-MAX_COST-clause-found c =
+    let link : TableLink = record { from = c.in_ok-from.from; to = c.in_ok-to.to; cost = c.in_ok-cost.cost; via = c.in_ok-via.via } in
+    let from = c.in_ok-from.ensures.found in
+    let to = c.in_ok-to.ensures.found in
+    let cost = c.in_ok-cost.ensures.found in
+    let via = c.in_ok-via.ensures.found in
+    let words : c.in_ok-rest.rest.now ≡ link_words link (line (identifier_text c.in_ok-via.via) ++ c.in_ok-via.rest.now) =
+    from.0 ∙ ap (word (decimal link.from)) (to.0 ∙ ap (word (decimal link.to)) (cost.0 ∙ ap (word (decimal link.cost)) via.0)) in
+    let fits : FitsLink c.args.nodes link = record {
+      from = omega (arith, c.if-from-nodes.true);
+      to = omega (arith, c.if-to-nodes.true);
+      cost = omega (arith, c.if-cost-le-MAX_COST.true);
+      via = via.1;
+    } in
+    (c.in_ok-rest.ensures.found ∙ ap (λ (t : List ℕ). codes "link " ++ t) words ∙ sym (link_line_words link c.in_ok-via.rest.now), fits)

@@ -1,18 +1,20 @@
-use Rattle.route_certificate.specs.Forms.{node_body, node_line, FitsId}
-use Rattle.line_forms.proofs.LineLemmas.{no_item_line, other_item_line, item_line}
-use Rattle.route_certificate.proofs.LineLemmas.{node_line_is, Lacks-node_body}
+use Rattle.std.proofs.Common.{◌++◌, List, ℕ, codes, sym, ap, ◌∙◌}
+use Rattle.std.proofs.lemmas.List.{append_cancel_left}
+use Rattle.line_forms.specs.Lines.{line}
+use Rattle.venue_types.specs.Identifier.{identifier_text}
+use Rattle.route_certificate.proofs.LineLemmas.{node_line_words}
 use Rattle.route_certificate.proofs.table_reading.next_node.Goals as goal
 
-pub returns-in_err-body-clause-none : goal.returns-in_err-body-clause-none
-returns-in_err-body-clause-none c = rw c.from_residual.ensures (no_item_line node_line node_body FitsId node_line_is c.args.text.now c.in_err-body.ensures.none)
+pub returns-in_err-rest-clause-none : goal.returns-in_err-rest-clause-none
+returns-in_err-rest-clause-none c = rw c.from_residual.ensures (λ id more fits e.
+    c.in_err-rest.ensures.none (line (identifier_text id) ++ more) (e ∙ node_line_words id more))
 
 pub returns-in_err-id-clause-none : goal.returns-in_err-id-clause-none
-returns-in_err-id-clause-none c =
-    rw c.from_residual-in_err-id.ensures
-    (other_item_line node_line node_body FitsId node_line_is (λ id fits. Lacks-node_body id)
-    c.args.text.now c.in_ok-body.body.now c.in_ok-body.rest.now c.in_ok-body.ensures.found c.in_err-id.ensures.none)
+returns-in_err-id-clause-none c = rw c.from_residual-in_err-id.ensures (λ id more fits e.
+    c.in_err-id.ensures.none id more fits
+    (append_cancel_left (codes "node ") c.in_ok-rest.rest.now (line (identifier_text id) ++ more) (sym c.in_ok-rest.ensures.found ∙ e ∙ node_line_words id more)))
 
 pub returns-clause-found : goal.returns-clause-found
 returns-clause-found c =
     let found = c.in_ok-id.ensures.found in
-    (item_line node_line node_body node_line_is c.args.text.now c.in_ok-body.body.now c.in_ok-body.rest.now c.in_ok-id.id c.in_ok-body.ensures.found found.0, found.1)
+    (c.in_ok-rest.ensures.found ∙ ap (λ (t : List ℕ). codes "node " ++ t) found.0 ∙ sym (node_line_words c.in_ok-id.id c.in_ok-id.rest.now), found.1)
