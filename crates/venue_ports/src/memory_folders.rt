@@ -1,6 +1,6 @@
 //! Folders in memory.
 
-ghost use Rattle.std.specs.Prelude.{◌≡◌, ℕ, ◌+◌, ◌^◌, ◌<◌, ◌↔◌, List, Some, IfOk, IsOk, IsErrOf};
+ghost use Rattle.std.specs.Prelude.{◌≡◌, ℕ, ◌+◌, ◌^◌, ◌<◌, ◌↔◌, List, Some, IfOk, IsErr, IsOk, IsErrOf, IsSome};
 ghost use Rattle.std.specs.Option.{option_map};
 ghost use Rattle.venue_ports.specs.Causes.{one_more};
 ghost use Rattle.venue_ports.specs.Files.{file_at, has_names, ReadsFile, HasReadCause};
@@ -77,6 +77,7 @@ pub(crate) fn read_memory(
     requires { most < 2 ^ 32 }
     ensures bytes { ReadsFile (Some (stored_files files.now)) folder.now file.now most result }
     ensures never_failed { IsErrOf result ReadFault.Failed → ⊥ }
+    ensures memory { IsErr result → IsSome (file_at (stored_files files.now) folder.now file.now) }
 {
     match last_bytes(files, folder, file) {
         None => Ok(None),
@@ -113,6 +114,7 @@ impl Folders for MemoryFolders {
         ensures fails { IsErrOf result ReadFault.Failed ↔ FailsNext (memory_reads self.old) }
         ensures counted { IsErrOf result ReadFault.Failed → memory_faults self.new ≡ one_more (memory_faults self.old) }
         ensures called { memory_reads self.new ≡ called (memory_reads self.old) }
+        ensures memory { IsErrOf result ReadFault.OutOfMemory → IsSome (file_at (stored_files self.old.files.items) folder.now file.now) }
     {
         if self.reads.fails() {
             self.faults = self.faults.saturating_add(1);

@@ -1,6 +1,8 @@
 //! The real directory and the standard streams. They tell no content.
 
-ghost use Rattle.std.specs.Prelude.{◌≡◌, ◌+◌, ◌^◌, ◌<◌, ◌≤◌, None};
+ghost use Rattle.std.specs.Prelude.{◌≡◌, ◌+◌, ◌^◌, ◌<◌, ◌≤◌, IfOk, IsErrOf, OnErr, None, length};
+ghost use Rattle.venue_ports.specs.Causes.{one_more, HasExactCause};
+ghost use Rattle.venue_ports.specs.Files.{HasReadCause};
 
 use crate::folders::{Folders, ReadFault};
 use crate::reports::{file_path, read_count, read_fault, write_count};
@@ -19,7 +21,10 @@ pub struct DirFolders<R> {
 }
 
 impl<R> DirFolders<R> {
-    pub fn new(rt: R) -> DirFolders<R> {
+    /// The directory that the program runs in.
+    pub fn new(rt: R) -> DirFolders<R>
+        ensures faults { result.faults ≡ 0 }
+    {
         DirFolders { rt, faults: 0 }
     }
 }
@@ -60,7 +65,12 @@ impl<R: Files> Folders for DirFolders<R> {
         folder: &str,
         file: &str,
         most: u64,
-    ) -> Result<Option<Vec<u8>>, ReadFault> {
+    ) -> Result<Option<Vec<u8>>, ReadFault>
+        requires { most < 2 ^ 32 }
+        ensures cause { HasReadCause self.old.faults self.new.faults result }
+
+        ensures counted { IsErrOf result ReadFault.Failed → self.new.faults ≡ one_more self.old.faults }
+    {
         let path = file_path(alloc, folder, file)?;
         match read_cut(&self.rt, alloc, path.as_str(), most) {
             Ok(bytes) => Ok(Some(bytes)),
@@ -84,7 +94,10 @@ pub struct Console<R> {
 }
 
 impl<R> Console<R> {
-    pub fn new(rt: R) -> Console<R> {
+    /// The program's own input and output.
+    pub fn new(rt: R) -> Console<R>
+        ensures faults { result.faults ≡ 0 }
+    {
         Console { rt, faults: 0 }
     }
 }
@@ -100,7 +113,13 @@ impl<R: Input + Print> Stream for Console<R> {
         self.faults
     }
 
-    fn read(&mut self, buf: &mut [u8]) -> Result<usize, Failed> {
+    fn read(&mut self, buf: &mut [u8]) -> Result<usize, Failed>
+        requires { 0 < length buf.old }
+        ensures bound { IfOk result (λ n. n ≤ length buf.old) }
+        ensures cause { HasExactCause self.old.faults self.new.faults result }
+
+        ensures counted { OnErr result (self.new.faults ≡ one_more self.old.faults) }
+    {
         match read_count(self.rt.reader().read(buf)) {
             Ok(count) => Ok(count),
             Err(_) => {
@@ -110,7 +129,13 @@ impl<R: Input + Print> Stream for Console<R> {
         }
     }
 
-    fn write(&mut self, piece: &[u8]) -> Result<usize, Failed> {
+    fn write(&mut self, piece: &[u8]) -> Result<usize, Failed>
+        requires { 0 < length piece.now }
+        ensures bound { IfOk result (λ n. (0 < n) × (n ≤ length piece.now)) }
+        ensures cause { HasExactCause self.old.faults self.new.faults result }
+
+        ensures counted { OnErr result (self.new.faults ≡ one_more self.old.faults) }
+    {
         match write_count(io::writer(&self.rt).write(piece)) {
             Ok(count) => Ok(count),
             Err(_) => {

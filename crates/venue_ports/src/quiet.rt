@@ -1,9 +1,9 @@
 //! Folders and doors in memory that never fail.
 
-ghost use Rattle.std.specs.Prelude.{◌≡◌, ℕ, ◌^◌, ◌<◌, ◌≤◌, List, [], Some, IfOk, IsOk, IsOkAnd, IsErrOf, OnOk, OnErr, Bool, length, true, false};
+ghost use Rattle.std.specs.Prelude.{◌≡◌, ℕ, ◌^◌, ◌<◌, ◌≤◌, List, [], Some, IfOk, IsOk, IsOkAnd, IsErr, IsErrOf, IsSome, OnOk, OnErr, Bool, length, true, false};
 ghost use Rattle.std.specs.Option.{option_map};
 ghost use Rattle.venue_ports.specs.Causes.{one_more, HasExactCause};
-ghost use Rattle.venue_ports.specs.Files.{ReadsFile, HasReadCause};
+ghost use Rattle.venue_ports.specs.Files.{file_at, ReadsFile, HasReadCause};
 ghost use Rattle.venue_ports.specs.Stored.{stored_files};
 
 use crate::doors::Doors;
@@ -57,6 +57,7 @@ impl Folders for QuietFolders {
         ensures cause { HasReadCause 0 0 result }
 
         ensures never_failed { IsErrOf result ReadFault.Failed → ⊥ }
+        ensures memory { IsErr result → IsSome (file_at (stored_files self.old.files.items) folder.now file.now) }
     {
         read_memory(alloc, &self.files, folder, file, most)
     }

@@ -125,6 +125,8 @@ impl<'a, R: Net<Listener = TcpListener, Stream = TcpStream> + Clock + Sync> Door
         ensures counted { OnErr result (self.new.faults ≡ one_more self.old.faults) }
         ensures limits { self.new.limits ≡ self.old.limits }
         ensures no_faults { IfOk result (λ l. l.faults ≡ 0) }
+        ensures no_end { IfOk result (λ l. l.ended ≡ false) }
+        ensures linger { IfOk result (λ l. l.linger ≡ self.old.limits.linger) }
         ensures no_waits { IfOk result (λ l. l.waiting ≡ no_waits (as_nanos self.old.limits.patience) (as_nanos self.old.limits.delivery)) }
     {
         match self.next_connection() {

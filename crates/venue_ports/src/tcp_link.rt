@@ -1,6 +1,6 @@
 //! A TCP connection. It tells no content.
 
-ghost use Rattle.std.specs.Prelude.{◌≡◌, ℕ, ◌<◌, ◌≤◌, IfOk, OnErr, OnOk, None, length, true};
+ghost use Rattle.std.specs.Prelude.{◌≡◌, ℕ, ◌<◌, ◌≤◌, IfOk, OnErr, OnOk, None, length, true, false};
 ghost use Rattle.std.specs.Duration.{as_nanos};
 ghost use Rattle.venue_ports.specs.Causes.{one_more, HasExactCause};
 ghost use Rattle.venue_ports.specs.Waits.{LimitsRead, LimitsWrite, no_waits};
@@ -33,6 +33,8 @@ impl<'a, R: Clock> TcpLink<'a, R> {
     pub(crate) fn new(rt: &'a R, stream: TcpStream, limits: Limits) -> TcpLink<'a, R>
         ensures waits { result.waiting ≡ no_waits (as_nanos limits.patience) (as_nanos limits.delivery) }
         ensures faults { result.faults ≡ 0 }
+        ensures linger { result.linger ≡ limits.linger }
+        ensures end { result.ended ≡ false }
     {
         TcpLink {
             rt,
@@ -57,7 +59,12 @@ impl<'a, R: Clock> TcpLink<'a, R> {
     fn read_in_time(&mut self, buf: &mut [u8]) -> Result<usize, Failed>
         ensures bound { IfOk result (λ n. n ≤ length buf.old) }
         ensures limits { LimitsRead self.old.waiting self.new.waiting result }
+        ensures waits { OnErr result (self.new.waiting ≡ record self.old.waiting { reading = self.new.waiting.reading }) }
+        ensures waits_later { OnErr result (self.old.waiting.reading ≤ self.new.waiting.reading) }
         ensures end { IfOk result (λ n. n ≡ 0 → self.new.ended ≡ true) }
+        ensures no_end { IfOk result (λ n. 0 < n → self.new.ended ≡ self.old.ended) }
+        ensures end_kept { OnErr result (self.new.ended ≡ self.old.ended) }
+        ensures linger { self.new.linger ≡ self.old.linger }
         ensures faults { self.new.faults ≡ self.old.faults }
     {
         if !self.waiting.may_read() {
@@ -75,6 +82,10 @@ impl<'a, R: Clock> TcpLink<'a, R> {
     fn write_in_time(&mut self, piece: &[u8]) -> Result<usize, Failed>
         ensures bound { IfOk result (λ n. (0 < n) × (n ≤ length piece.now)) }
         ensures limits { LimitsWrite self.old.waiting self.new.waiting result }
+        ensures waits { OnErr result (self.new.waiting ≡ record self.old.waiting { writing = self.new.waiting.writing }) }
+        ensures waits_later { OnErr result (self.old.waiting.writing ≤ self.new.waiting.writing) }
+        ensures end_kept { self.new.ended ≡ self.old.ended }
+        ensures linger { self.new.linger ≡ self.old.linger }
         ensures faults { self.new.faults ≡ self.old.faults }
     {
         if !self.waiting.may_write() {
@@ -106,7 +117,12 @@ impl<'a, R: Clock> Stream for TcpLink<'a, R> {
 
         ensures counted { OnErr result (self.new.faults ≡ one_more self.old.faults) }
         ensures limits { LimitsRead self.old.waiting self.new.waiting result }
+        ensures waits { OnErr result (self.new.waiting ≡ record self.old.waiting { reading = self.new.waiting.reading }) }
+        ensures waits_later { OnErr result (self.old.waiting.reading ≤ self.new.waiting.reading) }
         ensures end { IfOk result (λ n. n ≡ 0 → self.new.ended ≡ true) }
+        ensures no_end { IfOk result (λ n. 0 < n → self.new.ended ≡ self.old.ended) }
+        ensures end_kept { OnErr result (self.new.ended ≡ self.old.ended) }
+        ensures linger { self.new.linger ≡ self.old.linger }
     {
         match self.read_in_time(buf) {
             Ok(count) => Ok(count),
@@ -121,6 +137,10 @@ impl<'a, R: Clock> Stream for TcpLink<'a, R> {
 
         ensures counted { OnErr result (self.new.faults ≡ one_more self.old.faults) }
         ensures limits { LimitsWrite self.old.waiting self.new.waiting result }
+        ensures waits { OnErr result (self.new.waiting ≡ record self.old.waiting { writing = self.new.waiting.writing }) }
+        ensures waits_later { OnErr result (self.old.waiting.writing ≤ self.new.waiting.writing) }
+        ensures end_kept { self.new.ended ≡ self.old.ended }
+        ensures linger { self.new.linger ≡ self.old.linger }
     {
         match self.write_in_time(piece) {
             Ok(count) => Ok(count),

@@ -1,7 +1,7 @@
 //! How long a link may wait for the other side.
 
 ghost use Rattle.std.specs.Prelude.{◌≡◌, ◌≤◌, ◌↔◌, IsTrue};
-ghost use Rattle.std.specs.Duration.{as_nanos};
+ghost use Rattle.std.specs.Duration.{as_nanos, max_nanos};
 ghost use Rattle.venue_ports.specs.Waits.{Waits, after_read, after_write, no_waits};
 
 use std::marker::Model;
@@ -22,6 +22,8 @@ impl Model for Waiting {
     ghost Value = { Waits };
 
     ghost view = { λ w. record { reading = as_nanos w.reading; writing = as_nanos w.writing; patience = as_nanos w.patience; delivery = as_nanos w.delivery } };
+
+    ghost invariant = { λ w. (as_nanos w.reading ≤ max_nanos) × (as_nanos w.writing ≤ max_nanos) };
 }
 
 impl Waiting {
@@ -54,7 +56,8 @@ impl Waiting {
 
     /// A read that has waited so long, and whether it gave bytes.
     pub(crate) fn was_read(&mut self, waited: Duration, gave: bool)
-        ensures { self.new ≡ after_read self.old (as_nanos waited) gave }
+        ensures waits { self.new ≡ after_read self.old (as_nanos waited) gave }
+        ensures later { self.old.reading ≤ self.new.reading }
     {
         self.reading = self.reading.saturating_add(waited);
         if gave {
@@ -64,7 +67,8 @@ impl Waiting {
 
     /// A write that has waited so long, and whether it took bytes.
     pub(crate) fn was_written(&mut self, waited: Duration, took: bool)
-        ensures { self.new ≡ after_write self.old (as_nanos waited) took }
+        ensures waits { self.new ≡ after_write self.old (as_nanos waited) took }
+        ensures later { self.old.writing ≤ self.new.writing }
     {
         self.writing = self.writing.saturating_add(waited);
         if took {
