@@ -15,5 +15,6 @@ mod Escapes
 mod Chars
 mod Tokens
 mod Turns
+mod Ends
 mod Utf8
 mod Walks

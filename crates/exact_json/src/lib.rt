@@ -1,6 +1,7 @@
 //! A JSON text (RFC 8259) as a tree whose numbers stay tokens.
 #![tactic(auto)]
 
+mod closed;
 mod fault;
 mod kinds;
 pub mod laws;

@@ -2,15 +2,16 @@
 
 ghost use Rattle.std.specs.Prelude.{◌≡◌, ◌≤◌, ◌<◌, [], ◌∷◌, length, map, IfOk, IfSome, OnOk, option_map};
 ghost use Rattle.exact_json.specs.Number.{ends_value};
-ghost use Rattle.exact_json.specs.View.{tree_view, text_view, pair_view};
+ghost use Rattle.exact_json.specs.View.{tree_view, text_view, pair_view, trees_in, pairs_in};
 ghost use Rattle.exact_json.specs.Slices.{texts_of, items_texts, pair_texts, members_texts, AreTextsBefore};
 ghost use Rattle.exact_json.specs.Unclosed.{Keeps};
 ghost use Rattle.exact_json.specs.Reading.{Gives, Finds, skip, elements_at, value, scalar_at, token_at, number_at, name_at, pair_at, literal};
 
+use crate::closed::{items_from, members_from, no_items, no_members};
 use crate::fault::JsonFault;
 use crate::number::{after, after_number, byte_at};
 use crate::text::read_text;
-use crate::tree::{JsonText, Pair, Tree, array, record};
+use crate::tree::{Items, JsonText, Members, Pair, Tree, array, record, string};
 use crate::unclosed::Unclosed;
 use std::alloc::Global;
 
@@ -88,8 +89,8 @@ fn read_scalar<'a>(alloc: Global, text: &'a [u8]) -> Result<(Tree<'a>, &'a [u8])
     ensures within { IfOk result (λ r. length r.1.now ≤ length text.now) }
 {
     if byte_at(text, 0) == b'"' {
-        let (string, rest) = read_text(alloc, after(text, 1))?;
-        return Ok((Tree::Text(string), rest));
+        let (bytes, rest) = read_text(alloc, after(text, 1))?;
+        return Ok((string(bytes), rest));
     }
     match read_token(text) {
         Some((tree, rest)) => Ok((tree, rest)),
@@ -158,17 +159,17 @@ fn read_items<'a>(
     unclosed: &mut Unclosed<'a>,
     text: &'a [u8],
     depth: usize,
-) -> Result<(Vec<Tree<'a>>, &'a [u8]), JsonFault>
+) -> Result<(Items<'a>, &'a [u8]), JsonFault>
     requires { depth ≤ 64 }
-    ensures value { Gives (λ r. (map tree_view r.0.items, r.1.now)) depth
+    ensures value { Gives (λ r. (map tree_view (trees_in r.0), r.1.now)) depth
         (λ d. elements_at 93 (value d) text.now) result }
-    ensures slices { IfOk result (λ r. AreTextsBefore (items_texts r.0.items) text.now r.1.now) }
+    ensures slices { IfOk result (λ r. AreTextsBefore (items_texts (trees_in r.0)) text.now r.1.now) }
     ensures within { IfOk result (λ r. length r.1.now ≤ length text.now) }
     ensures kept { OnOk result (Keeps unclosed.old unclosed.new) }
 {
     let mut rest = skip_spaces(text);
     if byte_at(rest, 0) == b']' {
-        return Ok((Vec::new(alloc), after(rest, 1)));
+        return Ok((no_items(alloc)?, after(rest, 1)));
     }
     let start = unclosed.trees.len();
     loop {
@@ -177,7 +178,10 @@ fn read_items<'a>(
         let mark = skip_spaces(behind);
         match byte_at(mark, 0) {
             b',' => rest = after(mark, 1),
-            b']' => return Ok((unclosed.trees.split_off(start)?, after(mark, 1))),
+            b']' => {
+                let items = items_from(alloc, &mut unclosed.trees, start)?;
+                return Ok((items, after(mark, 1)));
+            }
             _ => return Err(JsonFault::Text),
         }
     }
@@ -212,17 +216,17 @@ fn read_members<'a>(
     unclosed: &mut Unclosed<'a>,
     text: &'a [u8],
     depth: usize,
-) -> Result<(Vec<Pair<'a>>, &'a [u8]), JsonFault>
+) -> Result<(Members<'a>, &'a [u8]), JsonFault>
     requires { depth ≤ 64 }
-    ensures value { Gives (λ r. (map pair_view r.0.items, r.1.now)) depth
+    ensures value { Gives (λ r. (map pair_view (pairs_in r.0), r.1.now)) depth
         (λ d. elements_at 125 (pair_at (value d)) text.now) result }
-    ensures slices { IfOk result (λ r. AreTextsBefore (members_texts r.0.items) text.now r.1.now) }
+    ensures slices { IfOk result (λ r. AreTextsBefore (members_texts (pairs_in r.0)) text.now r.1.now) }
     ensures within { IfOk result (λ r. length r.1.now ≤ length text.now) }
     ensures kept { OnOk result (Keeps unclosed.old unclosed.new) }
 {
     let mut rest = skip_spaces(text);
     if byte_at(rest, 0) == b'}' {
-        return Ok((Vec::new(alloc), after(rest, 1)));
+        return Ok((no_members(alloc)?, after(rest, 1)));
     }
     let start = unclosed.pairs.len();
     loop {
@@ -231,7 +235,10 @@ fn read_members<'a>(
         let mark = skip_spaces(behind);
         match byte_at(mark, 0) {
             b',' => rest = after(mark, 1),
-            b'}' => return Ok((unclosed.pairs.split_off(start)?, after(mark, 1))),
+            b'}' => {
+                let members = members_from(alloc, &mut unclosed.pairs, start)?;
+                return Ok((members, after(mark, 1)));
+            }
             _ => return Err(JsonFault::Text),
         }
     }

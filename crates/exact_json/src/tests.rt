@@ -51,8 +51,11 @@ fn parts(rt: HostRuntime) -> Result<(), Fail> {
         .ok()
         .ok_or("read")?;
     let object = tree.as_object().ok_or("object")?;
-    assert_eq!(rt; object.pairs.len(), 3);
-    assert_eq!(rt; object.pairs[0].value.as_number(), Some(b"1e+2".as_slice()));
+    assert_eq!(rt; object.as_slice().len(), 3);
+    assert_eq!(rt;
+        object.as_slice()[0].value.as_number(),
+        Some(b"1e+2".as_slice())
+    );
     let last = object.get(b"a").ok_or("a")?;
     assert_eq!(rt; last.as_text(), Some(b"x".as_slice()));
     let list = object.get(b"b").ok_or("b")?.as_items().ok_or("list")?;

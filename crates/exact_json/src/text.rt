@@ -196,6 +196,6 @@ pub(crate) fn read_text<'a>(
         Ok((JsonText::Plain(text.split_at(count).0), after(stop, 1)))
     } else {
         let (made, rest) = unescape(alloc, text)?;
-        Ok((JsonText::Made(made), rest))
+        Ok((JsonText::Made(Box::new(alloc, made)?), rest))
     }
 }

@@ -7,7 +7,7 @@ use std::alloc::Global;
 
 /// The items of all lists that are open and the pairs of all objects that are, the outermost's first.
 ///
-/// A list takes its items off when it closes, so that its memory is allocated once, with no room to spare.
+/// A list takes its items off when it closes, so that what it keeps has no room to spare.
 #[derive(Drop)]
 pub(crate) struct Unclosed<'a> {
     pub(crate) trees: Vec<Tree<'a>>,

@@ -72,8 +72,8 @@ fn bare(bytes: &[u8]) -> &[u8]
 /// The value of a JSON text (RFC 8259). A byte order mark in front is skipped once.
 ///
 /// A list or an object that nests deeper than 64 is refused as `Deep`, if the text is JSON.
-/// Not proved, but by the form of the code: it takes time in proportion to the bytes, and each list and object takes its
-/// memory once, with no room to spare.
+/// Not proved, but by the form of the code: it takes time in proportion to the bytes, and what is kept of a list or an
+/// object has no room to spare.
 /// No recursion is deeper than the limit: the functions that call themselves (`read_value` and those that it calls)
 /// require `depth ≤ 64`, are proved to end by a measure of `depth`, and pass one less behind each open bracket.
 pub fn read<'a>(alloc: Global, bytes: &'a [u8]) -> Result<Tree<'a>, JsonFault>

@@ -1,5 +1,5 @@
 -- A map by texts, seen as a list by their bytes, and the labels of it.
-use Rattle.std.proofs.Common.{◌≡◌, ℕ, List, [], ◌∷◌, map, Some, None, unwrap_or, option_map, Result, Ok, Err, IfOk, Vec, Ordering, Less, Equal, Greater, refl, ap, ap₂, sym, ◌∙◌}
+use Rattle.std.proofs.Common.{◌≡◌, ℕ, List, [], ◌∷◌, map, Some, None, unwrap_or, option_map, Result, Ok, Err, IfOk, Vec, Ordering, Less, Equal, Greater, refl, ap, ap₂, subst, ◌∙◌}
 use Rattle.std.specs.Prelude.{String}
 use Rattle.std.specs.Global.{Global}
 use Rattle.std.specs.Ordering.{nat_cmp, match_ordering}
@@ -9,9 +9,8 @@ use Rattle.std.specs.List.{AllByRecursion}
 use Rattle.std.specs.String.{string_cmp}
 use Rattle.std.proofs.lemmas.Str.{utf8_lossy-IsUtf8}
 use Rattle.exact_json.specs.Json.{Json, Members, members_list, object_members, HasTexts}
-use Rattle.exact_json.specs.View.{members_of, pair_view, object_view}
+use Rattle.exact_json.specs.View.{pair_view, object_view}
 use Rattle.exact_json.specs.declared.tree.Pair.{Pair}
-use Rattle.exact_json.specs.declared.tree.Members.{out-Members}
 use Rattle.exact_json.specs.declared.tree.Members.{Members as ObjectMembers}
 use Rattle.venue_types.specs.declared.features.Label.{Label}
 use Rattle.imdf_rows.specs.Fields.{text_field, with_text, with_texts, label, labels_field}
@@ -43,10 +42,6 @@ pub all_same : (texts : List (List ℕ × List ℕ)) (pairs : List (List ℕ × 
 all_same texts [] h = refl
 all_same texts (pair ∷ pairs) h = ap (λ t. all_lossy t pairs) (put_same texts pair h.0) ∙ all_same (with_text texts pair) pairs h.1
 
-pub pairs_back : (ps : List (List ℕ × Json)) → members_list (members_of ps) ≡ ps
-pairs_back [] = refl
-pairs_back (p ∷ ps) = ap (λ l. p ∷ l) (pairs_back ps)
-
 members_of_value : (v : Json) (ms : Members) → Some ms ≡ object_members v → members_list ms ≡ pairs_of v
 members_of_value v ms e = ap (λ o. unwrap_or (option_map members_list o) []) e
 
@@ -61,8 +56,7 @@ pub labels_none : (v : Json) → None ≡ object_members v → [] ≡ labels_fie
 labels_none v e = ap (λ o. map label (with_texts [] (unwrap_or (option_map members_list o) []))) e
 
 -- the labels of an object's pairs are those of its members
-pub object_labels : {E : Type 0} (r : Result (Vec Label Global) E) (m : ObjectMembers) (xs : List Pair) → xs ≡ (out-Members m).pairs.items
+pub object_labels : {E : Type 0} (r : Result (Vec Label Global) E) (m : ObjectMembers) (xs : List Pair) → map pair_view xs ≡ members_list (object_view m)
     → IfOk r (λ ls. ls.items ≡ map label (all_lossy [] (map pair_view xs)))
     → IfOk r (λ ls. ls.items ≡ map label (all_lossy [] (members_list (object_view m))))
-object_labels (Err e) m xs same h = tt
-object_labels (Ok ls) m xs same h = h ∙ ap (λ ps. map label (all_lossy [] ps)) (ap (map pair_view) same ∙ sym (pairs_back (map pair_view (out-Members m).pairs.items)))
+object_labels r m xs same h = subst (λ ps. IfOk r (λ ls. ls.items ≡ map label (all_lossy [] ps))) same h

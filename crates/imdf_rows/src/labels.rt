@@ -86,7 +86,7 @@ fn labels_among(alloc: Global, pairs: &[Pair]) -> Result<Vec<Label>, OutOfMemory
 fn labels_of(alloc: Global, members: &Members) -> Result<Vec<Label>, OutOfMemory>
     ensures { IfOk result (λ labels. labels.items ≡ map label (all_lossy [] (members_list (object_view members.now)))) }
 {
-    labels_among(alloc, &members.pairs)
+    labels_among(alloc, members.as_slice())
 }
 
 // The labels of a name, in ascending order of their tags' bytes. It takes n log n steps for n members.

@@ -7,7 +7,7 @@ use Rattle.std.specs.List.{list_all, list_any}
 use Rattle.std.specs.Cmp.Lexicographic.{slice_cmp}
 use Rattle.std.specs.Ordering.{nat_cmp, is_eq}
 use Rattle.exact_json.specs.Json.{Json, null, object, Members, no_pairs, pair, members_list, last_member, first_of_two, object_members}
-use Rattle.exact_json.specs.View.{pair_view, members_view}
+use Rattle.exact_json.specs.View.{pair_view, members_of, members_view}
 use Rattle.exact_json.specs.declared.tree.Pair.{Pair}
 use Rattle.std.proofs.lemmas.Slice.Eq.{bytes_eq-Decides}
 use Rattle.std.proofs.lemmas.Option.{same_Some}
@@ -165,6 +165,14 @@ pub texts_last : (xs : List Pair) → list_all (λ p. is_text p.1) (map pair_vie
 texts_last [] all name j e = cc
 texts_last (x ∷ xs) all name j e =
     all_last (last_member name (members_view xs)) (bytes_eq (pair_view x).0 name) (pair_view x).1 j e (first_both (is_text (pair_view x).1) _ all) (λ at. texts_last xs (second_both (is_text (pair_view x).1) _ all) name j at)
+
+members_back : (ms : Members) → members_of (members_list ms) ≡ ms
+members_back no_pairs = refl
+members_back (pair k j ms) = ap (pair k j) (members_back ms)
+
+-- an object's pairs stand for its members
+pub same_members : (xs : List Pair) (ms : Members) → map pair_view xs ≡ members_list ms → members_view xs ≡ ms
+same_members xs ms e = ap members_of e ∙ members_back ms
 
 pub object_is : (v : Json) (ms : Members) → object_members v ≡ Some ms → is_name v ≡ has_texts (object ms)
 object_is (object qs) ms e = ap (λ (x : Members). has_texts (object x)) (same_Some qs ms e)

@@ -55,8 +55,9 @@ fn last_are_texts(alloc: Global, pairs: &[Pair]) -> Result<bool, OutOfMemory>
 pub(crate) fn all_texts(alloc: Global, members: &Members) -> Result<bool, OutOfMemory>
     ensures { IfOk result (λ all. all ≡ has_texts (json_object (object_view members.now))) }
 {
-    if are_texts(&members.pairs) {
+    let pairs = members.as_slice();
+    if are_texts(pairs) {
         return Ok(true);
     }
-    last_are_texts(alloc, &members.pairs)
+    last_are_texts(alloc, pairs)
 }

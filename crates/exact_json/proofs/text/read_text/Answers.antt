@@ -1,7 +1,7 @@
 use Rattle.std.proofs.Common.{◌≡◌, ◌≢◌, take, drop, ◌∷◌, ◌++◌, sym, ap, ap₂, ◌∙◌, subst, arith, Some, take-append-drop}
 use Rattle.exact_json.specs.Number.{head}
 use Rattle.std.specs.List.{prefix_len}
-use Rattle.exact_json.specs.StringReading.{is_plain}
+use Rattle.exact_json.specs.StringReading.{text_at, is_plain}
 use Rattle.exact_json.proofs.Texts.{whole_run, quoted, head_cons, has_backslash}
 use Rattle.exact_json.proofs.Slices.{plain_text, made_text}
 use Rattle.exact_json.proofs.text.read_text.Goals as goal
@@ -24,10 +24,13 @@ returns-then-byte_at-eq34-clause-slices c =
     plain_text b c.after.result.now c.split_at.result.0 (returns-then-byte_at-eq34-clause-value c)
     (sym (take-append-drop n b) ∙ ap (λ l. take n b ++ l) (sym c.after-stop.ensures.value ∙ head_cons s 34 h (λ e. omega (arith, e))) ∙ ap₂ (λ u v. u ++ 34 ∷ v) (sym c.split_at.ensures.front) (sym c.after.ensures.value))
 
-pub returns-in_ok-made-clause-slices : goal.returns-in_ok-made-clause-slices
-returns-in_ok-made-clause-slices c =
+pub returns-in_ok-new-clause-slices : goal.returns-in_ok-new-clause-slices
+returns-in_ok-new-clause-slices c =
     let b = c.args.text.now in
     let s = c.after-stop.result.now in
+    let rest = c.in_ok-made.rest.now in
+    let box = c.in_ok-new.field-0 in
     let at : s ≡ drop (prefix_len is_plain b) b = c.after-stop.ensures.value ∙ ap (λ n. drop n b) c.plain_len-count.ensures.value in
     let ne : head s ≢ 34 = grind arith in
-    made_text b c.in_ok-made.rest.now c.in_ok-made.made c.in_ok-made.ensures.value (has_backslash b c.in_ok-made.made.items c.in_ok-made.rest.now c.in_ok-made.ensures.value (subst (λ l. head l ≢ 34) at ne))
+    let found : text_at 0 b ≡ Some (box.value.items, rest) = c.in_ok-made.ensures.value ∙ ap (λ v. Some (v.items, rest)) (sym c.in_ok-new.ensures.ok) in
+    made_text b rest box found (has_backslash b box.value.items rest found (subst (λ l. head l ≢ 34) at ne))
