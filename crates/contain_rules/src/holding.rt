@@ -1,6 +1,7 @@
 //! What holds what in a folder.
 
 ghost use Rattle.std.specs.Prelude.{OnOk, ◌≤◌, length};
+ghost use mathlib.Core.List.{IsPrefix};
 ghost use Rattle.report_laws.specs.Passes.{Adds};
 ghost use Rattle.feature_rows.specs.Rows.{HaveOwnIds};
 ghost use Rattle.feature_rows.specs.Sound.{AreSound};
@@ -16,6 +17,7 @@ use std::alloc::Global;
 use venue_types::{AmenityRow, AnchorRow, Features, Finding, OpeningRow, OutOfMemory, UnitRow};
 
 /// Adds which rows of a file aren't held by what is to hold them.
+#[tactic(auto, using(report_laws::proofs::Beginnings::beginnings))]
 fn judge<R: HasHolder>(
     features: &Features,
     holders: &Holders,
@@ -24,7 +26,8 @@ fn judge<R: HasHolder>(
 ) -> Result<(), OutOfMemory>
     requires ready { CanJudge features.now tolerance holders.now }
     requires few { length (R.rows features.now) ≤ 100000 }
-    ensures { OnOk result (Adds (BreaksIn (R.leaves features.now tolerance) (R.rows features.now) R.rule) findings.old.items findings.new.items) }
+    ensures adds { OnOk result (Adds (BreaksIn (R.leaves features.now tolerance) (R.rows features.now) R.rule) findings.old.items findings.new.items) }
+    ensures begins { IsPrefix findings.old.items findings.new.items }
 {
     for (k, row) in R::rows(features).as_slice().iter().enumerate() {
         let leaves = row.leaves(features, holders, tolerance);
@@ -38,6 +41,7 @@ fn judge<R: HasHolder>(
 /// The tolerance is in nanodegrees. Trees of octagons are made of all levels and units, and dropped at the end. On most
 /// shapes a position is compared with a number of octagons that grows as the logarithm of the shape's edges, at worst with
 /// all its edges. The memory is that of the trees and of the findings.
+#[tactic(auto, using(report_laws::proofs::Beginnings::beginnings))]
 pub fn add_hold_findings(
     alloc: Global,
     features: &Features,
@@ -48,7 +52,8 @@ pub fn add_hold_findings(
     requires own_ids { HaveOwnIds features.now }
     requires close { AllClose (judged_positions features.now) }
     requires range { tolerance ≤ 1000000 }
-    ensures { OnOk result (Adds (BreaksHold features.now tolerance) findings.old.items findings.new.items) }
+    ensures adds { OnOk result (Adds (BreaksHold features.now tolerance) findings.old.items findings.new.items) }
+    ensures begins { IsPrefix findings.old.items findings.new.items }
 {
     let holders = Holders::of(alloc, features)?;
     judge::<UnitRow>(features, &holders, tolerance, findings)?;

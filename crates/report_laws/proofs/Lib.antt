@@ -5,3 +5,4 @@ pub mod Adding
 pub mod Unique
 pub mod Phases
 pub mod Sorting
+pub mod Beginnings

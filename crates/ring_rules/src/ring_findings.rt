@@ -1,6 +1,7 @@
 //! The rings of a folder.
 
 ghost use Rattle.std.specs.Prelude.{◌≤◌, OnOk, length, map};
+ghost use mathlib.Core.List.{IsPrefix};
 ghost use Rattle.plane_exact.specs.Figure.{AllClose};
 ghost use Rattle.report_laws.specs.Passes.{Adds};
 ghost use Rattle.feature_rows.specs.Sound.{AreSound};
@@ -16,6 +17,7 @@ use std::alloc::Global;
 use venue_types::{Features, Finding, List, OutOfMemory};
 
 // What is wrong with the rings of some rows of a file.
+#[tactic(auto, using(report_laws::proofs::Beginnings::beginnings))]
 pub(crate) fn add_rows<R: HasShape>(
     alloc: Global,
     findings: &mut Vec<Finding>,
@@ -24,7 +26,8 @@ pub(crate) fn add_rows<R: HasShape>(
 ) -> Result<(), OutOfMemory>
     requires few { length rows.now ≤ 100000 }
     requires fit { AreFitShapes (map R.shape_of rows.now) }
-    ensures { OnOk result (Adds (FindsInShapes file (map R.shape_of rows.now)) findings.old.items findings.new.items) }
+    ensures adds { OnOk result (Adds (FindsInShapes file (map R.shape_of rows.now)) findings.old.items findings.new.items) }
+    ensures begins { IsPrefix findings.old.items findings.new.items }
 {
     for k in 0..rows.len() {
         let index = k as u32;
@@ -42,7 +45,8 @@ fn add_file<R: HasShape>(
 ) -> Result<(), OutOfMemory>
     requires few { length rows.now ≤ 100000 }
     requires fit { AreFitShapes (map R.shape_of rows.now) }
-    ensures { OnOk result (Adds (FindsInShapes file (map R.shape_of rows.now)) findings.old.items findings.new.items) }
+    ensures adds { OnOk result (Adds (FindsInShapes file (map R.shape_of rows.now)) findings.old.items findings.new.items) }
+    ensures begins { IsPrefix findings.old.items findings.new.items }
 {
     add_rows(alloc, findings, file, rows.as_slice())
 }
@@ -52,6 +56,7 @@ fn add_file<R: HasShape>(
 /// A tree of octagons is made of one ring at a time, and of a border once for all its holes. So on most rings it takes
 /// n log n time for n positions, at worst time in proportion to the sum of the squares of the rings' lengths, and memory
 /// for the findings and for the trees of two rings.
+#[tactic(auto, using(report_laws::proofs::Beginnings::beginnings))]
 pub fn add_ring_findings(
     alloc: Global,
     features: &Features,
@@ -59,7 +64,8 @@ pub fn add_ring_findings(
 ) -> Result<(), OutOfMemory>
     requires sound { AreSound features.now }
     requires close { AllClose (judged_positions features.now) }
-    ensures { OnOk result (Adds (BreaksInRing features.now) findings.old.items findings.new.items) }
+    ensures adds { OnOk result (Adds (BreaksInRing features.now) findings.old.items findings.new.items) }
+    ensures begins { IsPrefix findings.old.items findings.new.items }
 {
     add_file(alloc, findings, File::Fixture, &features.fixtures)?;
     add_file(alloc, findings, File::Footprint, &features.footprints)?;

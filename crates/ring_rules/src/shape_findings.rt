@@ -1,6 +1,7 @@
 //! The rings of one shape.
 
 ghost use Rattle.std.specs.Prelude.{◌≡◌, ◌+◌, ◌∷◌, [], OnOk, IfOk, length, map, flat_map};
+ghost use mathlib.Core.List.{IsPrefix};
 ghost use Rattle.plane_exact.specs.Figure.{rings, rings_of};
 ghost use Rattle.report_laws.specs.Passes.{Adds};
 ghost use Rattle.ring_rules.specs.Rings.{as_hole, placed_in, placed_rings};
@@ -27,6 +28,7 @@ fn next(number: u32) -> Result<u32, OutOfMemory>
 }
 
 // What is wrong with a ring, be it a hole or not.
+#[tactic(auto, using(report_laws::proofs::Beginnings::beginnings))]
 fn add_ring(
     alloc: Global,
     findings: &mut Vec<Finding>,
@@ -35,7 +37,8 @@ fn add_ring(
     ring: &Ring,
 ) -> Result<(), OutOfMemory>
     requires { AreFit (ring.now ∷ []) }
-    ensures { OnOk result (Adds (FindsInRing place.file place.index number (alone ring.now)) findings.old.items findings.new.items) }
+    ensures adds { OnOk result (Adds (FindsInRing place.file place.index number (alone ring.now)) findings.old.items findings.new.items) }
+    ensures begins { IsPrefix findings.old.items findings.new.items }
 {
     let crosses = crosses_itself(alloc, ring)?;
     add(findings, crosses, place.finding(Rule::G3, number))?;
@@ -44,6 +47,7 @@ fn add_ring(
 }
 
 // What is wrong with a hole.
+#[tactic(auto, using(report_laws::proofs::Beginnings::beginnings))]
 fn add_hole(
     alloc: Global,
     findings: &mut Vec<Finding>,
@@ -53,7 +57,8 @@ fn add_hole(
     border: &RingBands,
 ) -> Result<(), OutOfMemory>
     requires { AreFit (border.now ∷ hole.now ∷ []) }
-    ensures { OnOk result (Adds (FindsInRing place.file place.index number (as_hole border.now hole.now)) findings.old.items findings.new.items) }
+    ensures adds { OnOk result (Adds (FindsInRing place.file place.index number (as_hole border.now hole.now)) findings.old.items findings.new.items) }
+    ensures begins { IsPrefix findings.old.items findings.new.items }
 {
     let leaves = leaves_border(hole, border);
     add(findings, leaves, place.finding(Rule::G4, number))?;
@@ -61,6 +66,7 @@ fn add_hole(
 }
 
 // What is wrong with holes, of which the first has this number; the number after theirs.
+#[tactic(auto, using(report_laws::proofs::Beginnings::beginnings))]
 fn add_holes(
     alloc: Global,
     findings: &mut Vec<Finding>,
@@ -71,6 +77,7 @@ fn add_holes(
 ) -> Result<u32, OutOfMemory>
     requires { AreFit (border.now ∷ holes.now) }
     ensures adds { OnOk result (Adds (FindsFrom place.file place.index first (map (as_hole border.now) holes.now)) findings.old.items findings.new.items) }
+    ensures begins { IsPrefix findings.old.items findings.new.items }
     ensures next { IfOk result (λ n. n ≡ first + length holes.now) }
 {
     let mut number = first;
@@ -91,6 +98,7 @@ fn add_holes_of(
 ) -> Result<u32, OutOfMemory>
     requires { AreFit (rings_of part.now) }
     ensures adds { OnOk result (Adds (FindsFrom place.file place.index first (map (as_hole part.now.outer) part.now.holes)) findings.old.items findings.new.items) }
+    ensures begins { IsPrefix findings.old.items findings.new.items }
     ensures next { IfOk result (λ n. n ≡ first + length part.now.holes) }
 {
     if part.holes.is_empty() {
@@ -108,6 +116,7 @@ fn add_holes_of(
 }
 
 // What is wrong with a polygon whose border has this number; the number after its rings'.
+#[tactic(auto, using(report_laws::proofs::Beginnings::beginnings))]
 fn add_part(
     alloc: Global,
     findings: &mut Vec<Finding>,
@@ -117,6 +126,7 @@ fn add_part(
 ) -> Result<u32, OutOfMemory>
     requires { AreFit (rings_of part.now) }
     ensures adds { OnOk result (Adds (FindsFrom place.file place.index first (placed_in part.now)) findings.old.items findings.new.items) }
+    ensures begins { IsPrefix findings.old.items findings.new.items }
     ensures next { IfOk result (λ n. n ≡ first + length (placed_in part.now)) }
 {
     add_ring(alloc, findings, place, first, &part.outer)?;
@@ -125,6 +135,7 @@ fn add_part(
 }
 
 // What is wrong with polygons.
+#[tactic(auto, using(report_laws::proofs::Beginnings::beginnings))]
 fn add_parts(
     alloc: Global,
     findings: &mut Vec<Finding>,
@@ -132,7 +143,8 @@ fn add_parts(
     parts: &[Part],
 ) -> Result<(), OutOfMemory>
     requires { AreFit (flat_map rings_of parts.now) }
-    ensures { OnOk result (Adds (FindsFrom place.file place.index 0 (flat_map placed_in parts.now)) findings.old.items findings.new.items) }
+    ensures adds { OnOk result (Adds (FindsFrom place.file place.index 0 (flat_map placed_in parts.now)) findings.old.items findings.new.items) }
+    ensures begins { IsPrefix findings.old.items findings.new.items }
 {
     let mut number = 0;
     for part in parts {
@@ -149,7 +161,8 @@ pub(crate) fn add_shape(
     shape: &Shape,
 ) -> Result<(), OutOfMemory>
     requires { AreFit (rings shape.now) }
-    ensures { OnOk result (Adds (FindsFrom place.file place.index 0 (placed_rings shape.now)) findings.old.items findings.new.items) }
+    ensures adds { OnOk result (Adds (FindsFrom place.file place.index 0 (placed_rings shape.now)) findings.old.items findings.new.items) }
+    ensures begins { IsPrefix findings.old.items findings.new.items }
 {
     add_parts(alloc, findings, place, shape.parts.as_slice())
 }

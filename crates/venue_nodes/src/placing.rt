@@ -1,6 +1,7 @@
 //! The notes on what is no place.
 
 ghost use Rattle.std.specs.Prelude.{◌≡◌, ◌↔◌, ℕ, ◌≤◌, IsTrue, IsSome, OnOk, All, length};
+ghost use mathlib.Core.List.{IsPrefix};
 ghost use Rattle.venue_types.specs.declared.features.RelationshipRow.{RelationshipRow as ARelationship};
 ghost use Rattle.feature_rows.specs.Sound.{AreSound, element_count};
 ghost use Rattle.plane_exact.specs.Opening.{AreTouches};
@@ -27,6 +28,7 @@ fn note_at(note: PlaceNote, index: u32, member: u32) -> Note
 }
 
 /// At each of these references of a property.
+#[tactic(auto, using(report_laws::proofs::Beginnings::beginnings))]
 fn note_references(
     nodes: &Nodes,
     notes: &mut Vec<Note>,
@@ -35,7 +37,8 @@ fn note_references(
     references: &[Ref],
 ) -> Result<(), OutOfMemory>
     requires { length references.now ≤ 65 }
-    ensures { OnOk result (Adds (LackNodes (find_place nodes.now) index property references.now) notes.old.items notes.new.items) }
+    ensures adds { OnOk result (Adds (LackNodes (find_place nodes.now) index property references.now) notes.old.items notes.new.items) }
+    ensures begins { IsPrefix notes.old.items notes.new.items }
 {
     for (place, reference) in references.iter().enumerate() {
         let nowhere = nodes.node_of(reference.id).is_none();
@@ -53,7 +56,8 @@ fn note_reference(
     property: Property,
     reference: Option<Ref>,
 ) -> Result<(), OutOfMemory>
-    ensures { OnOk result (Adds (LackNodes (find_place nodes.now) index property (one_or_none reference)) notes.old.items notes.new.items) }
+    ensures adds { OnOk result (Adds (LackNodes (find_place nodes.now) index property (one_or_none reference)) notes.old.items notes.new.items) }
+    ensures begins { IsPrefix notes.old.items notes.new.items }
 {
     match reference {
         None => note_references(nodes, notes, index, property, &[]),
@@ -69,6 +73,7 @@ fn makes_passage(row: &RelationshipRow) -> bool
 }
 
 /// At each element of a relationship that makes a passage: its origin, its intermediaries, its destination.
+#[tactic(auto, using(report_laws::proofs::Beginnings::beginnings))]
 fn note_elements(
     nodes: &Nodes,
     notes: &mut Vec<Note>,
@@ -76,7 +81,8 @@ fn note_elements(
     row: &RelationshipRow,
 ) -> Result<(), OutOfMemory>
     requires { element_count row.now ≤ 65 }
-    ensures { OnOk result (Adds (LeavesElement (find_place nodes.now) index row.now) notes.old.items notes.new.items) }
+    ensures adds { OnOk result (Adds (LeavesElement (find_place nodes.now) index row.now) notes.old.items notes.new.items) }
+    ensures begins { IsPrefix notes.old.items notes.new.items }
 {
     if !makes_passage(row) {
         return Ok(());
@@ -88,6 +94,7 @@ fn note_elements(
 }
 
 /// At each relationship.
+#[tactic(auto, using(report_laws::proofs::Beginnings::beginnings))]
 fn note_relationships(
     nodes: &Nodes,
     notes: &mut Vec<Note>,
@@ -95,7 +102,8 @@ fn note_relationships(
 ) -> Result<(), OutOfMemory>
     requires few { length rows.now ≤ 100000 }
     requires short { All (λ (row : ARelationship). element_count row ≤ 65) rows.now }
-    ensures { OnOk result (Adds (LeaveElements (find_place nodes.now) rows.now) notes.old.items notes.new.items) }
+    ensures adds { OnOk result (Adds (LeaveElements (find_place nodes.now) rows.now) notes.old.items notes.new.items) }
+    ensures begins { IsPrefix notes.old.items notes.new.items }
 {
     for (k, row) in rows.iter().enumerate() {
         note_elements(nodes, notes, k as u32, row)?;
@@ -104,9 +112,11 @@ fn note_relationships(
 }
 
 /// At each opening, by the row of the units that it touches.
+#[tactic(auto, using(report_laws::proofs::Beginnings::beginnings))]
 fn note_openings(notes: &mut Vec<Note>, rows: &[List<u32>]) -> Result<(), OutOfMemory>
     requires { length rows.now ≤ 100000 }
-    ensures { OnOk result (Adds (AreEmpty rows.now) notes.old.items notes.new.items) }
+    ensures adds { OnOk result (Adds (AreEmpty rows.now) notes.old.items notes.new.items) }
+    ensures begins { IsPrefix notes.old.items notes.new.items }
 {
     for (k, row) in rows.iter().enumerate() {
         add(notes, row.is_empty(), note_at(PlaceNote::N4, k as u32, 0))?;
@@ -115,6 +125,7 @@ fn note_openings(notes: &mut Vec<Note>, rows: &[List<u32>]) -> Result<(), OutOfM
 }
 
 /// Adds the notes on elements of passages that have no node, and on openings that touch no unit. Takes log n time an element.
+#[tactic(auto, using(report_laws::proofs::Beginnings::beginnings))]
 pub fn place_notes(
     features: &Features,
     touches: &Touches,
@@ -124,7 +135,8 @@ pub fn place_notes(
     requires sound { AreSound features.now }
     requires places { AreNodes features.now nodes.now }
     requires rows { length touches.now.rows ≡ length features.now.openings }
-    ensures { (border_tol : ℕ) → AreTouches border_tol features.now touches.now → OnOk result (Adds (IsUnplaced features.now border_tol) notes.old.items notes.new.items) }
+    ensures adds { (border_tol : ℕ) → AreTouches border_tol features.now touches.now → OnOk result (Adds (IsUnplaced features.now border_tol) notes.old.items notes.new.items) }
+    ensures begins { IsPrefix notes.old.items notes.new.items }
 {
     note_relationships(nodes, notes, features.relationships.as_slice())?;
     note_openings(notes, touches.rows.as_slice())

@@ -1,3 +1,4 @@
+use mathlib.Core.List.{IsPrefix}
 use Rattle.report_laws.specs.Passes.{Adds}
 use Rattle.report_laws.proofs.Adding.{Below}
 use Rattle.contain_rules.proofs.Judgements.{LeavesAt}
@@ -5,4 +6,7 @@ use Rattle.contain_rules.proofs.holding.judge.Given as goal
 
 -- what the rows before add
 abbrev pub invariant-loop-k : goal.invariant-loop-k
-invariant-loop-k g l = Adds (Below (λ k row. LeavesAt (g.R.HasHolder.leaves l.features l.tolerance) g.R.HasHolder.rule k row) (g.R.HasHolder.rows l.features) l.k) l.initial.findings.items l.findings.items
+invariant-loop-k g l = record {
+  adds : Adds (Below (λ k row. LeavesAt (g.R.HasHolder.leaves l.features l.tolerance) g.R.HasHolder.rule k row) (g.R.HasHolder.rows l.features) l.k) l.initial.findings.items l.findings.items;
+  begins : IsPrefix l.initial.findings.items l.findings.items;
+}

@@ -17,7 +17,7 @@ add_file-requires-4-clause-fit c = fit_units c.args.features.now c.requires.soun
 pub add_file-requires-5-clause-fit : goal.add_file-requires-5-clause-fit
 add_file-requires-5-clause-fit c = fit_venues c.args.features.now c.requires.sound c.requires.close
 
-pub returns : goal.returns
-returns c = on_ok c.add_file-5.result _ _ c.add_file-5.ensures (λ last.
+pub returns-clause-adds : goal.returns-clause-adds
+returns-clause-adds c = on_ok c.add_file-5.result _ _ c.add_file-5.ensures.adds (λ last.
     five_files c.args.features.now c.args.findings.now.items c.add_file.new.findings.items c.add_file-2.new.findings.items c.add_file-3.new.findings.items c.add_file-4.new.findings.items c.add_file-5.new.findings.items
-    c.in_ok-add_file.ensures c.in_ok-add_file-2.ensures c.in_ok-add_file-3.ensures c.in_ok-add_file-4.ensures last)
+    c.in_ok-add_file.ensures.adds c.in_ok-add_file-2.ensures.adds c.in_ok-add_file-3.ensures.adds c.in_ok-add_file-4.ensures.adds last)

@@ -1,4 +1,5 @@
 use Rattle.std.proofs.Common.{map}
+use mathlib.Core.List.{IsPrefix}
 use Rattle.report_laws.specs.Passes.{Adds}
 use Rattle.report_laws.proofs.Adding.{Below}
 use Rattle.ring_rules.specs.Rings.{placed_rings}
@@ -7,4 +8,7 @@ use Rattle.ring_rules.proofs.ring_findings.add_rows.Given as goal
 
 -- what the rows before add
 abbrev pub invariant-loop-k : goal.invariant-loop-k
-invariant-loop-k g l = Adds (Below (λ k shape. FindsFrom l.file k 0 (placed_rings shape)) (map g.R.HasShape.shape_of l.rows) l.k) l.initial.findings.items l.findings.items
+invariant-loop-k g l = record {
+  adds : Adds (Below (λ k shape. FindsFrom l.file k 0 (placed_rings shape)) (map g.R.HasShape.shape_of l.rows) l.k) l.initial.findings.items l.findings.items;
+  begins : IsPrefix l.initial.findings.items l.findings.items;
+}

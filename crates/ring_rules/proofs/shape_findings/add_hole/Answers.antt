@@ -16,8 +16,8 @@ leaves_border-leaves-requires c =
 pub add_ring-requires : goal.add_ring-requires
 add_ring-requires c = fit_second c.args.border.now c.args.hole.now c.requires
 
-pub returns : goal.returns
-returns c =
+pub returns-clause-adds : goal.returns-clause-adds
+returns-clause-adds c =
     let f = c.args.place.file in
     let i = c.args.place.index in
     let n = c.args.number in
@@ -25,5 +25,5 @@ returns c =
     let hole = c.args.hole.now in
     let leaving = adds_rule G4 f i n (as_hole border hole) c.leaves_border-leaves.result c.finding.result c.args.findings.now.items c.add.new.places.items c.in_ok-add.ensures.ok
     c.leaves_border-leaves.ensures c.finding.ensures in
-    on_ok c.add_ring.result _ _ c.add_ring.ensures (λ adds.
+    on_ok c.add_ring.result _ _ c.add_ring.ensures.adds (λ adds.
     adds_hole f i n border hole c.args.findings.now.items c.add.new.places.items c.add_ring.new.findings.items leaving adds)

@@ -1,4 +1,4 @@
-use Rattle.std.proofs.Common.{◌≡◌, ◌+◌, [], ◌∷◌, List, OnOk, IfOk, length, map, sym, subst, arith}
+use Rattle.std.proofs.Common.{◌≡◌, ◌+◌, [], ◌∷◌, List, OnOk, IfOk, length, map, refl, sym, subst, arith}
 use mathlib.Core.Path.{subst₂}
 use Rattle.venue_types.specs.declared.point.Ring.{Ring}
 use Rattle.report_laws.specs.Passes.{Adds}
@@ -6,6 +6,7 @@ use Rattle.ring_rules.specs.Rings.{as_hole}
 use Rattle.ring_rules.specs.Judged.{AreFit}
 use Rattle.ring_rules.specs.Findings.{FindsFrom}
 use Rattle.ring_rules.proofs.FitLemmas.{close_first}
+use Rattle.report_laws.proofs.Beginnings.{begins_same}
 use Rattle.ring_rules.proofs.FindingLemmas.{adds_none}
 use Rattle.ring_rules.proofs.shape_findings.add_holes_of.Goals as goal
 
@@ -16,6 +17,7 @@ returns-then-is_empty c =
     let none : part.holes ≡ [] = c.is_empty.ensures.0 c.if-is_empty.true in
     record {
       adds = subst (λ (holes : List Ring). Adds (FindsFrom c.args.place.file c.args.place.index c.args.first (map (as_hole part.outer) holes)) xs xs) (sym none) (adds_none _ _ _ _);
+      begins = begins_same xs xs refl;
       next = subst (λ (holes : List Ring). c.args.first ≡ c.args.first + length holes) (sym none) (omega arith);
     }
 
@@ -32,5 +34,6 @@ returns c =
     record {
       adds = subst₂ (λ (border : Ring) (holes : List Ring). OnOk result (Adds (FindsFrom c.args.place.file c.args.place.index c.args.first (map (as_hole border) holes)) c.args.findings.now.items c.add_holes.new.findings.items))
           c.in_ok-border.ensures c.as_slice.ensures c.add_holes.ensures.adds;
+      begins = c.add_holes.ensures.begins;
       next = subst (λ (holes : List Ring). IfOk result (λ n. n ≡ c.args.first + length holes)) c.as_slice.ensures c.add_holes.ensures.next;
     }

@@ -16,6 +16,6 @@ returns-clause-adds c =
     let first = c.args.first in
     let border = c.args.part.now.outer in
     let old = c.args.findings.now.items in
-    let outer = adds_one f i first (alone border) old c.add_ring.new.findings.items c.in_ok-add_ring.ensures in
+    let outer = adds_one f i first (alone border) old c.add_ring.new.findings.items c.in_ok-add_ring.ensures.adds in
     on_ok c.add_holes_of.result _ _ c.add_holes_of.ensures.adds (λ adds.
     adds_more f i first c.in_ok-hole.hole (alone border ∷ []) (map (as_hole border) c.args.part.now.holes) old c.add_ring.new.findings.items c.add_holes_of.new.findings.items c.in_ok-hole.ensures outer adds)

@@ -1,4 +1,5 @@
 use Rattle.std.proofs.Common.{◌≡◌, length, flat_map, take}
+use mathlib.Core.List.{IsPrefix}
 use Rattle.report_laws.specs.Passes.{Adds}
 use Rattle.ring_rules.specs.Rings.{placed_in}
 use Rattle.ring_rules.specs.Findings.{FindsFrom}
@@ -8,5 +9,6 @@ use Rattle.ring_rules.proofs.shape_findings.add_parts.Given as goal
 abbrev pub invariant-loop-part : goal.invariant-loop-part
 invariant-loop-part l = record {
   adds : Adds (FindsFrom l.place.file l.place.index 0 (flat_map placed_in (take l.part-index l.parts))) l.initial.findings.items l.findings.items;
+  begins : IsPrefix l.initial.findings.items l.findings.items;
   count : l.number ≡ length (flat_map placed_in (take l.part-index l.parts));
 }

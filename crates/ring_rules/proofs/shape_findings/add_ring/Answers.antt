@@ -4,8 +4,8 @@ use Rattle.ring_rules.specs.Findings.{alone}
 use Rattle.ring_rules.proofs.FindingLemmas.{adds_rule, adds_alone}
 use Rattle.ring_rules.proofs.shape_findings.add_ring.Goals as goal
 
-pub returns : goal.returns
-returns c =
+pub returns-clause-adds : goal.returns-clause-adds
+returns-clause-adds c =
     let f = c.args.place.file in
     let i = c.args.place.index in
     let n = c.args.number in

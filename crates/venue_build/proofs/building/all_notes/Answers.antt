@@ -12,5 +12,5 @@ returns c =
     let gathered = c.place_notes.new.notes.items in
     added_notes (IsUnplaced features tolerance) c.args.noted gathered c.notes_in_order.result
     (subst (λ (xs : List Note). Adds (IsUnplaced features tolerance) xs gathered) c.into_vec-notes.ensures
-    (c.in_ok-place_notes.ensures tolerance c.requires.ground.touches))
+    (c.in_ok-place_notes.ensures.adds tolerance c.requires.ground.touches))
     c.notes_in_order.ensures

@@ -21,5 +21,5 @@ returns c =
     let rings = c.add_ring_findings.new.findings.items in
     misplaced_report features c.args.settings.now.contain_tol c.add_hold_findings.new.findings.items rings c.in_order-2.result
     (λ spread. both_ways _ c.if-is_spread.false (c.is_spread.ensures.spread.1 spread))
-    (subst (λ (xs : List Finding). Adds (BreaksInRing features) xs rings) c.new-findings.ensures.items c.in_ok-add_ring_findings.ensures)
-    c.in_ok-add_hold_findings.ensures c.in_order-2.ensures
+    (subst (λ (xs : List Finding). Adds (BreaksInRing features) xs rings) c.new-findings.ensures.items c.in_ok-add_ring_findings.ensures.adds)
+    c.in_ok-add_hold_findings.ensures.adds c.in_order-2.ensures

@@ -1,3 +1,4 @@
+use mathlib.Core.List.{IsPrefix}
 use Rattle.report_laws.specs.Passes.{Adds}
 use Rattle.report_laws.proofs.Adding.{Below}
 use Rattle.venue_nodes.specs.Noting.{IsEmptyRow}
@@ -5,4 +6,7 @@ use Rattle.venue_nodes.proofs.placing.note_openings.Given as goal
 
 -- what the rows before add
 abbrev pub invariant-loop-k : goal.invariant-loop-k
-invariant-loop-k l = Adds (Below IsEmptyRow l.rows l.k) l.initial.notes.items l.notes.items
+invariant-loop-k l = record {
+  adds : Adds (Below IsEmptyRow l.rows l.k) l.initial.notes.items l.notes.items;
+  begins : IsPrefix l.initial.notes.items l.notes.items;
+}

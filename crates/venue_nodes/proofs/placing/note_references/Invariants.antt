@@ -1,3 +1,4 @@
+use mathlib.Core.List.{IsPrefix}
 use Rattle.report_laws.specs.Passes.{Adds}
 use Rattle.report_laws.proofs.Adding.{Below}
 use Rattle.venue_nodes.specs.Noting.{LacksNode}
@@ -6,4 +7,7 @@ use Rattle.venue_nodes.proofs.placing.note_references.Given as goal
 
 -- what the references before add
 abbrev pub invariant-loop-place : goal.invariant-loop-place
-invariant-loop-place l = Adds (Below (LacksNode (find_place l.nodes) l.index l.property) l.references l.place) l.initial.notes.items l.notes.items
+invariant-loop-place l = record {
+  adds : Adds (Below (LacksNode (find_place l.nodes) l.index l.property) l.references l.place) l.initial.notes.items l.notes.items;
+  begins : IsPrefix l.initial.notes.items l.notes.items;
+}

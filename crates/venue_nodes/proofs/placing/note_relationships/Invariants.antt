@@ -1,3 +1,4 @@
+use mathlib.Core.List.{IsPrefix}
 use Rattle.report_laws.specs.Passes.{Adds}
 use Rattle.report_laws.proofs.Adding.{Below}
 use Rattle.venue_nodes.specs.Noting.{LeavesElement}
@@ -6,4 +7,7 @@ use Rattle.venue_nodes.proofs.placing.note_relationships.Given as goal
 
 -- what the relationships before add
 abbrev pub invariant-loop-k : goal.invariant-loop-k
-invariant-loop-k l = Adds (Below (LeavesElement (find_place l.nodes)) l.rows l.k) l.initial.notes.items l.notes.items
+invariant-loop-k l = record {
+  adds : Adds (Below (LeavesElement (find_place l.nodes)) l.rows l.k) l.initial.notes.items l.notes.items;
+  begins : IsPrefix l.initial.notes.items l.notes.items;
+}

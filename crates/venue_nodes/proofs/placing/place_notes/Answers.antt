@@ -7,8 +7,8 @@ use Rattle.venue_nodes.specs.Views.{find_place}
 use Rattle.venue_nodes.proofs.Remarks.{all_added}
 use Rattle.venue_nodes.proofs.placing.place_notes.Goals as goal
 
-pub returns : goal.returns
-returns c = λ border_tol touches. on_ok c.note_openings.result _ _ c.note_openings.ensures (λ last.
+pub returns-clause-adds : goal.returns-clause-adds
+returns-clause-adds c = λ border_tol touches. on_ok c.note_openings.result _ _ c.note_openings.ensures.adds (λ last.
     all_added c.args.features.now border_tol c.args.touches.now c.args.nodes.now _ c.note_relationships.new.notes.items _ c.requires.places touches
-    (subst (λ (rows : List RelationshipRow). Adds (LeaveElements (find_place c.args.nodes.now) rows) c.args.notes.now.items c.note_relationships.new.notes.items) c.as_slice.ensures c.in_ok-note_relationships.ensures)
+    (subst (λ (rows : List RelationshipRow). Adds (LeaveElements (find_place c.args.nodes.now) rows) c.args.notes.now.items c.note_relationships.new.notes.items) c.as_slice.ensures c.in_ok-note_relationships.ensures.adds)
     (subst (λ (rows : List (List ℕ)). Adds (AreEmpty rows) c.note_relationships.new.notes.items c.note_openings.new.notes.items) c.as_slice-2.ensures last))
