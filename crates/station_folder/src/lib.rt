@@ -5,6 +5,7 @@
 mod changes;
 mod fault;
 mod folder;
+mod folders;
 mod notation;
 mod numbers;
 mod settings;
@@ -15,6 +16,7 @@ mod tests;
 pub use changes::{Change, Edit, GONE};
 pub use fault::EditFault;
 pub use folder::{folder_files, settings_file, slots_of, station_files};
+pub use folders::{NO_LIFT, TALL};
 pub use numbers::{
     ADDRESS, AMENITY, ANCHOR, BUILDING, DETAIL, EVERY, FIXTURE, FOOTPRINT, GEOFENCE, KIOSK, LEVEL,
     MANIFEST, OCCUPANT, OPENING, RELATIONSHIP, SECTION, SETTINGS, UNIT, VENUE,

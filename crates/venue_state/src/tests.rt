@@ -5,7 +5,7 @@ ghost use Rattle.std.specs.Arc.{arc_value};
 ghost use Rattle.venue_state.specs.Preparing.{HasSettings};
 
 use crate::{Board, Unready};
-use station_folder::{Change, Edit, OPENING, RELATIONSHIP, UNIT, slots_of, station_settings};
+use station_folder::{Change, Edit, NO_LIFT, slots_of, station_settings};
 use std::alloc::Global;
 use std::process::Abort;
 use std::sync::Arc;
@@ -113,40 +113,6 @@ const STAIRS: [Step; 4] = [
 const LOWER: [u128; 16] = [
     0x0031, 0x0041, 0x0101, 0x0102, 0x0103, 0x0104, 0x0105, 0x0106, 0x0108, 0x0109, 0x0110, 0x0111,
     0x0300, 0x0304, 0x0305, 0x0306,
-];
-
-// The station without its lifts.
-const NO_LIFT: [Edit; 5] = [
-    (
-        OPENING,
-        "",
-        "{'type':'Feature','id':'@0101','feature_type':'opening','geometry':{'type':'LineString','coordinates':[(21,40),(23,40)]},'properties':{'level_id':'@0010'}},\n",
-        "",
-    ),
-    (
-        OPENING,
-        "",
-        "{'type':'Feature','id':'@0201','feature_type':'opening','geometry':{'type':'LineString','coordinates':[(21,40),(23,40)]},'properties':{'level_id':'@0011'}},\n",
-        "",
-    ),
-    (
-        RELATIONSHIP,
-        "",
-        "{'type':'Feature','id':'@0021','feature_type':'relationship','geometry':null,'properties':{'category':'elevator','direction':'undirected','origin':{'id':'@0301','feature_type':'unit'},'destination':{'id':'@0401','feature_type':'unit'}}},\n",
-        "",
-    ),
-    (
-        UNIT,
-        "",
-        "{'type':'Feature','id':'@0301','feature_type':'unit','geometry':{'type':'Polygon','coordinates':[[(20,40),(24,40),(24,44),(20,44),(20,40)]]},'properties':{'level_id':'@0010','category':'elevator'}},\n",
-        "",
-    ),
-    (
-        UNIT,
-        "",
-        "{'type':'Feature','id':'@0401','feature_type':'unit','geometry':{'type':'Polygon','coordinates':[[(20,40),(24,40),(24,44),(20,44),(20,40)]]},'properties':{'level_id':'@0011','category':'elevator'}},\n",
-        "",
-    ),
 ];
 
 const NAMELESS: u128 = 0x4000_8000_0000_0000_0000;
