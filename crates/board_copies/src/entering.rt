@@ -1,6 +1,6 @@
 //! The next board, brought together with the stamp of its entries.
 
-ghost use Rattle.std.specs.Prelude.{◌≡◌, [], ◌∷◌, ◌++◌, IfOk};
+ghost use Rattle.std.specs.Prelude.{◌≡◌, ◌≢◌, ◌≤◌, ◌^◌, ◌⊎◌, [], ◌∷◌, ◌++◌, length, IfOk, OnErr};
 ghost use Rattle.venue_history.specs.Versions.{MayFollow, after};
 ghost use Rattle.board_copies.specs.Stamps.{entries_of};
 
@@ -18,6 +18,7 @@ impl Held {
         ensures entries { IfOk result (λ held. entries_of held.stamp ≡ entries_of self.now.stamp ++ ready.entry ∷ []) }
         ensures board { IfOk result (λ held. held.board ≡ ready.next) }
         ensures book { IfOk result (λ held. held.stamp.seen.book ≡ roll.old.seen.book) }
+        ensures err { OnErr result ((2 ^ 62 ≤ length roll.old.seen.log) ⊎ (length roll.new.seen.log ≢ length roll.old.seen.log)) }
         ensures roll { roll.new.seen.book ≡ roll.old.seen.book }
     {
         entry_law();

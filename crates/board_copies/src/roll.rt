@@ -1,6 +1,6 @@
 //! The book of the lists that somebody means to publish, as one thread has it.
 
-ghost use Rattle.std.specs.Prelude.{◌≡◌, length, IfSome};
+ghost use Rattle.std.specs.Prelude.{◌≡◌, ◌≢◌, ◌≤◌, ◌^◌, ◌⊎◌, length, IfNone, IfSome};
 ghost use Rattle.board_copies.specs.Lists.{head_of};
 
 use crate::counting::{Adding, Counting, Nothing, Tried};
@@ -56,6 +56,7 @@ impl Roll {
         ensures book { self.new.seen.book ≡ self.old.seen.book }
         ensures stamp { IfSome result (λ stamp. entries_of stamp ≡ entries_before after ++ entry ∷ []) }
         ensures known { IfSome result (λ stamp. stamp.seen.book ≡ self.old.seen.book) }
+        ensures none { IfNone result ((2 ^ 62 ≤ length self.old.seen.log) ⊎ (length self.new.seen.log ≢ length self.old.seen.log)) }
     {
         let count = self.count;
         if count >= 1 << 62 {

@@ -18,6 +18,7 @@ pub fn queue(writer: SideWriter, ready: Ready) -> (SideWriter, Result<(), OutOfM
     ensures shown { result.0.desk.shown.value ≡ writer.desk.shown.value }
     ensures known { view result.0.desk.place ≡ view writer.desk.place }
     ensures queued { OnOk result.1 (EndsWith (drop result.0.behind result.0.log.items) (arc_value ready.held)) }
+    ensures kept { OnErr result.1 (drop result.0.behind result.0.log.items ≡ drop writer.behind writer.log.items) }
 {
     let mut writer = writer;
     if writer.append(ready).is_err() {
@@ -55,6 +56,7 @@ pub fn publish<R: Wait>(
     requires longer { IsOneLonger (list_of writer.desk.shown.value) (entries_of (arc_value held).stamp) }
     ensures ok { OnOk result.1 (arc_value result.0.desk.shown.value.held ≡ arc_value held) }
     ensures err { OnErr result.1 (result.0.desk.shown.value ≡ writer.desk.shown.value) }
+    ensures kept { OnErr result.1 (drop result.0.behind result.0.log.items ≡ drop writer.behind writer.log.items) }
     ensures book { book_of result.0.desk.shown.value ≡ book_of writer.desk.shown.value }
     ensures known { Knows (view writer.desk.place) writer.desk.shown.value → Knows (view result.0.desk.place) result.0.desk.shown.value }
 {

@@ -1,5 +1,5 @@
 -- From what becomes of a change at a board to what becomes of the history.
-use Rattle.std.proofs.Common.{◌≡◌, ◌∙◌, ℕ, ◌≤◌, true, false, refl, sym, ap, subst, arith, List, [], ◌∷◌, ◌++◌, Option, Some, None, length}
+use Rattle.std.proofs.Common.{◌≡◌, ℕ, ◌≤◌, true, false, refl, arith, List, [], ◌∷◌, ◌++◌, Option, Some, None, length}
 use Rattle.venue_types.specs.declared.files.Files.{Files}
 use Rattle.venue_types.specs.declared.query.Change.{Change}
 use Rattle.venue_types.specs.declared.query.Change.TheVariants as change
@@ -65,12 +65,6 @@ stays shelf v worker asked h k _ stands leaves same = record { kept = same; vers
 pub begun : (h : List Entry) (v : Version) → Replays h v → 1 ≤ length h
 begun [] v stands = absurd (cc stands.leads)
 begun (e ∷ es) v stands = omega arith
-
--- an entry that stands at the end, and the board after it
-pub entered : (h m k : List Entry) (e f : Entry) (v w : Version) → Replays (h ++ e ∷ []) v → m ≡ h → f ≡ e → k ≡ m ++ f ∷ [] → w ≡ v → Replays k w
-entered h m k e f v w stands kept same grown next =
-    let whole : k ≡ h ++ e ∷ [] = grown ∙ ap (λ (es : List Entry). es ++ f ∷ []) kept ∙ ap (λ (x : Entry). h ++ x ∷ []) same in
-    subst (λ (u : Version). Replays k u) (sym next) (subst (λ (es : List Entry). Replays es v) (sym whole) stands)
 
 -- an act leaves the settings
 pub same_settings : (v : Version) (done : Act) → (after v done).settings ≡ v.settings

@@ -2,5 +2,4 @@ mod Answered
 mod Changed
 pub mod Readying
 pub mod Entering
-pub mod Beginning
 pub mod Serving

@@ -5,9 +5,10 @@ ghost use Rattle.std.specs.Arc.{arc_value};
 ghost use mathlib.Core.List.{IsPrefix};
 ghost use Rattle.venue_ports.specs.Causes.{Rose};
 ghost use Rattle.venue_history.specs.Changes.{Changes};
-ghost use Rattle.venue_history.specs.Histories.{IsLegal, Replays};
+ghost use Rattle.venue_history.specs.Histories.{IsLegal};
 ghost use Rattle.venue_history.specs.Replies.{told, IsOutsideFault};
 ghost use Rattle.venue_history.specs.Versions.{MayFollow, after};
+ghost use Rattle.board_copies.specs.Stamps.{entries_of};
 ghost use Rattle.version_board.specs.Facts.{IsSameHall, IsChanged};
 ghost use Rattle.version_board.specs.OneThread.{one_thread, opening_history};
 ghost use Rattle.version_board.specs.Making.{shelf_of, CountsFault};
@@ -15,25 +16,26 @@ ghost use Rattle.version_board.specs.Making.{shelf_of, CountsFault};
 use crate::hall::{Asks, Hall};
 use crate::making::{Outcome, ready_change};
 use crate::reader::Reader;
+use board_copies::{Held, Roll};
 use std::alloc::Global;
 use std::sync::Arc;
-use venue_build::{Venue, every_venue};
-use venue_history::{Act, Entry, change_law, entry_law, number_law, version_law};
+use venue_build::Venue;
+use venue_history::{change_law, number_law, version_law};
 use venue_ports::Folders;
-use venue_state::{Board, Prepared};
-use venue_types::{Change, OutOfMemory, Query, Reply, Settings, Text, push_reserved, reserve};
+use venue_state::Prepared;
+use venue_types::{Change, OutOfMemory, Query, Reply, Settings, Text};
 
-/// One history that one thread serves: it answers at the newest version, and whatever it makes it sees at once.
+/// One history that one thread serves: it answers at the newest version, and whatever it makes it sees at once. Of its entries it keeps
+/// a stamp alone, so a venue is let go once another is published.
 #[derive(Drop)]
 pub struct Alone<F: Folders> {
-    board: Board,
-    entries: Vec<Entry>,
+    held: Held,
+    roll: Roll,
     reader: Reader<F>,
     settings: Arc<Settings>,
     looks: u64,
     alloc: Global,
-    ghost stands: { Replays entries.items board },
-    ghost settings_are: { arc_value settings ≡ board.settings },
+    ghost settings_are: { arc_value settings ≡ held.board.settings },
 }
 
 /// No hall was opened, since memory ran out. The folders come back.
@@ -42,35 +44,25 @@ pub struct Unopened<F> {
     pub folders: F,
 }
 
-// A history of one entry, and the board at which it stands.
-#[derive(Drop)]
-struct Begun {
-    board: Board,
-    entries: Vec<Entry>,
-    ghost stands: { Replays entries.items board },
-}
-
-// The history that a venue opens.
-fn opened(alloc: Global, settings: &Arc<Settings>, venue: Arc<Venue>) -> Result<Begun, OutOfMemory>
+// The board with which a venue opens a history.
+fn opened(
+    alloc: Global,
+    roll: &mut Roll,
+    settings: &Arc<Settings>,
+    venue: Arc<Venue>,
+) -> Result<Held, OutOfMemory>
     requires { (arc_value venue).settings ≡ arc_value settings.now }
-    ensures entries { IfOk result (λ first. first.entries.items ≡ opening_history venue) }
-    ensures settings { IfOk result (λ first. first.board.settings ≡ arc_value settings.now) }
+    ensures entries { IfOk result (λ held. entries_of held.stamp ≡ opening_history venue) }
+    ensures settings { IfOk result (λ held. held.board.settings ≡ arc_value settings.now) }
 {
-    every_venue(&venue);
-    let rows = Arc::try_clone(&venue)?;
-    let kept = Arc::try_clone(settings)?;
-    let board = Board::first(alloc, rows, kept)?;
-    let mut entries = Vec::new(alloc);
-    let act = Act::Published(venue);
-    entries.push(Entry { worker: 0, act })?;
-    Ok(Begun { board, entries })
+    Held::first(alloc, roll, Arc::try_clone(settings)?, venue)
 }
 
 impl<F: Folders> Alone<F> {
     ghost use Rattle.version_board.specs.Halls.{folders_of, facts_of};
 
-    /// Opens a history with a venue, which worker 0 publishes, over folders below a base. Takes the memory of one entry and of the
-    /// first version's marks, and reads nothing.
+    /// Opens a history with a venue, which worker 0 publishes, over folders below a base. Takes the memory of the first version's
+    /// marks, and reads nothing.
     pub fn begin(
         alloc: Global,
         settings: Arc<Settings>,
@@ -83,10 +75,11 @@ impl<F: Folders> Alone<F> {
         ensures folders { IfOk result (λ hall. folders_of hall ≡ folders) }
         ensures err { IfErr result (λ unopened. unopened.folders ≡ folders) }
     {
-        match opened(alloc, &settings, venue) {
-            Ok(Begun { board, entries }) => Ok(Alone {
-                board,
-                entries,
+        let mut roll = Roll::new();
+        match opened(alloc, &mut roll, &settings, venue) {
+            Ok(held) => Ok(Alone {
+                held,
+                roll,
                 reader: Reader { folders, base },
                 settings,
                 looks: 0,
@@ -105,35 +98,32 @@ impl<F: Folders> Alone<F> {
         folders
     }
 
-    // Enters what is ready: its entry, and the board after it.
+    // Enters what is ready: its entry, and the board after it. Takes no memory, and lets go of the board before.
     fn enter(&mut self, ready: Prepared) -> Result<(), OutOfMemory>
-        requires may { MayFollow self.old.board ready.entry }
-        requires next { ready.next ≡ after self.old.board ready.entry.act }
-        ensures ok { OnOk result (self.new.entries.items ≡ self.old.entries.items ++ ready.entry ∷ []) }
-        ensures err { OnErr result (self.new.entries.items ≡ self.old.entries.items) }
+        requires may { MayFollow self.old.held.board ready.entry }
+        requires next { ready.next ≡ after self.old.held.board ready.entry.act }
+        ensures ok { OnOk result (entries_of self.new.held.stamp ≡ entries_of self.old.held.stamp ++ ready.entry ∷ []) }
+        ensures err { OnErr result (entries_of self.new.held.stamp ≡ entries_of self.old.held.stamp) }
         ensures reader { self.new.reader ≡ self.old.reader }
         ensures looks { self.new.looks ≡ self.old.looks }
     {
-        entry_law();
-        reserve(&mut self.entries, 1)?;
-        let (entry, board) = ready.into_parts();
-        push_reserved(&mut self.entries, entry);
-        self.board = board;
+        self.held = self.held.next(&mut self.roll, ready)?;
         Ok(())
     }
 
     // Makes a change, but for the count of looks.
     fn make(&mut self, change: &Change) -> Reply
-        ensures changes { Changes (shelf_of (F.files self.old.reader.folders) self.old.reader.base) 1 change.now self.old.entries.items result self.new.entries.items }
+        ensures changes { Changes (shelf_of (F.files self.old.reader.folders) self.old.reader.base) 1 change.now (entries_of self.old.held.stamp) result (entries_of self.new.held.stamp) }
         ensures counts { CountsFault (F.faults self.old.reader.folders) (F.faults self.new.reader.folders) result }
         ensures same { F.files self.new.reader.folders ≡ F.files self.old.reader.folders }
         ensures base { self.new.reader.base ≡ self.old.reader.base }
         ensures looks { self.new.looks ≡ self.old.looks }
     {
         version_law();
+        let held = &self.held;
         match ready_change(
             self.alloc,
-            &self.board,
+            &held.board,
             &self.settings,
             1,
             &mut self.reader,
@@ -155,11 +145,11 @@ impl<F: Folders> Asks for Alone<F> {
 
     fn number(&self) -> u32 {
         number_law();
-        self.board.number()
+        self.held.board.number()
     }
 
     fn ask(&mut self, query: &Query) -> Reply {
-        self.board.ask(self.alloc, query)
+        self.held.board.ask(self.alloc, query)
     }
 }
 

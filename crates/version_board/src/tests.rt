@@ -5,7 +5,7 @@ ghost use Rattle.std.specs.Arc.{arc_value};
 
 use crate::{Alone, Asks, Hall, Unopened, answered_law, changed_law};
 use station_folder::{
-    Change as Edits, Edit, OPENING, RELATIONSHIP, UNIT, folder_files, slots_of, station_settings,
+    Change as Edits, Edit, NO_LIFT, TALL, folder_files, slots_of, station_settings,
 };
 use std::alloc::Global;
 use std::process::Abort;
@@ -100,48 +100,6 @@ const NOTHING: [Finding; 2] = [
         index: 0,
         member: 0,
     },
-];
-
-// The station with a column that reaches out of its level.
-const TALL: [Edit; 1] = [(
-    UNIT,
-    "@0307",
-    "(60,20),(62,20),(62,22),(60,22),(60,20)",
-    "(60,20),(62,20),(62,61),(60,61),(60,20)",
-)];
-
-// The station without its lifts.
-const NO_LIFT: [Edit; 5] = [
-    (
-        OPENING,
-        "",
-        "{'type':'Feature','id':'@0101','feature_type':'opening','geometry':{'type':'LineString','coordinates':[(21,40),(23,40)]},'properties':{'level_id':'@0010'}},\n",
-        "",
-    ),
-    (
-        OPENING,
-        "",
-        "{'type':'Feature','id':'@0201','feature_type':'opening','geometry':{'type':'LineString','coordinates':[(21,40),(23,40)]},'properties':{'level_id':'@0011'}},\n",
-        "",
-    ),
-    (
-        RELATIONSHIP,
-        "",
-        "{'type':'Feature','id':'@0021','feature_type':'relationship','geometry':null,'properties':{'category':'elevator','direction':'undirected','origin':{'id':'@0301','feature_type':'unit'},'destination':{'id':'@0401','feature_type':'unit'}}},\n",
-        "",
-    ),
-    (
-        UNIT,
-        "",
-        "{'type':'Feature','id':'@0301','feature_type':'unit','geometry':{'type':'Polygon','coordinates':[[(20,40),(24,40),(24,44),(20,44),(20,40)]]},'properties':{'level_id':'@0010','category':'elevator'}},\n",
-        "",
-    ),
-    (
-        UNIT,
-        "",
-        "{'type':'Feature','id':'@0401','feature_type':'unit','geometry':{'type':'Polygon','coordinates':[[(20,40),(24,40),(24,44),(20,44),(20,40)]]},'properties':{'level_id':'@0011','category':'elevator'}},\n",
-        "",
-    ),
 ];
 
 const NAMELESS: u128 = 0x4000_8000_0000_0000_0000;

@@ -1,10 +1,11 @@
 use Rattle.std.proofs.Common.{◌≡◌, ◌∙◌, sym, ap, ℕ, ◌++◌, string_bytes, codes, decimal}
+use Rattle.version_board.specs.Halls.{facts_of}
 use Rattle.building_report.proofs.Spelling.{line_before}
 use Rattle.building_report.proofs.acting.later_lines.Goals as goal
 
 pub returns : goal.returns
 returns c =
-    let seen = c.args.hall.now.entries.items in
+    let seen = (facts_of c.args.hall.now).seen in
     let found = c.legal_law.ensures seen c.number-number.ensures.legal in
     let v = found.0 in
     let ways = string_bytes c.in_ok-ways.ways in

@@ -10,8 +10,8 @@ use Rattle.building_report.proofs.closing.close.Goals as goal
 
 pub returns-clause-closed : goal.returns-clause-closed
 returns-clause-closed c =
-    let h = c.args.hall.now.entries.items in
-    let k = c.changed-reply.new.hall.entries.items in
+    let h = (facts_of c.args.hall.now).seen in
+    let k = (facts_of c.changed-reply.new.hall).seen in
     let r = c.changed-reply.result in
     IfOk-weaker c.judged.result (λ _. r ≢ told.OutOfMemory)
     (λ _. (v w : Version) → v.number < v.settings.last_version → Replays h v → Replays k w → IsBehindChange c.args.feature v w)

@@ -1,12 +1,13 @@
 use Rattle.std.proofs.Common.{List, ap, subst}
 use Rattle.venue_history.specs.declared.entry.Entry.{Entry}
 use Rattle.version_board.specs.Facts.{Facts, IsAnswered}
+use Rattle.version_board.specs.Halls.{facts_of}
 use Rattle.building_report.proofs.Seeing.{none_more}
 use Rattle.building_report.proofs.hall.asked.Goals as goal
 
 pub returns-clause-reply : goal.returns-clause-reply
 returns-clause-reply c =
-    let old = c.args.hall.now.entries.items in
-    let new = c.ask.new.self.entries.items in
+    let old = (facts_of c.args.hall.now).seen in
+    let new = (facts_of c.ask.new.self).seen in
     subst (λ (h : List Entry). IsAnswered h c.args.query.now c.ask.result)
     (none_more old new c.requires c.ask.ensures.grows (ap (λ (f : Facts). f.made) c.ask.ensures.kept)) c.ask.ensures.reply

@@ -1,20 +1,21 @@
 -- What becomes of a change at the board becomes of the history.
 use Rattle.std.proofs.Common.{refl}
+use Rattle.board_copies.specs.Stamps.{entries_of}
 use Rattle.version_board.specs.Making.{shelf_of}
 use Rattle.version_board.proofs.Entering.{enters, stays}
 use Rattle.version_board.proofs.alone.Alone.make.Goals as goal
 
 pub ready_change-requires-clause-closable : goal.ready_change-requires-clause-closable
-ready_change-requires-clause-closable g c = c.version_law.ensures.closable c.args.self.now.entries.items c.args.self.now.board c.args.self.now.stands
+ready_change-requires-clause-closable g c = c.version_law.ensures.closable (entries_of c.args.self.now.held.stamp) c.args.self.now.held.board c.args.self.now.held.stands
 
 pub returns-in-Stays-clause-changes : goal.returns-in-Stays-clause-changes
 returns-in-Stays-clause-changes g c =
     let shelf = shelf_of (g.F.Folders.files c.args.self.now.reader.folders) c.args.self.now.reader.base in
-    let h = c.args.self.now.entries.items in
-    stays shelf c.args.self.now.board 1 c.args.change.now h h c.in-Stays.reply c.args.self.now.stands c.in-Stays.ensures.outcome refl
+    let h = entries_of c.args.self.now.held.stamp in
+    stays shelf c.args.self.now.held.board 1 c.args.change.now h h c.in-Stays.reply c.args.self.now.held.stands c.in-Stays.ensures.outcome refl
 
 pub returns-in-Ok-clause-changes : goal.returns-in-Ok-clause-changes
 returns-in-Ok-clause-changes g c =
     let shelf = shelf_of (g.F.Folders.files c.args.self.now.reader.folders) c.args.self.now.reader.base in
-    enters shelf c.args.self.now.board 1 c.args.change.now c.args.self.now.entries.items c.enter.new.self.entries.items c.in-Made.ready c.in-Made.reply c.in-Made._files
-    c.args.self.now.stands c.in-Made.ensures.outcome c.in-Ok.ensures.ok
+    enters shelf c.args.self.now.held.board 1 c.args.change.now (entries_of c.args.self.now.held.stamp) (entries_of c.enter.new.self.held.stamp) c.in-Made.ready c.in-Made.reply c.in-Made._files
+    c.args.self.now.held.stands c.in-Made.ensures.outcome c.in-Ok.ensures.ok

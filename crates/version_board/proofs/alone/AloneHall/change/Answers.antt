@@ -1,26 +1,27 @@
 use Rattle.std.proofs.Common.{refl}
+use Rattle.board_copies.specs.Stamps.{entries_of}
 use Rattle.version_board.specs.Making.{shelf_of}
 use Rattle.version_board.proofs.Serving.{itself, made_more, later_faults, risen_faults, same_shelf}
 use Rattle.version_board.proofs.alone.AloneHall.change.Goals as goal
 
 pub returns-clause-reply : goal.returns-clause-reply
-returns-clause-reply g c = (c.args.self.now.entries.items, itself c.args.self.now.entries.items, c.make.ensures.changes)
+returns-clause-reply g c = (entries_of c.args.self.now.held.stamp, itself (entries_of c.args.self.now.held.stamp), c.make.ensures.changes)
 
 pub returns-clause-grows : goal.returns-clause-grows
 returns-clause-grows g c =
     let shelf = shelf_of (g.F.Folders.files c.args.self.now.reader.folders) c.args.self.now.reader.base in
-    c.change_law.ensures.grows shelf 1 c.args.change.now c.args.self.now.entries.items c.make.new.self.entries.items c.make.result c.make.ensures.changes
+    c.change_law.ensures.grows shelf 1 c.args.change.now (entries_of c.args.self.now.held.stamp) (entries_of c.make.new.self.held.stamp) c.make.result c.make.ensures.changes
 
 pub returns-clause-legal : goal.returns-clause-legal
 returns-clause-legal g c =
     let shelf = shelf_of (g.F.Folders.files c.args.self.now.reader.folders) c.args.self.now.reader.base in
-    c.change_law.ensures.legal shelf 1 c.args.change.now c.args.self.now.entries.items c.make.new.self.entries.items c.make.result c.make.ensures.changes c.args.self.now.stands.legal
+    c.change_law.ensures.legal shelf 1 c.args.change.now (entries_of c.args.self.now.held.stamp) (entries_of c.make.new.self.held.stamp) c.make.result c.make.ensures.changes c.args.self.now.held.stands.legal
 
 pub returns-clause-made : goal.returns-clause-made
 returns-clause-made g c =
     let shelf = shelf_of (g.F.Folders.files c.args.self.now.reader.folders) c.args.self.now.reader.base in
-    made_more c.args.self.now.entries.items c.make.new.self.entries.items c.args.self.now.board c.make.result c.args.self.now.stands
-    (c.change_law.ensures.length shelf 1 c.args.change.now c.args.self.now.entries.items c.make.new.self.entries.items c.make.result c.make.ensures.changes)
+    made_more (entries_of c.args.self.now.held.stamp) (entries_of c.make.new.self.held.stamp) c.args.self.now.held.board c.make.result c.args.self.now.held.stands
+    (c.change_law.ensures.length shelf 1 c.args.change.now (entries_of c.args.self.now.held.stamp) (entries_of c.make.new.self.held.stamp) c.make.result c.make.ensures.changes)
 
 pub returns-clause-faults : goal.returns-clause-faults
 returns-clause-faults g c = later_faults (g.F.Folders.faults c.args.self.now.reader.folders) (g.F.Folders.faults c.make.new.self.reader.folders) c.make.result c.make.ensures.counts
