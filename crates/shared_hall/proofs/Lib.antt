@@ -1,2 +1,4 @@
 pub mod Seen
 pub mod Passes
+pub mod NextEntries
+pub mod FirstEntries

@@ -1,3 +1,4 @@
 pub mod Names
 pub mod Offices
 pub mod Copied
+pub mod Entries

@@ -5,13 +5,14 @@ ghost use Rattle.std.specs.Arc.{arc_value};
 ghost use Rattle.left_right.specs.Sides.{view};
 ghost use Rattle.board_copies.specs.Rules.{book_of, Knows};
 
-use board_copies::{Held, Keep, Keeper, Roll, make_writer, settle};
+use crate::entries::held_last;
+use board_copies::{Keep, Keeper, Roll, make_writer, settle};
 use std::alloc::Global;
 use std::sync::{Arc, Wait};
-use venue_build::Venue;
+use venue_history::Entry;
 use venue_types::{OutOfMemory, Settings};
 
-/// The two copies of the board with which a history opens, their writer, and the settings. They have no name yet.
+/// The two copies of the board to which a history leads, their writer, and the settings. They have no name yet.
 #[derive(Drop)]
 pub struct Copies {
     pub(crate) keeper: Keeper,
@@ -23,25 +24,26 @@ pub struct Copies {
 }
 
 impl Copies {
-    ghost use Rattle.version_board.specs.OneThread.{opening_history};
+    ghost use Rattle.venue_history.specs.Histories.{IsLegal};
     ghost use Rattle.shared_hall.specs.Copied.{entries_in};
+    ghost use Rattle.shared_hall.specs.Entries.{HaveSettings};
 
-    /// Two copies of the board with which a venue opens a history, which worker 0 publishes, with room for so many readers. It waits as a
-    /// publication does.
+    /// Two copies of the board to which these entries lead, with room for so many readers. It waits as a publication does.
     pub fn new<R: Wait>(
         rt: &R,
         alloc: Global,
         settings: Arc<Settings>,
-        venue: Arc<Venue>,
+        entries: Vec<Entry>,
         workers: u8,
     ) -> Result<Copies, OutOfMemory>
-        requires settings { (arc_value venue).settings ≡ arc_value settings }
+        requires legal { IsLegal entries.items }
+        requires settings { HaveSettings (arc_value settings) entries.items }
         requires some { 1 ≤ workers }
         requires range { workers ≤ 16 }
-        ensures { IfOk result (λ copies. entries_in copies ≡ opening_history venue) }
+        ensures { IfOk result (λ copies. entries_in copies ≡ entries.items) }
     {
         let mut roll = Roll::new();
-        let held = Held::first(alloc, &mut roll, Arc::try_clone(&settings)?, venue)?;
+        let held = held_last(alloc, &mut roll, &settings, entries)?;
         let writer = make_writer(alloc, held, usize::from(workers))?;
         Ok(Copies {
             keeper: Keep {

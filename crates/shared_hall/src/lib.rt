@@ -3,6 +3,8 @@
 
 mod copies;
 mod crossing;
+mod entries;
+mod following;
 mod name;
 mod office;
 mod seat;
@@ -10,6 +12,8 @@ mod seat;
 mod tests;
 
 pub use copies::Copies;
+pub use entries::opening_entries;
+pub use following::{first_law, following_law};
 pub use name::HallName;
 pub use office::{Closed, Office, OfficeOf, Opened, Pass, PassOf, close_hall, open_hall};
 pub use seat::{Seat, SeatIn};

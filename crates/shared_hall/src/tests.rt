@@ -2,13 +2,19 @@
 
 ghost use Rattle.std.specs.Prelude.{◌≡◌, ◌+◌, ◌<◌, ◌≤◌, length, IfOk};
 ghost use Rattle.std.specs.Arc.{arc_value};
+ghost use Rattle.venue_history.specs.Histories.{IsLegal, Replays};
+ghost use Rattle.venue_state.specs.Preparing.{HasSettings};
 ghost use Rattle.version_board.specs.Making.{shelf_of};
 ghost use Rattle.shared_hall.specs.Copied.{entries_in, book_in};
+ghost use Rattle.shared_hall.specs.Entries.{HaveSettings};
 ghost use Rattle.shared_hall.specs.Offices.{parts_of};
 
 mod folders;
 
-use crate::{Closed, Copies, HallName, Office, Opened, Pass, Seat, close_hall, open_hall};
+use crate::{
+    Closed, Copies, HallName, Office, Opened, Pass, Seat, close_hall, first_law, following_law,
+    open_hall, opening_entries,
+};
 use folders::folders;
 use station_folder::{Change as Edits, slots_of, station_settings};
 use std::alloc::{AllocError, Global};
@@ -20,7 +26,9 @@ use std::test::Fail;
 use std::thread;
 use std::thread::Threads;
 use venue_build::{Built, Venue, build};
+use venue_history::{Act, Entry, entry_law, version_law};
 use venue_ports::{Folders, MemoryFolders};
+use venue_state::Board;
 use venue_types::{Ask, Change, FeatureId, Query, Reply, Settings, Text};
 use version_board::{Asks, Hall};
 
@@ -225,7 +233,8 @@ fn copies_of<R: Wait>(rt: &R, alloc: Global, last_version: u32, workers: u8) -> 
     settings.last_version = last_version.max(1);
     let settings = Arc::new(alloc, settings)?;
     let venue = venue_of(alloc, &settings)?;
-    Ok(Copies::new(rt, alloc, settings, venue, workers)?)
+    let entries = opening_entries(alloc, venue)?;
+    Ok(Copies::new(rt, alloc, settings, entries, workers)?)
 }
 
 fn no_folders(alloc: Global) -> Result<MemoryFolders, Fail> {
@@ -535,4 +544,70 @@ fn workers_close_doors_side_by_side(rt: HostRuntime) -> Result<(), Fail> {
     assert_eq!(rt; closed.number, 1_601);
     assert_eq!(rt; closed.changes, 1_600);
     Ok(())
+}
+
+// One entry more, by a worker, and the board after it.
+fn entered(
+    alloc: Global,
+    board: Board,
+    entries: &mut Vec<Entry>,
+    act: Act,
+    worker: u8,
+) -> Result<Board, Fail>
+    requires stands { Replays entries.old.items board }
+    requires some { 1 ≤ worker }
+    requires range { worker ≤ 16 }
+    requires settings { HasSettings board act }
+    ensures stands { IfOk result (λ next. Replays entries.new.items next) }
+    ensures settings { IfOk result (λ next. next.settings ≡ board.settings) }
+{
+    entry_law();
+    let Ok(ready) = board.prepare(alloc, act, worker) else {
+        return Err(Fail::new("not ready"));
+    };
+    let (entry, next) = ready.into_parts();
+    entries.push(entry)?;
+    Ok(next)
+}
+
+// A history of the station: it is published, one worker closes a lift, and another publishes it again.
+fn three_entries(alloc: Global, settings: &Arc<Settings>) -> Result<Vec<Entry>, Fail>
+    ensures legal { IfOk result (λ entries. IsLegal entries.items) }
+    ensures settings { IfOk result (λ entries. HaveSettings (arc_value settings.now) entries.items) }
+{
+    version_law();
+    let venue = venue_of(alloc, settings)?;
+    let mut entries = opening_entries(alloc, Arc::try_clone(&venue)?)?;
+    let first = Board::first(alloc, Arc::try_clone(&venue)?, Arc::try_clone(settings)?)?;
+    let second = entered(alloc, first, &mut entries, Act::Closed(id(0x0301)), 2)?;
+    let _third = entered(alloc, second, &mut entries, Act::Published(venue), 1)?;
+    Ok(entries)
+}
+
+#[test]
+fn a_hall_opens_over_three_entries(rt: HostRuntime) -> Result<(), Fail> {
+    let alloc = rt.alloc();
+    let settings = Arc::new(alloc, station_settings(alloc)?)?;
+    let entries = three_entries(alloc, &settings)?;
+    let copies = Copies::new(&rt, alloc, settings, entries, 2)?;
+    let folders = no_folders(alloc)?;
+    let rows = [
+        (Who::One, Deed::Look, Told::Seen(3)),
+        (Who::Other, Deed::Ask, Told::Version(3, 1)),
+        (
+            Who::One,
+            Deed::Reopen(0x0301),
+            Told::Closure(4, false, true),
+        ),
+    ];
+    let closed = rows_at(&rt, alloc, copies, folders, base(alloc)?, &rows)?;
+    assert_eq!(rt; closed.number, 4);
+    assert_eq!(rt; closed.changes, 1);
+    Ok(())
+}
+
+#[test]
+fn the_laws_are_called() {
+    first_law();
+    following_law();
 }

@@ -1,0 +1,74 @@
+-- What a legal history says of an entry that stands behind those that lead to a version.
+use Rattle.std.proofs.Common.{◌≡◌, ◌≤◌, List, [], ◌∷◌, ◌++◌, refl, subst, arith, Some}
+use Rattle.std.proofs.Math.Logic.{∥∥₁_map, ∥∥₁_elim}
+use Rattle.std.proofs.Props.{props}
+use Rattle.std.proofs.lemmas.Option.{same_Some}
+use Rattle.std.proofs.lemmas.List.Elements.{All-contains}
+use Rattle.std.specs.Prelude.{All, Contains, IsTrue, ◌↔◌}
+use mathlib.Core.HLevel.{⊥_prop}
+use Rattle.venue_types.specs.declared.feature_id.FeatureId.{FeatureId}
+use Rattle.venue_nodes.specs.Nodes.{closables}
+use Rattle.venue_history.specs.declared.entry.Act.{Act}
+use Rattle.venue_history.specs.declared.entry.Act.TheVariants.{Published, Closed, Reopened}
+use Rattle.venue_history.specs.declared.entry.Entry.{Entry}
+use Rattle.venue_history.specs.Closed.{Version, is_closed, closed_ids}
+use Rattle.venue_history.specs.Histories.{after_all, MayAllFollow, replay_from, IsLegalFrom, KeepsTheRules, IsLegal, Replays}
+use Rattle.venue_history.specs.Versions.{Fits, MayFollow, after}
+use Rattle.venue_state.specs.Preparing.{HasSettings, LacksFeature, IsDone, IsUnready}
+use Rattle.venue_state.specs.declared.unready.Unready.{Unready}
+use Rattle.venue_state.specs.declared.unready.Unready.TheVariants as unready
+
+all_may : (v : Version) (es k : List Entry) (e : Entry) → MayAllFollow v (es ++ e ∷ k) → MayFollow (after_all v es) e
+all_may v [] k e all = all.0
+all_may v (d ∷ es) k e all = all_may (after v d.act) es k e all.1
+
+act_may : (a : Act) (es k : List Entry) (e : Entry) (v : Version) → replay_from a es ≡ Some v → IsLegalFrom a (es ++ e ∷ k) → MayFollow v e
+act_may (Published venue) es k e v leads legal = subst (λ (u : Version). MayFollow u e) (same_Some (after_all _ es) v leads) (all_may _ es k e legal.1)
+act_may (Closed id) es k e v leads legal = absurd legal
+act_may (Reopened id) es k e v leads legal = absurd legal
+
+-- the next entry of a legal history may be made
+pub next_may : (h k : List Entry) (e : Entry) (v : Version) → Replays h v → IsLegal (h ++ e ∷ k) → ∥ MayFollow v e ∥₁
+next_may [] k e v stands legal = absurd (cc stands.leads)
+next_may (d ∷ es) k e v stands legal = ∥∥₁_map legal (λ (rules : KeepsTheRules (d ∷ (es ++ e ∷ k))). act_may d.act es k e v stands.leads rules.1)
+
+-- a worker makes it
+pub next_worker_some : (h k : List Entry) (e : Entry) (v : Version) → Replays h v → IsLegal (h ++ e ∷ k) → 1 ≤ e.worker
+next_worker_some h k e v stands legal = ∥∥₁_elim (next_may h k e v stands legal) (hlevel props) (λ (m : MayFollow v e). m.worker_some)
+
+pub next_worker_range : (h k : List Entry) (e : Entry) (v : Version) → Replays h v → IsLegal (h ++ e ∷ k) → e.worker ≤ 16
+next_worker_range h k e v stands legal = ∥∥₁_elim (next_may h k e v stands legal) (hlevel props) (λ (m : MayFollow v e). m.worker_range)
+
+fits_settings : (v : Version) (a : Act) → ∥ Fits v a ∥₁ → HasSettings v a
+fits_settings v (Published venue) fits = ∥∥₁_elim fits (hlevel props) (λ (f : Fits v (Published venue)). f.0)
+fits_settings v (Closed id) fits = tt
+fits_settings v (Reopened id) fits = tt
+
+-- a venue that it publishes has the version's settings
+pub next_settings : (h k : List Entry) (e : Entry) (v : Version) → Replays h v → IsLegal (h ++ e ∷ k) → HasSettings v e.act
+next_settings h k e v stands legal = fits_settings v e.act (∥∥₁_map (next_may h k e v stands legal) (λ (m : MayFollow v e). m.fits))
+
+-- what the laws on what is closed say of a version
+abbrev pub ClosedIds : Type 0
+ClosedIds = (v : Version) (id : FeatureId) → IsTrue (is_closed v id) ↔ Contains (closed_ids v) id
+
+not_lacking : ClosedIds → (v : Version) (a : Act) → All (Contains (closables v.features)) (closed_ids v) → Fits v a → LacksFeature v a → ⊥
+not_lacking ids v (Published venue) all fits lacks = lacks
+not_lacking ids v (Closed id) all fits lacks = lacks fits.0
+not_lacking ids v (Reopened id) all fits lacks = lacks (All-contains (Contains (closables v.features)) (closed_ids v) id all ((ids v id).0 fits))
+
+not_done : (v : Version) (a : Act) → Fits v a → IsDone v a → ⊥
+not_done v (Published venue) fits done = done
+not_done v (Closed id) fits done = fits.1 done.1
+not_done v (Reopened id) fits done = done.1 fits
+
+-- only want of memory keeps it from being made ready
+pub next_unready : ClosedIds → (h k : List Entry) (e : Entry) (v : Version) (why : Unready) → All (Contains (closables v.features)) (closed_ids v)
+    → Replays h v → IsLegal (h ++ e ∷ k) → IsUnready v e.act why → why ≡ unready.OutOfMemory
+next_unready ids h k e v unready.NoFeature all stands legal is =
+    absurd (∥∥₁_elim (next_may h k e v stands legal) ⊥_prop (λ (m : MayFollow v e). not_lacking ids v e.act all m.fits is))
+next_unready ids h k e v unready.Unchanged all stands legal is =
+    absurd (∥∥₁_elim (next_may h k e v stands legal) ⊥_prop (λ (m : MayFollow v e). not_done v e.act m.fits is))
+next_unready ids h k e v unready.Full all stands legal is =
+    absurd (∥∥₁_elim (next_may h k e v stands legal) ⊥_prop (λ (m : MayFollow v e). let room = m.room in let last = is.2 in absurd (omega (arith, room, last))))
+next_unready ids h k e v unready.OutOfMemory all stands legal is = refl

@@ -1,0 +1,15 @@
+use Rattle.std.proofs.Common.{rules, ◌≡◌, sym, subst}
+use Rattle.std.specs.Arc.{arc_value}
+use Rattle.venue_build.specs.Report.{AreValid}
+use Rattle.venue_build.specs.Venues.{SeenVenue as Venue}
+use Rattle.venue_history.specs.Histories.{IsLegal}
+use Rattle.version_board.specs.OneThread.{opening_history}
+use Rattle.shared_hall.proofs.FirstEntries.{opening_legal}
+use Rattle.shared_hall.proofs.entries.opening_entries.Goals as goal
+
+pub returns-clause-legal : goal.returns-clause-legal
+returns-clause-legal c =
+    let seen : AreValid c.deref.result.now.features c.deref.result.now.settings = record { sound = c.every_venue.ensures.sound; unbroken = c.every_venue.ensures.silent } in
+    let valid = subst (λ (v : Venue). AreValid v.features v.settings) c.deref.ensures seen in
+    let grown : c.push.new.self.items ≡ opening_history c.args.venue = search rules in
+    subst IsLegal (sym grown) (opening_legal c.args.venue valid)
