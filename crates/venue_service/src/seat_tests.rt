@@ -5,7 +5,7 @@ ghost use Rattle.std.specs.Arc.{arc_value};
 ghost use Rattle.version_board.specs.Making.{shelf_of};
 ghost use Rattle.shared_hall.specs.Copied.{entries_in, book_in};
 
-use shared_hall::{Copies, HallName, Opened, Seat, open_hall};
+use shared_hall::{Copies, HallName, Opened, Seat, open_hall, opening_entries};
 use station_folder::{Change, folder_files, slots_of, station_settings};
 use std::alloc::Global;
 use std::marker::Brand;
@@ -156,7 +156,8 @@ fn serve_at<F: Folders + Drop, R: Wait>(
 fn serve_seated<R: Wait>(rt: &R, alloc: Global, sent: Sent<'_>) -> Result<Served, Fail> {
     let settings = Arc::new(alloc, station_settings(alloc)?)?;
     let venue = venue_of(alloc, &settings)?;
-    let copies = Copies::new(rt, alloc, settings, venue, 1)?;
+    let entries = opening_entries(alloc, venue)?;
+    let copies = Copies::new(rt, alloc, settings, entries, 1)?;
     serve_at(rt, alloc, copies, folders(alloc)?, base(alloc)?, sent)
 }
 

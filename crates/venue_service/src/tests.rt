@@ -8,7 +8,7 @@ ghost use Rattle.version_board.specs.Making.{shelf_of};
 ghost use Rattle.shared_hall.specs.Copied.{entries_in, book_in};
 
 use crate::{DoorDesk, Next};
-use shared_hall::{Copies, HallName, Opened, Seat, open_hall};
+use shared_hall::{Copies, HallName, Opened, Seat, open_hall, opening_entries};
 use station_folder::{Change, slots_of, station_settings};
 use std::alloc::Global;
 use std::marker::Brand;
@@ -169,7 +169,8 @@ fn a_desk_follows_its_doors(rt: HostRuntime) -> Result<(), Fail> {
     let settings = Arc::new(alloc, station_settings(alloc)?)?;
     let front = Front::new(alloc, &settings.staff_keys)?;
     let venue = venue_of(alloc, &settings)?;
-    let copies = Copies::new(&rt, alloc, settings, venue, 1)?;
+    let entries = opening_entries(alloc, venue)?;
+    let copies = Copies::new(&rt, alloc, settings, entries, 1)?;
     let base = Text::from_string(String::from_str(alloc, "base")?);
     let folders = no_folders(alloc)?;
     judge(

@@ -3,6 +3,7 @@ use Rattle.std.specs.Prelude.{◌≡◌, ◌⊎◌, ℕ, ◌<◌, ◌≤◌, ◌
 use Rattle.std.specs.Io.KnownBytes.{Appends, IsAtEnd}
 use mathlib.Core.List.{IsPrefix}
 use Rattle.venue_ports.specs.Causes.{Rose}
+use Rattle.venue_ports.specs.declared.stream.Stream.{Ghosts as Links}
 use Rattle.version_board.specs.Facts.{Facts}
 use Rattle.wire_frames.specs.Frames.{IsShort, IsRefused}
 use Rattle.wire_frames.specs.declared.refusals.Refusal.{Refusal}
@@ -21,6 +22,17 @@ pub record Measured : Type 0 where
   pub written_after : Option (List ℕ)
   pub faults_before : ℕ
   pub faults_after : ℕ
+
+-- what is measured between a link before and the same link after
+abbrev pub link_between : {S : Type 0} → Links S → S → S → Measured
+link_between L old new = record {
+  left_before = L.left old;
+  left_after = L.left new;
+  written_before = L.written old;
+  written_after = L.written new;
+  faults_before = L.faults old;
+  faults_after = L.faults new;
+}
 
 -- what was done with the bytes that were taken: the messages acted on, the text of their answers, the hall after them, the rest
 pub record Run : Type 0 where

@@ -2,6 +2,7 @@
 
 ghost use Rattle.std.specs.Prelude.{◌≡◌, ◌≤◌, ℕ, [], List};
 ghost use Rattle.venue_history.specs.Histories.{IsLegal};
+ghost use Rattle.venue_session.specs.Ends.{link_between};
 ghost use Rattle.venue_session.specs.Going.{Moment, moment, IsGoing, StaysShort, HasEnded, WaitsOrEnded};
 ghost use Rattle.venue_session.specs.Sessions.{IsSession, HasServed};
 
@@ -87,14 +88,7 @@ pub fn serve_session<H: Hall, L: Stream>(
     front: &Front,
     link: &mut L,
 ) -> End
-    ensures session { IsSession front.now (H.facts hall.old) (H.facts hall.new) (record {
-      left_before = L.left link.old;
-      left_after = L.left link.new;
-      written_before = L.written link.old;
-      written_after = L.written link.new;
-      faults_before = L.faults link.old;
-      faults_after = L.faults link.new;
-    }) result }
+    ensures session { IsSession front.now (H.facts hall.old) (H.facts hall.new) (link_between L.Stream link.old link.new) result }
     ensures hall { HasServed (H.facts hall.old) (H.facts hall.new) }
     ensures link { L.faults link.old ≤ L.faults link.new }
 {
