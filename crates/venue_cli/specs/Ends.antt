@@ -1,58 +1,17 @@
--- How a run ends, by its status.
-use Rattle.std.specs.Prelude.{◌≡◌, ◌⊎◌, ℕ, List, ◌++◌, Option, IfSome, codes}
+-- How the program ends, by its status.
+use Rattle.std.specs.Prelude.{◌≡◌, ◌⊎◌, ℕ, List, Option}
 use Rattle.venue_ports.specs.Files.{StoredFile}
-use Rattle.venue_ports.specs.Causes.{Rose}
-use Rattle.line_forms.specs.Lines.{line}
-use Rattle.venue_cli.specs.declared.status.Status.{Status}
-use Rattle.venue_cli.specs.declared.status.Status.TheVariants.{Done, Negative, Wrong, Fault, Memory}
-use Rattle.venue_cli.specs.Commands.{AskFor}
-use Rattle.venue_cli.specs.Output.{Output}
-use Rattle.venue_cli.specs.Runs.{Run, Wrote, NoFault, IsUnread}
-use Rattle.venue_cli.specs.Served.{Served}
+use Rattle.venue_commands.specs.declared.status.Status.{Status}
+use Rattle.venue_commands.specs.Ends.{Ends}
+use Rattle.venue_commands.specs.Runs.{Run}
+use Rattle.venue_cli.specs.Doors.{DoorsRun, AreUnasked}
+use Rattle.venue_cli.specs.Services.{Service}
 
-abbrev pub folder_fault : List ℕ
-folder_fault = line (codes "fault folder")
+-- a command ended, and nothing was asked of the doors
+pub record EndsAlone (words : List (List ℕ)) (files : Option (List StoredFile)) (run : Run) (doors : DoorsRun) (status : Status) : Type 0 where
+  pub ends : Ends words files run status
+  pub unasked : AreUnasked doors
 
--- the output was written, all of it, and nothing failed
-pub record Printed (words : List (List ℕ)) (files : Option (List StoredFile)) (run : Run) (status : Status) : Type 0 where
-  pub text : List ℕ
-  pub wrote : Wrote run.written run.written_now text
-  pub output : IfSome files (λ fs. Output words fs text status)
-  pub faultless : NoFault run
-  pub unread : IsUnread run
-
--- a front of the output was written, and the console alone failed
-pub record CutShort (words : List (List ℕ)) (files : Option (List StoredFile)) (run : Run) : Type 0 where
-  pub text : List ℕ
-  pub rest : List ℕ
-  pub status : Status
-  pub wrote : Wrote run.written run.written_now text
-  pub output : IfSome files (λ fs. Output words fs (text ++ rest) status)
-  pub cause : Rose run.console run.console_now
-  pub folders : run.folders_now ≡ run.folders
-  pub unread : IsUnread run
-
--- the words ask for a command, and the folders failed, which was written, or a front of it and the console failed too
-pub record FolderFailed (words : List (List ℕ)) (run : Run) : Type 0 where
-  pub asks : AskFor words
-  pub text : List ℕ
-  pub rest : List ℕ
-  pub wrote : Wrote run.written run.written_now text
-  pub whole : text ++ rest ≡ folder_fault
-  pub told : ((text ≡ folder_fault) × (run.console_now ≡ run.console)) ⊎ Rose run.console run.console_now
-  pub cause : Rose run.folders run.folders_now
-  pub unread : IsUnread run
-
--- memory ran out before anything was written, and nothing failed
-pub record NothingDone (run : Run) : Type 0 where
-  pub written : run.written_now ≡ run.written
-  pub faultless : NoFault run
-  pub unread : IsUnread run
-
--- how a command ends: one text is printed, or a session is served
-abbrev pub Ends : List (List ℕ) → Option (List StoredFile) → Run → Status → Type 0
-Ends words files run Memory = NothingDone run ⊎ Served words files run Memory
-Ends words files run Fault = CutShort words files run ⊎ FolderFailed words run ⊎ Served words files run Fault
-Ends words files run Done = Printed words files run Done ⊎ Served words files run Done
-Ends words files run Negative = Printed words files run Negative ⊎ Served words files run Negative
-Ends words files run Wrong = Printed words files run Wrong
+-- a command ended that asked nothing of the doors, or a service did
+abbrev pub RunEnds : List (List ℕ) → Option (List StoredFile) → Run → DoorsRun → Status → Type 0
+RunEnds words files run doors status = EndsAlone words files run doors status ⊎ Service words files run doors status

@@ -2,14 +2,19 @@
 
 ghost use Rattle.std.specs.Prelude.{◌≡◌, ◌≤◌, ◌↔◌, false};
 ghost use Rattle.std.specs.Process.{exit_status};
-ghost use Rattle.venue_cli.specs.Codes.{status_code};
-ghost use Rattle.venue_cli.specs.Exits.{ExitsAfter, LeavesAfter};
+ghost use Rattle.venue_commands.specs.Codes.{status_code};
+ghost use Rattle.venue_commands.specs.Runs.{run_between};
+ghost use Rattle.venue_cli.specs.Doors.{doors_between};
+ghost use Rattle.venue_cli.specs.Exits.{ExitsAfter, KeepsAfter, LeavesAfter};
 
+use crate::outcome::Outcome;
 use crate::running::run;
-use crate::status::{Outcome, Status};
 use std::alloc::Global;
 use std::io::ErrorKind;
 use std::process::ExitCode;
+use std::sync::Wait;
+use std::thread::Threads;
+use venue_commands::Status;
 use venue_ports::{Doors, Folders, Stream};
 
 /// Why the words of the command line were not read.
@@ -53,7 +58,8 @@ fn exit_of<F, D>(outcome: Outcome<F, D>) -> Exit<F, D>
 }
 
 /// Runs the command that the words name, where they were read, and gives the number with which the process ends.
-pub fn exit_after<F: Folders + Send, D: Doors + Send, C: Stream>(
+pub fn exit_after<F: Folders + Send, D: Doors + Send, C: Stream, R: Threads + Wait + Sync>(
+    rt: &R,
     alloc: Global,
     words: Result<Vec<String>, WordsFault>,
     folders: F,
@@ -61,25 +67,18 @@ pub fn exit_after<F: Folders + Send, D: Doors + Send, C: Stream>(
     console: &mut C,
 ) -> Exit<F, D>
     requires { D.ready doors ≡ false }
-    ensures exits { ExitsAfter words (F.files folders) (record {
-      left = C.left console.old;
-      left_now = C.left console.new;
-      written = C.written console.old;
-      written_now = C.written console.new;
-      console = C.faults console.old;
-      console_now = C.faults console.new;
-      folders = F.faults folders;
-      folders_now = F.faults result.folders;
-    }) (exit_status result.code) }
+    ensures exits { ExitsAfter words (F.files folders)
+        (run_between C.Stream console.old console.new (F.faults folders) (F.faults result.folders))
+        (doors_between D.Doors doors result.doors) (exit_status result.code) }
     ensures files { F.files result.folders ≡ F.files folders }
-    ensures doors { result.doors ≡ doors }
+    ensures doors { KeepsAfter words (result.doors ≡ doors) }
     ensures left { LeavesAfter words (C.left console.old) (C.left console.new) }
     ensures folders_later { F.faults folders ≤ F.faults result.folders }
     ensures console_later { C.faults console.old ≤ C.faults console.new }
 {
     match words {
-        Ok(words) => exit_of(run(alloc, words.as_slice(), folders, doors, console)),
-        Err(WordsFault::NotText) => exit_of(run(alloc, &[], folders, doors, console)),
+        Ok(words) => exit_of(run(rt, alloc, words.as_slice(), folders, doors, console)),
+        Err(WordsFault::NotText) => exit_of(run(rt, alloc, &[], folders, doors, console)),
         Err(WordsFault::OutOfMemory) => Exit {
             code: ExitCode::from(Status::Memory.code()),
             folders,

@@ -1,39 +1,23 @@
 //! The program: answers the words of its command line, over folders, doors and a console that it is handed.
 #![tactic(auto)]
 
-mod answer;
-mod base;
-mod building;
-mod checking;
 mod exit;
-mod laws;
-mod linking;
-mod load;
-mod making;
-mod opening;
-mod printing;
-mod reaching;
-mod route_law;
-mod routing;
+#[cfg(test)]
+mod hostile;
+mod outcome;
+mod ready;
 mod running;
-mod serving_console;
-mod settings;
-mod status;
+mod serving;
 #[cfg(test)]
 mod tests;
-#[cfg(test)]
-mod trials;
-mod verifying;
-mod words;
 
 pub use exit::{Exit, WordsFault, exit_after, words_fault};
-pub use laws::{run_complete_law, run_headline_law};
-pub use route_law::route_is_proved;
+pub use outcome::Outcome;
 pub use running::run;
-pub use status::{Outcome, Status};
 use std::env;
 use std::process::ExitCode;
-use venue_ports::{Console, DirFolders, QuietDoors};
+use venue_commands::Status;
+use venue_ports::{Console, DirFolders, TcpDoors};
 
 // The words of the command line, less the program's name.
 fn words_of(rt: &HostRuntime) -> Result<Vec<String>, WordsFault> {
@@ -47,10 +31,8 @@ fn words_of(rt: &HostRuntime) -> Result<Vec<String>, WordsFault> {
 }
 
 fn main(rt: HostRuntime) -> ExitCode {
-    let Ok(doors) = QuietDoors::new(rt.alloc(), Vec::new(rt.alloc())) else {
-        return ExitCode::from(Status::Memory.code());
-    };
     let mut console = Console::new(&rt);
     let folders = DirFolders::new(&rt);
-    exit_after(rt.alloc(), words_of(&rt), folders, doors, &mut console).code
+    let doors = TcpDoors::new(&rt);
+    exit_after(&rt, rt.alloc(), words_of(&rt), folders, doors, &mut console).code
 }

@@ -1,5 +1,0 @@
-use Rattle.venue_cli.proofs.Headlining.{says_headline}
-use Rattle.venue_cli.proofs.laws.run_headline_law.Goals as goal
-
-pub returns : goal.returns
-returns c = says_headline c.headline_law.ensures

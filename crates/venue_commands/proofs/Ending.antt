@@ -1,0 +1,125 @@
+-- From the answer and what was written to how the run ends.
+use Rattle.std.proofs.Common.{◌≡◌, ℕ, ◌≤◌, List, [], ◌++◌, Option, Some, None, Result, Ok, Err, refl, sym, subst, ◌∙◌, inl, inr, codes, append-nil}
+use Rattle.std.specs.Prelude.{IfSome, IfOk, OnOk, OnErr}
+use Rattle.venue_ports.specs.Files.{StoredFile}
+use Rattle.venue_ports.specs.Causes.{Rose}
+use Rattle.venue_ports.specs.declared.folders.ReadFault.{ReadFault}
+use Rattle.venue_ports.specs.declared.stream.Failed.{Failed}
+use Rattle.line_forms.specs.Lines.{line}
+use Rattle.venue_commands.specs.declared.answer.Answer.{Answer}
+use Rattle.venue_commands.specs.declared.status.Status.{Status}
+use Rattle.venue_commands.specs.declared.status.Status.TheVariants.{Done, Negative, Wrong, Fault, Memory}
+use Rattle.venue_commands.specs.Steps.{IsPrinted, AsksRoute}
+use Rattle.venue_types.specs.declared.feature_id.FeatureId.{FeatureId}
+use Rattle.venue_commands.specs.Commands.{Asked, Price, Verify, Check, Links, Route, Session, Serve, Gen, IsBase, IsFolder, IsIdentifier, IsAsked, AskFor, IsNoSession, IsNoService, words_of}
+use Rattle.venue_commands.specs.Output.{PriceOutput, Output, other_words, answers_price, answers_verify, answers_check, answers_links, answers_route, answers_gen}
+use Rattle.venue_commands.specs.Verified.{VerifyOutput}
+use Rattle.venue_commands.specs.Checked.{CheckOutput}
+use Rattle.venue_commands.specs.Linked.{LinksOutput}
+use Rattle.venue_commands.specs.Routed.{RouteOutput}
+use Rattle.venue_commands.specs.Generated.{GenOutput}
+use Rattle.venue_commands.proofs.VenueMaking.{printed_as}
+use Rattle.venue_commands.specs.Runs.{Run, Wrote, NoFault, IsUnread}
+use Rattle.venue_commands.specs.Ends.{folder_fault, Ends}
+
+pub price_told : (words : List (List ℕ)) (files : Option (List StoredFile)) (base : List ℕ) (r : Result Answer ReadFault) → IsBase base → words ≡ words_of (Price base)
+    → IfOk r (λ a. IfSome files (λ fs. PriceOutput fs base a.text a.status)) → IfOk r (λ a. IfSome files (λ fs. Output words fs a.text a.status))
+price_told words files base (Err e) is-base is told = tt
+price_told words None base (Ok a) is-base is told = tt
+price_told words (Some fs) base (Ok a) is-base is told = answers_price base is-base is told
+
+pub verify_told : (words : List (List ℕ)) (files : Option (List StoredFile)) (base : List ℕ) (r : Result Answer ReadFault) → IsBase base → words ≡ words_of (Verify base)
+    → IfOk r (λ a. IfSome files (λ fs. VerifyOutput fs base a.text a.status)) → IfOk r (λ a. IfSome files (λ fs. Output words fs a.text a.status))
+verify_told words files base (Err e) is-base is told = tt
+verify_told words None base (Ok a) is-base is told = tt
+verify_told words (Some fs) base (Ok a) is-base is told = answers_verify base is-base is told
+
+pub check_told : (words : List (List ℕ)) (files : Option (List StoredFile)) (base folder : List ℕ) (r : Result Answer ReadFault) → IsBase base → IsFolder folder → words ≡ words_of (Check base folder)
+    → IfOk r (λ a. IfSome files (λ fs. CheckOutput fs base folder a.text a.status)) → IfOk r (λ a. IfSome files (λ fs. Output words fs a.text a.status))
+check_told words files base folder (Err e) is-base is-folder is told = tt
+check_told words None base folder (Ok a) is-base is-folder is told = tt
+check_told words (Some fs) base folder (Ok a) is-base is-folder is told = answers_check base folder (is-base, is-folder) is told
+
+pub links_told : (words : List (List ℕ)) (files : Option (List StoredFile)) (base folder profile : List ℕ) (r : Result Answer ReadFault) → IsBase base → IsFolder folder
+    → words ≡ words_of (Links base folder profile)
+    → IfOk r (λ a. IfSome files (λ fs. LinksOutput fs base folder profile a.text a.status)) → IfOk r (λ a. IfSome files (λ fs. Output words fs a.text a.status))
+links_told words files base folder profile (Err e) is-base is-folder is told = tt
+links_told words None base folder profile (Ok a) is-base is-folder is told = tt
+links_told words (Some fs) base folder profile (Ok a) is-base is-folder is told = answers_links base folder profile (is-base, is-folder) is told
+
+pub route_told : (words : List (List ℕ)) (files : Option (List StoredFile)) (base folder profile : List ℕ) (a b : FeatureId) (r : Result Answer ReadFault)
+    → AsksRoute words base folder profile a b → IfOk r (λ x. IfSome files (λ fs. RouteOutput fs base folder profile a b x.text x.status))
+    → IfOk r (λ x. IfSome files (λ fs. Output words fs x.text x.status))
+route_told words files base folder profile a b (Err e) asks told = tt
+route_told words None base folder profile a b (Ok x) asks told = tt
+route_told words (Some fs) base folder profile a b (Ok x) asks told =
+    answers_route base folder profile asks.from asks.to a b (asks.base_is, asks.folder_is, (a, asks.from_is), (b, asks.to_is)) asks.spelled asks.from_is asks.to_is told
+
+-- the words ask for a way
+pub route_asked : (words : List (List ℕ)) (base folder profile : List ℕ) (a b : FeatureId) → AsksRoute words base folder profile a b → AskFor words
+route_asked words base folder profile a b asks =
+    record { asked = Route base folder profile asks.from asks.to; form = (asks.base_is, asks.folder_is, (a, asks.from_is), (b, asks.to_is)); spelled = asks.spelled }
+
+pub gen_told : (words : List (List ℕ)) (files : Option (List StoredFile)) (levels : ℕ) (r : Result Answer ReadFault) → 1 ≤ levels → levels ≤ 200 → words ≡ words_of (Gen levels)
+    → IfOk r (λ a. GenOutput levels a.text a.status) → IfOk r (λ a. IfSome files (λ fs. Output words fs a.text a.status))
+gen_told words files levels (Err e) some few is told = tt
+gen_told words None levels (Ok a) some few is told = tt
+gen_told words (Some fs) levels (Ok a) some few is told = answers_gen levels (some, few) is told
+
+-- the words ask for nothing
+pub asks_nothing : (words : List (List ℕ)) → ((base : List ℕ) → IsBase base → words ≡ words_of (Price base) → ⊥) → ((base : List ℕ) → IsBase base → words ≡ words_of (Verify base) → ⊥)
+    → ((base folder : List ℕ) → IsBase base → IsFolder folder → words ≡ words_of (Check base folder) → ⊥)
+    → ((base folder profile : List ℕ) → IsBase base → IsFolder folder → words ≡ words_of (Links base folder profile) → ⊥)
+    → ((base folder profile from to : List ℕ) → IsBase base → IsFolder folder → IsIdentifier from → IsIdentifier to → words ≡ words_of (Route base folder profile from to) → ⊥)
+    → ((levels : ℕ) → 1 ≤ levels → levels ≤ 200 → words ≡ words_of (Gen levels) → ⊥) → IsNoSession words → IsNoService words → (asked : Asked) → IsAsked asked → words ≡ words_of asked → ⊥
+asks_nothing words no_price no_verify no_check no_links no_route no_gen no_session no_service (Price base) is-asked is = no_price base is-asked is
+asks_nothing words no_price no_verify no_check no_links no_route no_gen no_session no_service (Verify base) is-asked is = no_verify base is-asked is
+asks_nothing words no_price no_verify no_check no_links no_route no_gen no_session no_service (Check base folder) is-asked is = no_check base folder is-asked.0 is-asked.1 is
+asks_nothing words no_price no_verify no_check no_links no_route no_gen no_session no_service (Links base folder profile) is-asked is = no_links base folder profile is-asked.0 is-asked.1 is
+asks_nothing words no_price no_verify no_check no_links no_route no_gen no_session no_service (Route base folder profile from to) is-asked is = no_route base folder profile from to is-asked.0 is-asked.1 is-asked.2 is-asked.3 is
+asks_nothing words no_price no_verify no_check no_links no_route no_gen no_session no_service (Session base folder) is-asked is = no_session base folder is-asked is
+asks_nothing words no_price no_verify no_check no_links no_route no_gen no_session no_service (Serve base folder address workers connections) is-asked is = no_service base folder address workers connections is-asked is
+asks_nothing words no_price no_verify no_check no_links no_route no_gen no_session no_service (Gen levels) is-asked is = no_gen levels is-asked.0 is-asked.1 is
+
+pub other_told : (words : List (List ℕ)) (files : Option (List StoredFile)) (answer : Answer) → ((asked : Asked) → IsAsked asked → words ≡ words_of asked → ⊥) → answer.text ≡ line (codes "words")
+    → answer.status ≡ Wrong → IfSome files (λ fs. Output words fs answer.text answer.status)
+other_told words None answer none is wrong = tt
+other_told words (Some fs) answer none is wrong = printed_as (Output words fs) (line (codes "words")) Wrong answer is wrong (other_words none)
+
+pub ends_printed : (words : List (List ℕ)) (files : Option (List StoredFile)) (run : Run) (status : Status) (text : List ℕ) → IsPrinted status → Wrote run.written run.written_now text
+    → NoFault run → IsUnread run → IfSome files (λ fs. Output words fs text status) → Ends words files run status
+ends_printed words files run Done text plain wrote faultless unread output = inl (record { text = text; wrote = wrote; output = output; faultless = faultless; unread = unread })
+ends_printed words files run Negative text plain wrote faultless unread output = inl (record { text = text; wrote = wrote; output = output; faultless = faultless; unread = unread })
+ends_printed words files run Wrong text plain wrote faultless unread output = record { text = text; wrote = wrote; output = output; faultless = faultless; unread = unread }
+ends_printed words files run Fault text plain wrote faultless unread output = absurd plain
+ends_printed words files run Memory text plain wrote faultless unread output = absurd plain
+
+pub ends_cut : (words : List (List ℕ)) (files : Option (List StoredFile)) (run : Run) (status : Status) (text front rest : List ℕ) → Wrote run.written run.written_now front
+    → text ≡ front ++ rest → IfSome files (λ fs. Output words fs text status) → Rose run.console run.console_now
+    → run.folders_now ≡ run.folders → IsUnread run → Ends words files run Fault
+ends_cut words files run status text front rest wrote parts output cause kept unread =
+    inl (record { text = front; rest = rest; status = status; wrote = wrote; output = subst (λ (t : List ℕ). IfSome files (λ fs. Output words fs t status)) parts output; cause = cause; folders = kept; unread = unread })
+
+-- all of the text was written, as it is spelled
+pub ends_told : (words : List (List ℕ)) (files : Option (List StoredFile)) (run : Run) (status : Status) (text spelled : List ℕ) → spelled ≡ text → IsPrinted status
+    → IfSome files (λ fs. Output words fs text status) → Wrote run.written run.written_now spelled → run.console_now ≡ run.console → run.folders_now ≡ run.folders → IsUnread run
+    → Ends words files run status
+ends_told words files run status text spelled is plain output wrote kept stayed unread =
+    ends_printed words files run status text plain (subst (Wrote run.written run.written_now) is wrote) (record { console = kept; folders = stayed }) unread output
+
+-- a front of it was
+pub ends_short : (words : List (List ℕ)) (files : Option (List StoredFile)) (run : Run) (status : Status) (text spelled : List ℕ) → spelled ≡ text
+    → IfSome files (λ fs. Output words fs text status) → (front : List ℕ) × (rest : List ℕ) × Wrote run.written run.written_now front × (spelled ≡ front ++ rest)
+    → Rose run.console run.console_now → run.folders_now ≡ run.folders → IsUnread run → Ends words files run Fault
+ends_short words files run status text spelled is output part rose stayed unread =
+    ends_cut words files run status text part.0 part.1 part.2 (sym is ∙ part.3) output rose stayed unread
+
+-- the folders failed, and this is what writing that came to
+pub ends_failed : (words : List (List ℕ)) (files : Option (List StoredFile)) (run : Run) (written : Result (Unit {0}) Failed) → AskFor words → Rose run.folders run.folders_now
+    → OnOk written (Wrote run.written run.written_now folder_fault)
+    → OnErr written ((front : List ℕ) × (rest : List ℕ) × Wrote run.written run.written_now front × (folder_fault ≡ front ++ rest))
+    → OnOk written (run.console_now ≡ run.console) → OnErr written (Rose run.console run.console_now) → IsUnread run → Ends words files run Fault
+ends_failed words files run (Ok u) asks cause all part kept rose unread =
+    inr (inl (record { asks = asks; text = folder_fault; rest = []; wrote = all; whole = append-nil folder_fault; told = inl (refl, kept); cause = cause; unread = unread }))
+ends_failed words files run (Err e) asks cause all part kept rose unread =
+    inr (inl (record { asks = asks; text = part.0; rest = part.1; wrote = part.2; whole = sym part.3; told = inr rose; cause = cause; unread = unread }))

@@ -1,0 +1,14 @@
+pub mod Writing
+pub mod Judging
+pub mod VerifyJudging
+pub mod Settling
+pub mod VenueMaking
+pub mod CheckJudging
+pub mod RouteJudging
+pub mod OneText
+pub mod RouteProving
+pub mod Ending
+pub mod Openings
+pub mod Serving
+pub mod Headlining
+pub mod Completing

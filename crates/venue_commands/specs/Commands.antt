@@ -1,0 +1,79 @@
+-- What the words of the command line can ask for.
+use Rattle.std.specs.Prelude.{◌≡◌, ℕ, ◌<◌, ◌≤◌, Bool, true, List, [], ◌∷◌, length, Some, codes, nat_le, ◌==◌, ◌&&◌, ◌||◌}
+use Rattle.std.specs.Fmt.{decimal}
+use Rattle.std.specs.List.{Contains, list_all}
+use Rattle.venue_types.specs.declared.feature_id.FeatureId.{FeatureId}
+use Rattle.venue_types.specs.Identifier.{identifier_read}
+
+pub data Asked : Type 0 where
+  Price : List ℕ → Asked
+  Verify : List ℕ → Asked
+  Check : List ℕ → List ℕ → Asked
+  Links : List ℕ → List ℕ → List ℕ → Asked
+  Route : List ℕ → List ℕ → List ℕ → List ℕ → List ℕ → Asked
+  Session : List ℕ → List ℕ → Asked
+  Serve : List ℕ → List ℕ → List ℕ → ℕ → ℕ → Asked
+  Gen : ℕ → Asked
+
+-- the name of a base: 1 to 1,024 bytes without a zero byte
+pub record IsBase (base : List ℕ) : Type 0 where
+  pub some : 0 < length base
+  pub short : length base ≤ 1024
+  pub whole : Contains base 0 → ⊥
+
+-- one of `a-z 0-9 _ -`
+abbrev pub is_folder_byte : ℕ → Bool
+is_folder_byte byte = (((nat_le 97 byte && nat_le byte 122) || (nat_le 48 byte && nat_le byte 57)) || byte == 95) || byte == 45
+
+-- the name of a folder of a base: 1 to 64 of `a-z 0-9 _ -`
+pub record IsFolder (folder : List ℕ) : Type 0 where
+  pub some : 0 < length folder
+  pub short : length folder ≤ 64
+  pub plain : list_all is_folder_byte folder ≡ true
+
+-- an address at which connections come: 1 to 256 bytes
+pub record IsAddress (address : List ℕ) : Type 0 where
+  pub some : 0 < length address
+  pub short : length address ≤ 256
+
+-- an identifier in one of its four forms
+abbrev pub IsIdentifier : List ℕ → Type 0
+IsIdentifier text = (id : FeatureId) × (identifier_read text ≡ Some id)
+
+-- the words of a command
+abbrev pub words_of : Asked → List (List ℕ)
+words_of (Price base) = codes "price" ∷ base ∷ []
+words_of (Verify base) = codes "verify" ∷ base ∷ []
+words_of (Check base folder) = codes "check" ∷ base ∷ folder ∷ []
+words_of (Links base folder profile) = codes "links" ∷ base ∷ folder ∷ profile ∷ []
+words_of (Route base folder profile from to) = codes "route" ∷ base ∷ folder ∷ profile ∷ from ∷ to ∷ []
+words_of (Session base folder) = codes "session" ∷ base ∷ folder ∷ []
+words_of (Serve base folder address workers connections) = codes "serve" ∷ base ∷ folder ∷ address ∷ decimal workers ∷ decimal connections ∷ []
+words_of (Gen levels) = codes "gen" ∷ decimal levels ∷ []
+
+-- its words are of their form; any word may be a profile's name
+abbrev pub IsAsked : Asked → Type 0
+IsAsked (Price base) = IsBase base
+IsAsked (Verify base) = IsBase base
+IsAsked (Check base folder) = IsBase base × IsFolder folder
+IsAsked (Links base folder profile) = IsBase base × IsFolder folder
+IsAsked (Route base folder profile from to) = IsBase base × IsFolder folder × IsIdentifier from × IsIdentifier to
+IsAsked (Session base folder) = IsBase base × IsFolder folder
+IsAsked (Serve base folder address workers connections) =
+    IsBase base × IsFolder folder × IsAddress address × (1 ≤ workers) × (workers ≤ 16) × (1 ≤ connections) × (connections ≤ 1000000)
+IsAsked (Gen levels) = (1 ≤ levels) × (levels ≤ 200)
+
+-- the words ask for a command
+pub record AskFor (words : List (List ℕ)) : Type 0 where
+  pub asked : Asked
+  pub form : IsAsked asked
+  pub spelled : words ≡ words_of asked
+
+-- the words don't ask for a session
+abbrev pub IsNoSession : List (List ℕ) → Type 0
+IsNoSession words = (base folder : List ℕ) → IsAsked (Session base folder) → words ≡ words_of (Session base folder) → ⊥
+
+-- the words don't ask for a service
+abbrev pub IsNoService : List (List ℕ) → Type 0
+IsNoService words = (base folder address : List ℕ) (workers connections : ℕ) → IsAsked (Serve base folder address workers connections)
+    → words ≡ words_of (Serve base folder address workers connections) → ⊥

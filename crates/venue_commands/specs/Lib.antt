@@ -1,0 +1,17 @@
+pub mod Files
+pub mod Generated
+pub mod Commands
+pub mod Verified
+pub mod Checked
+pub mod Linked
+pub mod Routed
+pub mod Kept
+pub mod Output
+pub mod Runs
+pub mod Served
+pub mod Headlines
+pub mod Steps
+pub mod Openings
+pub mod Ends
+pub mod Complete
+pub mod Codes

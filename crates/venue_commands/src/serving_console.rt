@@ -1,0 +1,71 @@
+//! A session over the console.
+
+ghost use Rattle.std.specs.Prelude.{◌≡◌, ◌≤◌, ℕ, List, Option};
+ghost use Rattle.venue_ports.specs.Files.{StoredFile};
+ghost use Rattle.venue_commands.specs.Ends.{Ends};
+ghost use Rattle.venue_commands.specs.Openings.{IsOpening};
+ghost use Rattle.venue_commands.specs.Runs.{run_between};
+ghost use Rattle.venue_commands.specs.Served.{end_status};
+
+use crate::opening::Opening;
+use crate::status::Status;
+use std::alloc::Global;
+use venue_ports::{Folders, Stream};
+use venue_session::{End, serve_session};
+use version_board::{Alone, Unopened};
+
+/// How a session ended, and the folders.
+#[derive(Drop)]
+pub(crate) struct Closed<F> {
+    pub status: Status,
+    pub folders: F,
+}
+
+// The status with which a session ends.
+fn status_of(end: End) -> Status
+    ensures { result ≡ end_status end }
+{
+    match end {
+        End::Done => Status::Done,
+        End::Cut(_) => Status::Negative,
+        End::Refused(_) => Status::Negative,
+        End::Worn => Status::Negative,
+        End::LinkFault => Status::Fault,
+        End::OutOfMemory => Status::Memory,
+    }
+}
+
+/// Opens a hall over the folders, and serves the console.
+pub(crate) fn serve_console<F: Folders, C: Stream>(
+    alloc: Global,
+    opening: Opening,
+    folders: F,
+    console: &mut C,
+) -> Closed<F>
+    ensures ends { (words : List (List ℕ)) (files : Option (List StoredFile)) (faults : ℕ) → IsOpening words files opening
+        → F.files folders ≡ files → F.faults folders ≡ faults
+        → Ends words files (run_between C.Stream console.old console.new faults (F.faults result.folders)) result.status }
+    ensures files { F.files result.folders ≡ F.files folders }
+    ensures folders_later { F.faults folders ≤ F.faults result.folders }
+    ensures console_later { C.faults console.old ≤ C.faults console.new }
+{
+    let Opening {
+        base,
+        venue,
+        settings,
+        front,
+    } = opening;
+    match Alone::begin(alloc, settings, venue, folders, base) {
+        Ok(mut hall) => {
+            let end = serve_session(alloc, &mut hall, &front, console);
+            Closed {
+                status: status_of(end),
+                folders: hall.finish(),
+            }
+        }
+        Err(Unopened { folders }) => Closed {
+            status: Status::Memory,
+            folders,
+        },
+    }
+}
