@@ -1,0 +1,431 @@
+#!/usr/bin/env python3
+"""Refuses the program its allocations, one number a run: each one alone, and each one with all later ones (checks/refuse.c). A command that finds
+no memory ends with status 4 behind a front of what it prints. A session may say 503 in place of a reply, and then nothing was changed: the replies
+behind it are those of a session without that request. It may end with 4 before its first reply, at an accepted change whose reply it can't make, and at
+a message whose query or body it can't read.
+
+usage: refused_memory.py [--all]   (the program is the one that VENUE names, or else the one that the launcher ./venue runs, which builds it if need be)
+For each command it prints how many allocations it made and how its runs came out, and one line at the end. It ends with status 1 at a fault. Where a
+command makes more than 20,000 allocations it takes every seventh number, and after five minutes it leaves out the rest; with --all it takes all.
+Where there is no C compiler it says so, and ends with status 0.
+"""
+import collections
+import concurrent.futures
+import os
+import random
+import re
+import shutil
+import socket
+import struct
+import subprocess
+import sys
+import tempfile
+import threading
+import time
+
+HERE = os.path.dirname(os.path.abspath(__file__))
+TOP = os.path.join(HERE, "..")
+BUILT = os.path.join(TOP, "crates", "venue_cli", "out", "venue_cli")
+# The longest that all runs take, one run, and a client of `serve` waits, in seconds.
+ALL_RUNS, ONE_RUN, CLIENT = 300, 20, 5
+MANY, STEP = 20_000, 7
+# How many faults of a command are told.
+TOLD = 10
+WANT = b'HTTP/1.1 503 Service Unavailable\r\ncontent-type: application/json\r\ncontent-length: 26\r\n\r\n{"error":"want_of_memory"}'
+ID = "00000000-0000-4000-8000-000000000{}"
+BAKERY, TICKETS, LIFT, RAMP, NO_WAY = (ID.format(end) for end in ("051", "052", "301", "024", "107"))
+
+Ran = collections.namedtuple("Ran", "status out err turns")
+# A request that a client sent: its bytes, and the reply, None where the connection ended without one, or LATE where none came in time.
+Turn = collections.namedtuple("Turn", "client request reply")
+LATE = "late"
+
+
+class Fault(Exception):
+    """What a run may not do."""
+
+
+def get(target):
+    return f"GET {target} HTTP/1.1\r\nhost: a\r\n\r\n".encode()
+
+
+def route(profile, keys=""):
+    return get(f"/v1/route?from={BAKERY}&to={TICKETS}&profile={profile}{keys}")
+
+
+def post(path, body):
+    return f"POST {path} HTTP/1.1\r\nhost: a\r\nx-staff-key: desk-key-1\r\ncontent-length: {len(body)}\r\n\r\n{body}".encode()
+
+
+def closure(feature, closed=True):
+    return post("/v1/closures", f'{{"feature":"{feature}","closed":{str(closed).lower()}}}')
+
+
+def publish(folder):
+    return post("/v1/publish", f'{{"folder":"{folder}"}}')
+
+
+WORKED = [
+    route("wheelchair"),
+    route("walk"),
+    closure(LIFT),
+    closure(LIFT),
+    route("wheelchair"),
+    closure(RAMP),
+    route("wheelchair", "&certificate=yes"),
+    route("walk"),
+    publish("tall"),
+    publish("nolift"),
+    get("/v1/closures"),
+]
+
+
+def replies_of(text):
+    """The whole replies in front of some bytes, and the bytes behind them."""
+    replies = []
+    while True:
+        head, end, rest = text.partition(b"\r\n\r\n")
+        length = re.search(rb"\r\ncontent-length: (\d+)", head)
+        size = len(head + end) + int(length[1]) if length else 0
+        if not end or not length or len(text) < size:
+            return replies, text
+        replies.append(text[:size])
+        text = text[size:]
+
+
+def is_accepted(request, reply):
+    """Whether a reply tells an accepted change."""
+    return request.startswith(b"POST") and reply.startswith(b"HTTP/1.1 200 ") and b'"changed":false' not in reply
+
+
+def has_to_be_read(request):
+    """Whether a request has a query or a body: for want of memory to read it a connection may end, and nothing was changed."""
+    return b"?" in request.partition(b"\r\n")[0] or request.startswith(b"POST")
+
+
+class Command:
+    """A command that prints one text."""
+
+    def __init__(self, name, *words, sent=b""):
+        self.name, self.words, self.sent = name, list(words), sent
+
+    def run(self, trial, refusal):
+        try:
+            ran = subprocess.run([trial.program, *self.words], input=self.sent, capture_output=True, timeout=ONE_RUN, cwd=TOP, env=trial.env(refusal))
+        except subprocess.TimeoutExpired:
+            raise Fault(f"hung for {ONE_RUN} seconds") from None
+        return Ran(ran.returncode, ran.stdout, ran.stderr, [])
+
+    def prepare(self, trial, ran):
+        """Keeps what a run without refusals gave."""
+        self.wanted = ran
+
+    def judge(self, trial, ran):
+        """What came of a run, or a fault."""
+        if ran.status == 4 and self.wanted.out.startswith(ran.out):
+            return "status 4 behind a part of the text" if ran.out else "status 4"
+        if (ran.status, ran.out) != (self.wanted.status, self.wanted.out):
+            raise Fault(f"status {ran.status}, printed {ran.out!r}, {ran.err!r}")
+        return "the whole text"
+
+
+class Session(Command):
+    """Requests over standard input."""
+
+    def __init__(self, name, requests):
+        super().__init__(name, "session", "examples", "station", sent=b"".join(requests))
+        self.requests = requests
+
+    def judge(self, trial, ran):
+        replies, rest = replies_of(ran.out)
+        count = len(replies)
+        if rest or count > len(self.requests):
+            raise Fault(f"status {ran.status}, behind {count} replies there is {rest!r}, {ran.err!r}")
+        kept = [k for k in range(len(self.requests)) if k >= count or replies[k] != WANT]
+        due = dict(zip(kept, trial.replies_to(self.requests[k] for k in kept)))
+        for k, reply in enumerate(replies):
+            if reply not in (WANT, due.get(k)):
+                raise Fault(f"reply {k + 1} is {reply!r}, and due is {due[k]!r}")
+        if count == len(self.requests) and ran.status == self.wanted.status:
+            return "all replies" if len(kept) == count else "503 among the replies"
+        if count == len(self.requests) or ran.status != 4:
+            raise Fault(f"status {ran.status} behind {count} replies, {ran.err!r}")
+        if not count:
+            return "status 4 before a reply"
+        if is_accepted(self.requests[count], due[count]):
+            return "status 4 at an accepted change"
+        if not has_to_be_read(self.requests[count]):
+            raise Fault(f"status 4 behind {count} replies, in place of {due[count]!r} or 503")
+        return "status 4 at another message"
+
+
+class Client:
+    """A client's connection."""
+
+    def __init__(self, address):
+        try:
+            self.link = socket.create_connection(address, CLIENT)
+        except OSError:
+            self.link = None
+
+    def ask(self, request):
+        """The reply, None where the connection has ended without one, or LATE."""
+        text = b""
+        try:
+            self.link.sendall(request)
+            while not replies_of(text)[0]:
+                more = self.link.recv(65_536)
+                if not more:
+                    break
+                text += more
+        except socket.timeout:
+            self.close()
+            return text or LATE
+        except OSError:
+            pass
+        if not text:
+            self.close()
+        return text or None
+
+    def close(self):
+        if self.link:
+            self.link.close()
+        self.link = None
+
+
+class Serve(Command):
+    """Two clients of `serve` that ask in turns. A turn is a client's number and its request, or a function from the last version told to it."""
+
+    def __init__(self, name, workers, turns):
+        super().__init__(name)
+        self.workers, self.turns = workers, turns
+
+    def run(self, trial, refusal):
+        # An address of its own for each run, since runs are side by side.
+        host, port = "127." + ".".join(str(random.randint(1, 254)) for _ in range(3)), trial.port
+        words = ["serve", "examples", "station", f"{host}:{port}", str(self.workers), "2"]
+        pipes = dict(stdin=subprocess.DEVNULL, stdout=subprocess.PIPE, stderr=subprocess.PIPE, bufsize=0)
+        is_hung = threading.Event()
+        with subprocess.Popen([trial.program, *words], cwd=TOP, env=trial.env(refusal), **pipes) as process:
+            watch = threading.Timer(ONE_RUN, lambda: (is_hung.set(), process.kill()))
+            watch.start()
+            try:
+                first = process.stdout.readline()
+                turns = self.talk((host, port)) if first == f"listening {host}:{port}\n".encode() else []
+                out, err = process.communicate()
+            finally:
+                watch.cancel()
+                process.kill()
+        if is_hung.is_set():
+            raise Fault(f"hung for {ONE_RUN} seconds, behind {turns}")
+        return Ran(process.returncode, (first + out).replace(f"{host}:{port}".encode(), b"ADDRESS"), err, turns)
+
+    def talk(self, address):
+        clients, turns, version = [Client(address), Client(address)], [], 1
+        for at, (number, request) in enumerate(self.turns):
+            client = clients[number]
+            if client.link:
+                request = request(version) if callable(request) else request
+                reply = client.ask(request)
+                turns.append(Turn(number, request, reply))
+                told = re.search(rb'"version":(\d+)', reply) if isinstance(reply, bytes) else None
+                version = int(told[1]) if told else version
+                if reply == LATE and not clients[1 - number].link:
+                    raise Fault(f"no reply in {CLIENT} seconds to the only client: {turns}")
+            if number not in [later for later, _ in self.turns[at + 1 :]]:
+                client.close()
+        return turns
+
+    def prepare(self, trial, ran):
+        super().prepare(trial, ran)
+        if ran.status or len(ran.turns) != len(self.turns) or self.judge(trial, ran) != "all replies":
+            raise Fault(f"without a refusal: {ran}")
+
+    def judge(self, trial, ran):
+        lines = re.fullmatch(rb"(listening ADDRESS\n(workers (\d+) sessions 2 versions (\d+) changes (\d+)\n)?)?", ran.out)
+        closed = lines and lines[2]
+        if not lines or (ran.status, bool(closed)) not in ((0, True), (4, False)) or closed and not 1 <= int(lines[3]) <= self.workers:
+            raise Fault(f"status {ran.status}, printed {ran.out!r}, {ran.err!r}")
+        for turn in ran.turns:
+            if isinstance(turn.reply, bytes) and replies_of(turn.reply) != ([turn.reply], b""):
+                raise Fault(f"no whole reply: {turn}")
+        changes = int(lines[5]) if closed else None
+        if closed and int(lines[4]) != changes + 1:
+            raise Fault(f"printed {ran.out!r}")
+        # A change that wasn't answered may have been made, or not.
+        unmade, made = [self.history(trial, ran.turns, are_made, changes) for are_made in (False, True)]
+        if unmade and made:
+            raise Fault(f"{unmade}, or {made}: {ran.turns}, printed {ran.out!r}")
+        return self.outcome(ran.turns, closed, is_change_untold=unmade is not None)
+
+    def history(self, trial, turns, are_made, changes):
+        """Why the turns aren't those of one history in which the unanswered changes are made or aren't, or None where they are."""
+        kept = [turn for turn in turns if turn.reply != WANT and (are_made or isinstance(turn.reply, bytes))]
+        due = trial.replies_to(turn.request for turn in kept)
+        for turn, reply in zip(kept, due):
+            if isinstance(turn.reply, bytes) and turn.reply != reply:
+                return f"{turn} is wrong, due is {reply!r}"
+        made = sum(is_accepted(turn.request, reply) for turn, reply in zip(kept, due))
+        return None if changes in (None, made) else f"{made} changes were made"
+
+    def outcome(self, turns, closed, is_change_untold):
+        told = {turn.client for turn in turns if isinstance(turn.reply, bytes)}
+        ended = [turn for turn in turns if turn.reply is None]
+        if not closed:
+            return "status 4 behind a reply" if told else "status 4 before a reply"
+        if any(turn.reply == LATE for turn in turns):
+            return "a client that waited while the other one held the only worker"
+        if is_change_untold:
+            return "a connection that ended at an accepted change"
+        if any(turn.client in told and not has_to_be_read(turn.request) for turn in ended):
+            raise Fault(f"a connection ended in place of a reply or 503: {turns}")
+        if ended:
+            return "a connection that ended " + ("at another message" if ended[0].client in told else "before a reply")
+        return "503 among the replies" if any(turn.reply == WANT for turn in turns) else "all replies"
+
+
+COMMANDS = [
+    Command("price", "price", "examples/table"),
+    Command("verify", "verify", "examples/table"),
+    Command("check", "check", "examples", "station"),
+    Command("links", "links", "examples", "station", "wheelchair"),
+    Command("route", "route", "examples", "station", "wheelchair", BAKERY, TICKETS),
+    Command("route without a way", "route", "examples", "nolift", "wheelchair", BAKERY, NO_WAY),
+    Command("gen 1", "gen", "1"),
+    Session("session", WORKED),
+    Serve("serve with 1 worker", 1, [(0, get("/v1/version")), (1, get("/v1/version"))]),
+    Serve(
+        "serve with 2 workers",
+        2,
+        [
+            (0, closure(LIFT)),
+            (1, lambda version: route("wheelchair", f"&since={version}")),
+            (0, closure(RAMP)),
+            (1, lambda version: route("wheelchair", f"&since={version}")),
+            (0, closure(LIFT, False)),
+            (1, lambda version: get(f"/v1/closures?since={version}")),
+        ],
+    ),
+]
+
+
+class Trial:
+    """A program whose allocations are refused, and what its sessions answer without refusals."""
+
+    def __init__(self, program, folder):
+        self.program, self.folder = program, folder
+        self.library = self.compiled("refuse.so", os.path.join(HERE, "refuse.c"), "-shared", "-fPIC")
+        self.known, self.faults = {}, collections.Counter()
+        self.loader = self.ends_of_loader()
+        with socket.create_server(("", 0)) as door:
+            self.port = door.getsockname()[1]
+
+    def compiled(self, name, source, *flags):
+        path = os.path.join(self.folder, name)
+        subprocess.run(["cc", "-O2", "-D_GNU_SOURCE", *flags, "-o", path, source], check=True)
+        return path
+
+    def env(self, refusal):
+        return dict(os.environ, LD_PRELOAD=self.library, **refusal)
+
+    def counted(self, run):
+        """What comes of a run without refusals, and how many allocations it made."""
+        path = os.path.join(self.folder, "count")
+        ran = run({"REFUSE_COUNT": path})
+        with open(path, "rb") as file:
+            (count,) = struct.unpack("L", file.read())
+        os.remove(path)
+        return ran, count
+
+    def ends_of_loader(self):
+        """How a program that does nothing ends where a refusal ends it."""
+        source = os.path.join(self.folder, "nothing.c")
+        with open(source, "w", encoding="utf-8") as file:
+            file.write("int main(void) { return 0; }\n")
+        nothing = self.compiled("nothing", source)
+
+        def run(refusal):
+            ran = subprocess.run([nothing], capture_output=True, timeout=ONE_RUN, env=self.env(refusal))
+            return ran.returncode, ran.stderr
+
+        _, count = self.counted(run)
+        ends = {(kind, number): run({kind: str(number)}) for kind in ("REFUSE", "REFUSE_FROM") for number in range(1, count + 1)}
+        return {refusal: end for refusal, end in ends.items() if end[0]}
+
+    def replies_to(self, requests):
+        """The replies of a session to these requests alone, without refusals."""
+        requests = tuple(requests)
+        if requests not in self.known:
+            ran = subprocess.run([self.program, "session", "examples", "station"], input=b"".join(requests), capture_output=True, timeout=ONE_RUN, cwd=TOP)
+            replies, rest = replies_of(ran.stdout)
+            if ran.returncode or rest or len(replies) != len(requests):
+                raise Fault(f"without a refusal {requests} are answered {ran.stdout!r}, status {ran.returncode}")
+            self.known[requests] = replies
+        return self.known[requests]
+
+    def tried(self, command, kind, number):
+        """What came of a run with a refusal."""
+        try:
+            ran = command.run(self, {kind: str(number)})
+            if self.loader.get((kind, number)) == (ran.status, ran.err):
+                return "ended by the loader"
+            return command.judge(self, ran)
+        except Fault as fault:
+            self.faults[command] += 1
+            if self.faults[command] <= TOLD:
+                print(f"{command.name}, {kind}={number}: {fault}", file=sys.stderr)
+            return "FAULT"
+
+
+def program_of():
+    """The path of the program, built if need be."""
+    if "VENUE" in os.environ:
+        return os.path.abspath(os.environ["VENUE"])
+    subprocess.run(["./venue", "price", "examples/table"], cwd=TOP, stdout=subprocess.DEVNULL, check=True)
+    return BUILT
+
+
+def counts_of(trial):
+    """The commands that the program has, each with the number of its allocations."""
+    counts = {}
+    for command in COMMANDS:
+        if isinstance(command, Serve) and command.run(trial, {}).out == b"words\n":
+            print(f"{command.name}: skipped, since this program has no such command")
+            continue
+        ran, counts[command] = trial.counted(lambda refusal: command.run(trial, refusal))
+        if not counts[command]:
+            raise Fault(f"{command.name}: no allocation was counted, so none could be refused")
+        command.prepare(trial, ran)
+    return counts
+
+
+def main():
+    if not shutil.which("cc"):
+        print("refused_memory: skipped, since there is no cc")
+        return 0
+    takes_all = "--all" in sys.argv[1:]
+    with tempfile.TemporaryDirectory() as folder:
+        trial = Trial(program_of(), folder)
+        end = float("inf") if takes_all else time.monotonic() + ALL_RUNS
+        counts = counts_of(trial)
+        steps = {command: STEP if count > MANY and not takes_all else 1 for command, count in counts.items()}
+        tasks = [(command, kind, number) for command, count in counts.items() for number in range(1, count + 1, steps[command]) for kind in ("REFUSE", "REFUSE_FROM")]
+        # In any order, so that what is left out after five minutes is of no command in particular.
+        random.Random(1).shuffle(tasks)
+        came = {command: collections.Counter() for command in counts}
+        with concurrent.futures.ThreadPoolExecutor(os.cpu_count()) as pool:
+            for command, outcome in pool.map(lambda task: (task[0], trial.tried(*task) if time.monotonic() < end else "LEFT OUT"), tasks):
+                came[command][outcome] += 1
+    for command, count in counts.items():
+        told = ", ".join(f"{outcome} {times:,}" for outcome, times in sorted(came[command].items()))
+        print(f"{command.name}: {count:,} allocations{', every seventh' if steps[command] > 1 else ''}: {told}")
+    faults, left_out = (sum(of[outcome] for of in came.values()) for outcome in ("FAULT", "LEFT OUT"))
+    rest = f", {left_out:,} left out after {ALL_RUNS} seconds" if left_out else ""
+    print(f"refused_memory: {sum(counts.values()):,} allocations, {len(tasks) - left_out:,} runs, {faults} faults{rest}")
+    return 1 if faults or not tasks else 0
+
+
+try:
+    sys.exit(main())
+except Fault as fault:
+    sys.exit(f"refused_memory: {fault}")
