@@ -1,0 +1,55 @@
+#!/bin/bash
+# Starts nginx by examples/serve/nginx.conf, at ports that are free and with a certificate made for this run, in front of a server over the
+# example station, and compares what a visitor and staff are answered. The staff's network is 127.0.0.2 here, and visitors come from 127.0.0.1.
+#
+# usage: serve_nginx.sh [PROGRAM]   (without PROGRAM the launcher ./venue, which builds the program if need be)
+# It prints a line for each difference and one at the end, and ends with status 1 at a difference.
+program=${1-$(dirname "$0")/../venue}
+. "$(dirname "$0")/serving.sh"
+PATH=$PATH:/usr/sbin
+need nginx openssl curl
+
+# Starts nginx at the port that follows the server's.
+proxy() {
+    openssl req -x509 -newkey rsa:2048 -nodes -days 1 -subj /CN=localhost -keyout "$work/key.pem" -out "$work/certificate.pem" 2>/dev/null || exit 1
+    sed -e "s#127.0.0.1:7070#127.0.0.1:$port#; s#listen 443#listen 127.0.0.1:$((port + 1))#; s#10.0.0.0/8#127.0.0.2#; /^user /d" \
+        -e "s#/etc/ssl/venue/#$work/#; s#/run/#$work/#; s#/var/log/nginx/#$work/#" \
+        -e "s#^http {#&\n$(printf "%s_temp_path $work/%s;" client_body client_body proxy proxy fastcgi fastcgi uwsgi uwsgi scgi scgi)#" \
+        "$here/examples/serve/nginx.conf" >"$work/nginx.conf"
+    nginx -t -q -e "$work/early.log" -c "$work/nginx.conf" || exit 1
+    nginx -e "$work/early.log" -c "$work/nginx.conf" -g 'daemon off;' &
+    processes+=($!)
+    curl -ks -o /dev/null --max-time 20 --retry 20 --retry-delay 1 --retry-connrefused "$at/version"
+}
+
+ask() { # from which address, path, words for curl
+    curl -ks --max-time 20 --interface "$1" -w ' %{http_code}' "${@:3}" "$at/$2" | tr -d '\r\n'
+}
+
+serve 4 1000
+at=https://127.0.0.1:$((port + 1))/v1
+visitor=127.0.0.1
+staff=127.0.0.2
+proxy
+compare 'the version' "$(ask $visitor version)" '{"closed":0,"places":33,"version":1} 200'
+compare 'a closing by a visitor' "$(ask $visitor closures -H "$key" -d "$closing")" '*403'
+compare 'a publication by a visitor' "$(ask $visitor publish -H "$key" -d '{"folder":"station"}')" '*403'
+compare 'what is closed' "$(ask $visitor closures)" '{"closures":\[\],"version":1} 200'
+compare 'a closing without a key' "$(ask $staff closures -d "$closing")" '{"error":"not_staff"} 403'
+compare 'a closing' "$(ask $staff closures -H "$key" -d "$closing")" '{"changed":true,"closed":true,"feature":"'$lift'","version":2} 200'
+compare 'a rejected folder' "$(ask $staff publish -H "$key" -d '{"folder":"tall"}')" '{"error":"rejected",*} 422'
+compare 'a publication' "$(ask $staff publish -H "$key" -d '{"folder":"station"}')" '{"dropped":\[\],"version":3} 200'
+compare 'what is closed then' "$(ask $visitor 'closures?since=3')" '{"closures":\["'$lift'"\],"version":3} 200'
+compare 'a version to come' "$(ask $visitor 'version?since=4')" '{"error":"version_ahead","since":4,"version":3} 409'
+compare 'a HEAD' "$(ask $visitor version -I)" '*text/html*405'
+compare 'a PUT' "$(ask $staff closures -X PUT -d x)" '<html>*405'
+compare 'another path' "$(ask $visitor ../../index.html --path-as-is)" '*400'
+compare 'no path of the server' "$(ask $visitor ../index.html)" '*404'
+head -c 65536 /dev/zero >"$work/large"
+compare 'a body of 65,536 bytes' "$(ask $staff closures -H "$key" --data-binary "@$work/large")" '{"error":"bad_body"} 400'
+printf x >>"$work/large"
+compare 'a large body' "$(ask $staff closures -H "$key" --data-binary "@$work/large")" '<html>*413'
+# At a rate of 10 a second with 40 at once, most of three hundred questions are refused.
+many=$(printf "$at/version %.0s" {1..300})
+compare 'many questions' "$(curl -ks --max-time 20 -w '\n%{http_code}\n' $many | grep -x '[0-9]\+' | sort -u | tr '\n' ' ')" '200 429 '
+finish

@@ -1,0 +1,13 @@
+#!/bin/bash
+# Has systemd read examples/serve/venue.service, with the launcher in the place of the program, and wants that nothing is said of it.
+#
+# usage: serve_unit.sh
+# It prints what is said and a line at the end, and ends with status 1 where something is said.
+here=$(cd "$(dirname "$0")/.." && pwd) || exit 1
+command -v systemd-analyze >/dev/null || { echo "serve_unit: skipped, since there is no systemd-analyze"; exit 0; }
+work=$(mktemp -d) || exit 1
+trap 'rm -rf "$work"' EXIT
+
+sed "s#/opt/fergoljin/venue_cli#$here/venue#" "$here/examples/serve/venue.service" >"$work/venue.service"
+systemd-analyze verify "$work/venue.service" 2>&1 | grep venue.service
+[ "${PIPESTATUS[1]}" = 1 ] && echo 'serve_unit: nothing is said of the unit'
