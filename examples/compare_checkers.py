@@ -138,32 +138,36 @@ def answers_of(command, base):
     return ran.stdout, ran.returncode
 
 
+def made_bases(folder):
+    """Bases with made tables and answers, right and wrong, and of some that a file or its end is missing."""
+    chance, bases = random.Random(7), [os.path.join(folder, "missing")]
+    for table in range(TABLES):
+        nodes, links, table_text = made_table(chance)
+        for number in range(ANSWERS):
+            base = os.path.join(folder, f"{table}-{number}")
+            os.mkdir(base)
+            answer = true_answer(nodes, links, chance.randrange(nodes), chance.randrange(nodes))
+            written = spoiled_line(chance, table_text) if number == 0 else table_text
+            spoil = chance.choice(["", "number", "number", "number", "cheaper", "cheaper", "line"])
+            if spoil == "number":
+                answer = spoiled_number(chance, answer)
+            elif spoil == "line":
+                answer = spoiled_line(chance, answer)
+            elif spoil == "cheaper":
+                written = cheaper(chance, written)
+            for name, text in (("links.txt", written), ("answer.txt", answer)):
+                with open(os.path.join(base, name), "w") as file:
+                    file.write("\n".join(text) + chance.choice(["\n"] * 30 + ["", "\n\n"]))
+            bases.append(base)
+    return bases
+
+
 def main():
     program = [sys.argv[1]] if len(sys.argv) > 1 else [os.path.join(HERE, "..", "venue")]
-    bases = sorted(entry.path for entry in os.scandir(HERE) if entry.is_dir())
-    chance, seen, differ = random.Random(7), {}, 0
+    seen, differ = {}, 0
     with tempfile.TemporaryDirectory() as folder:
         routes, wrong = station_bases(program, folder, random.Random(11))
-        bases += routes
-        bases.append(os.path.join(folder, "missing"))
-        for table in range(TABLES):
-            nodes, links, table_text = made_table(chance)
-            for number in range(ANSWERS):
-                base = os.path.join(folder, f"{table}-{number}")
-                os.mkdir(base)
-                answer = true_answer(nodes, links, chance.randrange(nodes), chance.randrange(nodes))
-                written = spoiled_line(chance, table_text) if number == 0 else table_text
-                spoil = chance.choice(["", "number", "number", "number", "cheaper", "cheaper", "line"])
-                if spoil == "number":
-                    answer = spoiled_number(chance, answer)
-                elif spoil == "line":
-                    answer = spoiled_line(chance, answer)
-                elif spoil == "cheaper":
-                    written = cheaper(chance, written)
-                for name, text in (("links.txt", written), ("answer.txt", answer)):
-                    with open(os.path.join(base, name), "w") as file:
-                        file.write("\n".join(text) + chance.choice(["\n"] * 30 + ["", "\n\n"]))
-                bases.append(base)
+        bases = sorted(entry.path for entry in os.scandir(HERE) if entry.is_dir()) + routes + made_bases(folder)
         for base in bases:
             found, wanted = answers_of(program + ["verify"], base), answers_of(CHECKER, base)
             kind = b" ".join(wanted[0].split()[:2]).decode() if wanted[0] else ""
@@ -180,4 +184,5 @@ def main():
     return 1 if differ or wrong else 0
 
 
-sys.exit(main())
+if __name__ == "__main__":
+    sys.exit(main())

@@ -1,0 +1,182 @@
+#!/usr/bin/env python3
+"""Makes the examples of docs/RULES.md from the station, has examples/map.py draw each, and compares: the program finds what the page says, the
+picture is well-formed, and has as many red rings as there are findings with a place. The kept pictures in docs/pictures are those drawn now.
+
+usage: map_pictures.py [PROGRAM] [--write]   (without PROGRAM the launcher ./venue, which builds the program if need be)
+With --write the pictures are kept anew. It prints one line, and ends with status 1 at a difference.
+"""
+import json
+import os
+import re
+import shutil
+import subprocess
+import sys
+import tempfile
+import xml.dom.minidom
+
+TOP = os.path.join(os.path.dirname(os.path.abspath(__file__)), "..")
+PICTURES = os.path.join(TOP, "docs", "pictures")
+NAME = "00000000-0000-4000-8000-{:0>12}"
+# Those whose example needs a million positions, or a file of 32 MiB, are left out: their rules are about numbers, not about places.
+LEFT_OUT = ["F2", "S1", "S2"]
+
+
+def at(x, y):
+    """The position so many metres east and north of the station's corner."""
+    return [round(10 + x / 100_000, 9), round(50 + y / 100_000, 9)]
+
+
+def ring(*corners):
+    return [at(*corner) for corner in corners]
+
+
+def box(left, low, right, high):
+    return ring((left, low), (right, low), (right, high), (left, high), (left, low))
+
+
+class Station:
+    """The files of the station, as they are changed for one example."""
+
+    def __init__(self):
+        self.files = {}
+        for name in sorted(os.listdir(os.path.join(TOP, "examples", "station"))):
+            with open(os.path.join(TOP, "examples", "station", name), encoding="utf-8") as file:
+                self.files[name] = json.load(file)
+
+    def list(self, kind):
+        return self.files.setdefault(f"{kind}.geojson", {"type": "FeatureCollection", "features": []})["features"]
+
+    def __getitem__(self, key):
+        """A feature by its type and the last digits of its identifier, as ("unit", "307")."""
+        return next(it for it in self.list(key[0]) if it["id"] == NAME.format(key[1]))
+
+    def its(self, kind, digits):
+        return self[kind, digits]["properties"]
+
+    def shape(self, kind, digits, coordinates):
+        self[kind, digits]["geometry"]["coordinates"] = coordinates
+
+    def more(self, kind, count, geometry, **properties):
+        start = 9_000_000_000
+        self.list(kind).extend({"type": "Feature", "id": NAME.format(start + k), "feature_type": kind, "geometry": geometry, "properties": properties} for k in range(count))
+
+    def write(self, folder):
+        for name, content in self.files.items():
+            with open(os.path.join(folder, name), "w", encoding="utf-8") as file:
+                file.write(content if isinstance(content, str) else json.dumps(content))
+
+
+def put(mapping, **members):
+    mapping.update(members)
+
+
+CORNER = {"type": "Point", "coordinates": at(20, 5)}
+ROOMS = [NAME.format(305), NAME.format(306)]
+# Of each rule, whether its finding has a place on the map, and the change.
+EXAMPLES = {
+    "F1": (False, lambda s: s.files.pop("manifest.json")),
+    "F3": (False, lambda s: put(s.files, **{"address.geojson": '{"a":'})),
+    "F4": (False, lambda s: put(s.files, **{"address.geojson": "[" * 65 + "]" * 65})),
+    "M1": (False, lambda s: put(s.files["manifest.json"], version="1.0")),
+    "M2": (False, lambda s: put(s.files["manifest.json"], created=None)),
+    "M3": (False, lambda s: put(s.files["manifest.json"], language=["en"])),
+    "C1": (False, lambda s: put(s.files, **{"address.geojson": "{}"})),
+    "C2": (True, lambda s: put(s["unit", 307], type="feature")),
+    "C3": (True, lambda s: put(s["unit", 307], id="307")),
+    "C4": (True, lambda s: put(s["unit", 307], feature_type="units")),
+    "C5": (True, lambda s: put(s["unit", 307], geometry={"type": "Point", "coordinates": at(61, 21)})),
+    "C6": (True, lambda s: s.its("unit", 307).pop("category")),
+    "V1": (True, lambda s: s.more("venue", 1, s["venue", 2]["geometry"])),
+    "L1": (True, lambda s: put(s.its("level", 11), ordinal=1.5)),
+    "Q1": (False, lambda s: put(s.its("relationship", 21), direction="both")),
+    "S3": (True, lambda s: s.shape("unit", 307, [[at(60 + k / 10_000, 20) for k in range(20_000)] + [at(60, 20)]])),
+    "S4": (False, lambda s: put(s.its("relationship", 21), intermediary=[{"id": NAME.format(101), "feature_type": "opening"}] * 64)),
+    "G1": (False, lambda s: s.shape("amenity", 31, ["10", 50])),
+    "G2": (True, lambda s: s.shape("opening", 101, [at(21, 40)])),
+    "C7": (True, lambda s: put(s["opening", 112], id=NAME.format(307))),
+    "X1": (True, lambda s: put(s.its("anchor", 41), unit_id=NAME.format(999))),
+    "X2": (True, lambda s: put(s.its("opening", 112), level_id=NAME.format(300))),
+    "G6": (True, lambda s: s.shape("anchor", 41, [10.3, 50.00004])),
+    "G3": (True, lambda s: s.shape("unit", 307, [ring((60, 20), (62, 22), (62, 20), (60, 21), (60, 20))])),
+    "G4": (True, lambda s: s["unit", 300]["geometry"]["coordinates"].append(box(85, 30, 95, 35))),
+    "G5": (True, lambda s: s.shape("unit", 307, [ring((60, 20), (62, 20), (61, 20), (60, 20))])),
+    "K1": (True, lambda s: s.shape("unit", 307, [box(60, 20, 62, 61)])),
+    "K2": (True, lambda s: s.shape("anchor", 41, at(22, 11))),
+    "K3": (True, lambda s: s.shape("amenity", 31, at(30, 45))),
+    "K4": (True, lambda s: s.shape("opening", 112, ring((10, 14), (10, 61)))),
+    "S5": (True, lambda s: s.more("opening", 4_091, {"type": "LineString", "coordinates": ring((80, 10), (81, 10))}, level_id=NAME.format(11))),
+    "S6": (True, lambda s: s.more("amenity", 3_160, CORNER, category="atm", unit_ids=ROOMS)),
+    "N1": (True, lambda s: put(s.its("unit", 306), category="shop")),
+    "N2": (False, lambda s: put(s.its("relationship", 22), category="walk")),
+    "N3": (False, lambda s: put(s.its("relationship", 21), intermediary=[{"id": NAME.format(10), "feature_type": "level"}])),
+    "N4": (True, lambda s: s.shape("opening", 106, ring((49, 12), (51, 12)))),
+    "N5": (True, lambda s: put(s.its("unit", 307), restriction="staff")),
+}
+# Where a picture tells more than words, it is kept, with the level that it shows.
+KEPT = dict.fromkeys(["G6", "G3", "G4", "G5", "K1", "K2", "K3", "K4", "N4"], "0")
+
+
+def told():
+    """What docs/RULES.md says that is printed of each rule's example, the last row of a rule being a note's where it is one."""
+    with open(os.path.join(TOP, "docs", "RULES.md"), encoding="utf-8") as file:
+        return dict(re.findall(r"(?m)^\| ([A-Z]\d) \|.*\| `([A-Z]\d [a-z.]+json \d+ \d+)` \|", file.read()))
+
+
+def draw(program, base, level=None, folder="example"):
+    words = [sys.executable, os.path.join(TOP, "examples", "map.py"), base, folder] + (["--level", level] if level else [])
+    return subprocess.run(words, capture_output=True, env=os.environ | {"VENUE": program}, timeout=50).stdout.decode()
+
+
+def differs(program, base, rule, wanted, write):
+    """What is wrong with one example, None where nothing is."""
+    has_place, change = EXAMPLES[rule]
+    folder, station = os.path.join(base, "example"), Station()
+    shutil.rmtree(folder, ignore_errors=True)
+    os.mkdir(folder)
+    change(station)
+    station.write(folder)
+    picture, is_note = draw(program, base), rule[0] == "N"
+    try:
+        document = xml.dom.minidom.parseString(picture)
+    except xml.parsers.expat.ExpatError as error:
+        return f"the picture isn't well-formed: {error}"
+    heading, *texts = [it.firstChild.data for it in document.getElementsByTagName("text") if it.firstChild]
+    rows = [(a, b.split(" (")[0]) for a, b in zip(texts, texts[1:]) if re.fullmatch(r"[A-Z]\d", a)]
+    if not heading.endswith("notes 1" if is_note else "rejected 1") or rows != [tuple(wanted.split(" ", 1))]:
+        return f"{heading}: {rows} and not {wanted}"
+    rings = [it.getAttribute("class") for it in document.getElementsByTagName("circle")]
+    if (rings.count("ring"), rings.count("note")) != ((0, has_place) if is_note else (has_place, 0)):
+        return f"{rings.count('ring')} rings, {rings.count('note')} dashed ones"
+    return is_other(rule, draw(program, base, KEPT[rule]), write) if rule in KEPT else None
+
+
+def is_other(name, picture, write):
+    """What is said where another picture of that name is kept."""
+    path = os.path.join(PICTURES, f"{name}.svg")
+    if write:
+        with open(path, "w", encoding="utf-8") as file:
+            file.write(picture)
+    with open(path, encoding="utf-8") as file:
+        return None if file.read() == picture else "another picture is kept in docs/pictures"
+
+
+def main(words):
+    write = "--write" in words
+    program = next((os.path.abspath(word) for word in words if word != "--write"), os.path.join(TOP, "venue"))
+    rules, differences = told(), []
+    missing = sorted(set(rules) - set(EXAMPLES) - set(LEFT_OUT))
+    differences += [f"{rule}: no example is made" for rule in missing]
+    with tempfile.TemporaryDirectory() as base:
+        shutil.copy(os.path.join(TOP, "examples", "venue.toml"), base)
+        for rule in EXAMPLES:
+            wrong = differs(program, base, rule, rules.get(rule), write)
+            differences += [f"{rule}: {wrong}"] if wrong else []
+    tall = is_other("tall", draw(program, os.path.join(TOP, "examples"), "0", "tall"), write)
+    differences += [f"tall: {tall}"] if tall else []
+    for line in differences:
+        print(line, file=sys.stderr)
+    print(f"map_pictures: {len(EXAMPLES)} examples, {len(KEPT) + 1} kept pictures, {len(differences)} differences ({', '.join(LEFT_OUT)} left out)")
+    return 1 if differences else 0
+
+
+sys.exit(main(sys.argv[1:]))
