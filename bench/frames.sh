@@ -3,6 +3,7 @@
 # search for the empty line in front. Wants the kit (rt), python3, rustc and Debian's librust-httparse-dev.
 set -e
 cd "$(dirname "$0")/.."
+. bench/lay_out.sh
 crate=/usr/share/cargo/registry/httparse-1.8.0
 [ -e $crate ] || { echo "frames.sh: httparse 1.8 is not installed: apt-get install librust-httparse-dev" >&2; exit 1; }
 work=$(mktemp -d)
@@ -13,9 +14,8 @@ rustc --edition 2018 --crate-name httparse --crate-type rlib -O -C codegen-units
     --cfg httparse_simd --out-dir "$work" $crate/src/lib.rs
 rustc --edition 2021 -O -C codegen-units=1 --extern httparse="$work/libhttparse.rlib" -o "$work/time_httparse" bench/time_httparse.rs
 
-mkdir -p "$work/crates/wire_frames" "$work/crates/time_frames/src"
-cp -r crates/wire_frames/src crates/wire_frames/specs crates/wire_frames/proofs "$work/crates/wire_frames"
-printf 'wire_frames: httparse http1 memchr\ntime_frames: wire_frames\n' >"$work/crates.txt"
+# A repository of its own, with a program that frames them.
+lay_out "$work" time_frames wire_frames
 cat >"$work/crates/time_frames/src/main.rt" <<'END'
 //! Loads a stream of heads, frames all of them so many times and prints how many those were: `time_frames FILE HEADS ROUNDS`.
 #![tactic(auto)]

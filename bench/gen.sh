@@ -4,6 +4,7 @@
 # `gen 200` under two seconds and 400 MiB, at least 200 MB of text a second. Wants the kit (rt) and python3.
 set -e
 cd "$(dirname "$0")/.."
+. bench/lay_out.sh
 program=crates/venue_cli/out/venue_cli
 [ -x "$program" ] || ./venue price examples/table >/dev/null
 work=$(mktemp -d)
@@ -14,20 +15,7 @@ for levels in 50 200; do
 done
 
 # A repository of its own, with a program that tells the times of the parts.
-libraries=$(grep '^building_report:' crates.txt | cut -d: -f2)
-crates=()
-for library in $libraries building_report; do
-    [ ! -d "crates/$library" ] || crates+=("$library")
-done
-for crate in "${crates[@]}"; do
-    mkdir -p "$work/crates/$crate"
-    for part in src specs proofs; do
-        [ ! -d "crates/$crate/$part" ] || cp -r "crates/$crate/$part" "$work/crates/$crate"
-    done
-    grep "^$crate:" crates.txt >>"$work/crates.txt"
-done
-echo "time_parts: ${crates[*]}" >>"$work/crates.txt"
-mkdir -p "$work/crates/time_parts/src"
+lay_out "$work" time_parts building_report
 cat >"$work/crates/time_parts/src/main.rt" <<'END'
 //! `time_parts` prints the milliseconds of making the text of a building of 200 levels, of making its venue, and of all that `gen` does,
 //! and how many bytes the text has.

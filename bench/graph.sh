@@ -4,6 +4,7 @@
 # Wants the kit (rt), python3, rustc and gcc. The first build proves some twenty crates and takes a while.
 set -e
 cd "$(dirname "$0")/.."
+. bench/lay_out.sh
 levels=${1:-200}
 work=$(mktemp -d)
 trap 'rm -rf "$work"' EXIT
@@ -12,18 +13,8 @@ rustc --edition 2021 -O -C codegen-units=1 -o "$work/time_rows" bench/time_rows.
 gcc -O2 -shared -fPIC -o "$work/count_bytes.so" bench/count_bytes.c
 
 # A repository of its own, with a program that times the call.
-crates=(venue_types venue_ports walk_laws step_count geo_decimal exact_json report_laws plane_exact plane_bands imdf_access geo_shapes
-    imdf_schema venue_folder station_folder imdf_rows imdf_read feature_rows reading_laws imdf_refs ring_rules opening_match venue_nodes
-    link_graph)
-mkdir -p "$work/crates/time_graph/src" "$work/crates/time_graph/proofs"/{judged,read}
-for crate in "${crates[@]}"; do
-    mkdir "$work/crates/$crate"
-    for part in src specs proofs; do
-        [ ! -d "crates/$crate/$part" ] || cp -r "crates/$crate/$part" "$work/crates/$crate"
-    done
-    grep "^$crate:" crates.txt >>"$work/crates.txt"
-done
-echo "time_graph: ${crates[*]}" >>"$work/crates.txt"
+lay_out "$work" time_graph link_graph venue_folder venue_ports station_folder imdf_read reading_laws imdf_refs ring_rules opening_match
+mkdir -p "$work/crates/time_graph/proofs"/{judged,read}
 cat >"$work/crates/time_graph/src/main.rt" <<'END'
 //! Times the making of the graph of a folder, so many times, and prints the least milliseconds and the number of its nodes:
 //! `time_graph FOLDER ROUNDS`. With no rounds it prints the table of its links, and marks the making for `count_bytes.c`.

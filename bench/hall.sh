@@ -5,26 +5,14 @@
 # with nothing else to do. The first build proves some thirty crates and takes a while.
 set -e
 cd "$(dirname "$0")/.."
+. bench/lay_out.sh
 work=$(mktemp -d)
 trap 'rm -rf "$work"' EXIT
 python3 bench/levels.py 50 "$work/base"
 
 # A repository of its own, with a program that asks.
-libraries=$(grep '^board_copies:' crates.txt | cut -d: -f2)
-crates=()
-for library in $libraries board_copies; do
-    [ ! -d "crates/$library" ] || crates+=("$library")
-done
-for crate in "${crates[@]}"; do
-    mkdir -p "$work/crates/$crate"
-    for part in src specs proofs; do
-        [ ! -d "crates/$crate/$part" ] || cp -r "crates/$crate/$part" "$work/crates/$crate"
-    done
-    grep "^$crate:" crates.txt >>"$work/crates.txt"
-done
-echo "time_copies: ${crates[*]} left_right logbook crossbeam_utils atomic_table core" >>"$work/crates.txt"
-cp HANDLES "$work"
-mkdir -p "$work/crates/time_copies/src" "$work/crates/time_copies/proofs/sharing/workers"
+lay_out "$work" time_copies board_copies left_right logbook crossbeam_utils atomic_table core
+mkdir -p "$work/crates/time_copies/proofs/sharing/workers"
 : >"$work/crates/time_copies/proofs/Lib.antt"
 cat >"$work/crates/time_copies/src/main.rt" <<'END'
 //! In how many seconds so many readers ask so many questions, while a writer closes and reopens a lift a hundred times a second:

@@ -3,6 +3,7 @@
 # Wants the kit (rt), python3, g++ and Debian's rapidjson-dev. The first build proves the crate and takes some minutes.
 set -e
 cd "$(dirname "$0")/.."
+. bench/lay_out.sh
 [ -e /usr/include/rapidjson/document.h ] || { echo "json.sh: RapidJSON is not installed: apt-get install rapidjson-dev" >&2; exit 1; }
 work=$(mktemp -d)
 trap 'rm -rf "$work"' EXIT
@@ -10,9 +11,7 @@ python3 bench/make_json.py "$work/features.json" "$work/rings.json"
 g++ -O3 -DNDEBUG -std=c++17 -o "$work/read_rapidjson" bench/read_rapidjson.cpp
 
 # A repository of its own, with a program that times both readers of Rattle.
-mkdir -p "$work/crates/exact_json" "$work/crates/read_json/src"
-cp -r crates/exact_json/src crates/exact_json/specs crates/exact_json/proofs "$work/crates/exact_json"
-printf 'exact_json:\nread_json: exact_json json\n' >"$work/crates.txt"
+lay_out "$work" read_json exact_json json
 cat >"$work/crates/read_json/src/main.rt" <<'END'
 //! Loads a file, reads its bytes as JSON by the reader that is named, and prints the seconds of the reading.
 #![tactic(auto)]

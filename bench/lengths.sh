@@ -3,14 +3,14 @@
 # `u64::isqrt`. Wants the kit (rt) and rustc 1.84 or later. Prints nanoseconds a length, the least of three times in turns.
 set -e
 cd "$(dirname "$0")/.."
+. bench/lay_out.sh
 work=$(mktemp -d)
 trap 'rm -rf "$work"' EXIT
 rustc --edition 2021 -O -C codegen-units=1 -o "$work/time_lengths" bench/time_lengths.rs
 
 # A repository of its own, with a program that times the call.
-mkdir -p "$work/crates/time_lengths/src" "$work/crates/time_lengths/proofs/sum_of"
-cp -a crates/venue_types crates/plane_exact "$work/crates/"
-printf 'venue_types: uuid\nplane_exact: venue_types\ntime_lengths: venue_types plane_exact\n' >"$work/crates.txt"
+lay_out "$work" time_lengths plane_exact
+mkdir -p "$work/crates/time_lengths/proofs/sum_of"
 cat >"$work/crates/time_lengths/src/main.rt" <<'RT'
 //! Times `length_cm` over a million pairs of places.
 #![tactic(auto)]

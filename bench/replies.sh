@@ -4,6 +4,7 @@
 # Debian's librust-serde-json-dev. Prints the least time of a reply in turns; the bytes of both sides are compared.
 set -e
 cd "$(dirname "$0")/.."
+. bench/lay_out.sh
 work=$(mktemp -d)
 trap 'rm -rf "$work"' EXIT
 
@@ -13,23 +14,7 @@ rust_program bench/time_replies.rs
 mv "$work/time_replies" "$work/theirs"
 
 # A repository of its own, with a program that times the call.
-mkdir -p "$work/crates/time_replies/src"
-for crate in venue_types line_forms geo_decimal exact_json geo_shapes imdf_schema check_text wire_frames wire_replies; do
-    mkdir "$work/crates/$crate"
-    cp -r crates/$crate/src crates/$crate/specs crates/$crate/proofs "$work/crates/$crate"
-done
-cat >"$work/crates.txt" <<'END'
-venue_types: uuid
-line_forms:
-geo_decimal:
-exact_json:
-geo_shapes: venue_types exact_json geo_decimal
-imdf_schema: venue_types exact_json geo_decimal geo_shapes
-check_text: venue_types exact_json geo_decimal geo_shapes line_forms imdf_schema
-wire_frames: httparse http1 memchr
-wire_replies: venue_types exact_json geo_decimal geo_shapes imdf_schema check_text wire_frames json serde_json http itoa
-time_replies: venue_types exact_json geo_decimal geo_shapes imdf_schema check_text wire_frames wire_replies
-END
+lay_out "$work" time_replies wire_replies
 cat >"$work/crates/time_replies/src/main.rt" <<'END'
 //! Writes a reply to a file, times how long its bytes take, and prints the least time of a reply in so many batches of so many,
 //! in nanoseconds: `time_replies (version | route | few | many) FILE BATCHES TIMES`.

@@ -4,6 +4,7 @@
 # rustc and Debian's librust-httparse-dev, librust-form-urlencoded-dev and librust-serde-json-dev.
 set -e
 cd "$(dirname "$0")/.."
+. bench/lay_out.sh
 work=$(mktemp -d)
 trap 'rm -rf "$work"' EXIT
 
@@ -15,17 +16,8 @@ rust_crate form_urlencoded 1
 rust_serde_json
 rust_program bench/time_requests.rs
 
-mkdir -p "$work/crates/time_requests/src"
-for crate in venue_types wire_frames venue_wire; do
-    mkdir "$work/crates/$crate"
-    cp -r crates/$crate/src crates/$crate/specs crates/$crate/proofs "$work/crates/$crate"
-done
-cat >"$work/crates.txt" <<'END'
-venue_types: uuid
-wire_frames: httparse http1 memchr
-venue_wire: venue_types wire_frames uuid httparse http1 matchit form_urlencoded serde_json
-time_requests: venue_types wire_frames venue_wire
-END
+# A repository of its own, with a program that takes the requests.
+lay_out "$work" time_requests venue_wire
 cat >"$work/crates/time_requests/src/main.rt" <<'END'
 //! Loads a stream of requests, takes all of them so many times and prints how many those were, and a sum of what they ask for:
 //! `time_requests FILE REQUESTS ROUNDS`.

@@ -3,6 +3,7 @@
 # Wants the kit (rt), python3 and g++; GEOS is Debian's libgeos-dev. The first build proves three crates and takes some minutes.
 set -e
 cd "$(dirname "$0")/.."
+. bench/lay_out.sh
 work=$(mktemp -d)
 trap 'rm -rf "$work"' EXIT
 python3 bench/make_rings.py "$work/rings.txt"
@@ -11,11 +12,8 @@ geos=()
 g++ -O3 -DNDEBUG -std=c++17 -o "$work/rings" bench/rings.cpp "${geos[@]}"
 
 # A repository of its own, with a program that times the calls.
-mkdir -p "$work/crates/time_rings/src" "$work/crates/time_rings/specs"
-cp -a crates/venue_types crates/plane_exact crates/plane_bands "$work/crates/"
-printf 'venue_types: uuid\nplane_exact: venue_types\nplane_bands: venue_types plane_exact\ntime_rings: venue_types plane_exact plane_bands\n' >"$work/crates.txt"
+lay_out "$work" time_rings plane_bands
 proofs="$work/crates/time_rings/proofs"
-rm -r "$work/crates/time_rings/specs"
 mkdir -p "$proofs"/{is_found,ready,crossing,ring}
 cat >"$work/crates/time_rings/src/main.rt" <<'END'
 //! Times the bands of the rings that a file holds, a line a ring: its name, a number of positions, x and y of each.

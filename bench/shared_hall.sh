@@ -6,27 +6,15 @@
 # crates and takes a while.
 set -e
 cd "$(dirname "$0")/.."
+. bench/lay_out.sh
 work=$(mktemp -d)
 trap 'rm -rf "$work"' EXIT
 python3 bench/levels.py 50 "$work/base"
 python3 bench/folder.py "$work/large"
 
 # A repository of its own, with a program that changes and asks.
-libraries=$(grep '^shared_hall:' crates.txt | cut -d: -f2)
-crates=()
-for library in $libraries shared_hall; do
-    [ ! -d "crates/$library" ] || crates+=("$library")
-done
-for crate in "${crates[@]}"; do
-    mkdir -p "$work/crates/$crate"
-    for part in src specs proofs; do
-        [ ! -d "crates/$crate/$part" ] || cp -r "crates/$crate/$part" "$work/crates/$crate"
-    done
-    grep "^$crate:" crates.txt >>"$work/crates.txt"
-done
-echo "time_hall: ${crates[*]} left_right logbook crossbeam_utils atomic_table core" >>"$work/crates.txt"
-cp HANDLES "$work"
-mkdir -p "$work/crates/time_hall/src" "$work/crates/time_hall/proofs/seating/hall_over"
+lay_out "$work" time_hall shared_hall left_right logbook crossbeam_utils atomic_table core
+mkdir -p "$work/crates/time_hall/proofs/seating/hall_over"
 : >"$work/crates/time_hall/proofs/Lib.antt"
 cat >"$work/crates/time_hall/src/main.rt" <<'END'
 //! What seats of one hall do at once:

@@ -5,6 +5,7 @@
 # first build proves some twenty crates and takes a while.
 set -e
 cd "$(dirname "$0")/.."
+. bench/lay_out.sh
 work=$(mktemp -d)
 trap 'rm -rf "$work"' EXIT
 python3 bench/folder.py "$work/venue"
@@ -12,17 +13,8 @@ python3 bench/doors.py "$work/venue"
 g++ -O3 -DNDEBUG -std=c++17 -o "$work/touches" bench/touches.cpp
 
 # A repository of its own, with a program that times the call.
-crates=(venue_types venue_ports geo_decimal exact_json report_laws plane_exact plane_bands imdf_access geo_shapes imdf_schema
-    venue_folder station_folder imdf_rows imdf_read feature_rows reading_laws ring_rules opening_match)
-mkdir -p "$work/crates/time_touches/src" "$work/crates/time_touches/proofs/read"
-for crate in "${crates[@]}"; do
-    mkdir "$work/crates/$crate"
-    for part in src specs proofs; do
-        [ ! -d "crates/$crate/$part" ] || cp -r "crates/$crate/$part" "$work/crates/$crate"
-    done
-    grep "^$crate:" crates.txt >>"$work/crates.txt"
-done
-echo "time_touches: ${crates[*]}" >>"$work/crates.txt"
+lay_out "$work" time_touches opening_match venue_folder venue_ports station_folder imdf_read reading_laws ring_rules
+mkdir -p "$work/crates/time_touches/proofs/read"
 cat >"$work/crates/time_touches/src/main.rt" <<'RT'
 //! Times which openings of a folder touch which units, so many times: `time_touches FOLDER ROUNDS`. Prints the least milliseconds of a
 //! call, the number of touches, a sum of them, and the milliseconds of reading the folder.
