@@ -3,7 +3,6 @@ use Rattle.std.proofs.Common.{◌≡◌, ◌≢◌, ℕ, suc, ◌≤◌, Bool, t
 use Rattle.std.proofs.lemmas.List.{append-nil, append_cancel_right}
 use Rattle.std.specs.Borrow.{Bor}
 use Rattle.std.specs.List.{Contains, starts_with}
-use Rattle.std.specs.Global.{Vec, Box}
 use Rattle.exact_json.specs.Json.{Json, null, boolean, number}
 use Rattle.exact_json.specs.Number.{head}
 use Rattle.exact_json.specs.StringReading.{text_at}
@@ -110,11 +109,11 @@ inside c [] rest front back e le = absurd (omega (arith, ap length e, length-app
 inside c (x ∷ f) rest [] back e le = (0, omega arith, ap head e)
 inside c (x ∷ f) rest (y ∷ front) back e le = let h = inside c f rest front back (ap (drop 1) e) le in (suc h.0, omega (arith, h.1), h.2)
 
-pub made_text : (b rest : List ℕ) (v : Box (Vec ℕ)) → text_at 0 b ≡ Some (v.value.items, rest) → (front back : List ℕ) × (b ≡ front ++ 92 ∷ back) × (length rest ≤ length back) → AreTextsBefore (Made v ∷ []) (34 ∷ b) rest
-made_text b rest v h escaped =
-    let f = string_front b v.value.items rest h in
+pub made_text : (b rest : List ℕ) (s : Bor (List ℕ)) → text_at 0 b ≡ Some (s.now, rest) → (front back : List ℕ) × (b ≡ front ++ 92 ∷ back) × (length rest ≤ length back) → AreTextsBefore (Made s ∷ []) (34 ∷ b) rest
+made_text b rest s h escaped =
+    let f = string_front b s.now rest h in
     let c = inside 92 f.0 rest escaped.0 escaped.1 (sym f.1 ∙ escaped.2) escaped.3 in
-    one_text (Made v) b f.0 rest f.1 (record { spelled = from_reading _ (34 ∷ f.0) (f.0, refl, f.2); slice = (suc c.0, omega (arith, c.1), c.2) })
+    one_text (Made s) b f.0 rest f.1 (record { spelled = from_reading _ (34 ∷ f.0) (f.0, refl, f.2); slice = (suc c.0, omega (arith, c.1), c.2) })
 
 -- ---- a whole text
 

@@ -2,11 +2,11 @@
 use Rattle.std.specs.Prelude.{◌≡◌, ◌≢◌, ℕ, List, [], ◌∷◌, ◌++◌, map}
 use Rattle.std.specs.List.{AllByRecursion, Contains}
 use Rattle.exact_json.specs.Strings.{IsText}
-use Rattle.exact_json.specs.View.{text_view, items_step, members_step}
+use Rattle.exact_json.specs.View.{text_view}
 use Rattle.exact_json.specs.declared.tree.JsonText.{JsonText}
 use Rattle.exact_json.specs.declared.tree.JsonText.TheVariants.{Plain, Made}
 use Rattle.exact_json.specs.declared.tree.Tree.{Tree, fold-Tree}
-use Rattle.exact_json.specs.declared.tree.Items.TheOpen.{Tree-F}
+use Rattle.exact_json.specs.declared.tree.Tree.TheOpen.{Tree-F}
 use Rattle.exact_json.specs.declared.tree.Pair.{Pair}
 
 -- one list after another
@@ -15,18 +15,18 @@ in_turn [] = []
 in_turn (ts ∷ tss) = ts ++ in_turn tss
 
 -- one level, with each tree inside already seen as its texts
-abbrev pub texts_step : Tree-F (List JsonText) (List JsonText) (List JsonText) (List JsonText) → List JsonText
+abbrev pub texts_step : Tree-F (List JsonText) (List JsonText) (List JsonText) → List JsonText
 texts_step Tree-F.Null = []
 texts_step (Tree-F.Bool b) = []
 texts_step (Tree-F.Number s) = []
 texts_step (Tree-F.Plain s) = Plain s ∷ []
 texts_step (Tree-F.Made b) = Made b ∷ []
-texts_step (Tree-F.Items v) = v
+texts_step (Tree-F.Items v) = in_turn v.now
 texts_step (Tree-F.Object v) = v
 
 -- the texts of a tree in order, names too
 abbrev pub texts_of : Tree → List JsonText
-texts_of = fold-Tree (List JsonText) (List JsonText) (List JsonText) (List JsonText) (λ x. in_turn (items_step x)) (λ x. in_turn (members_step x)) texts_step (λ x. x.name ∷ x.value)
+texts_of = fold-Tree (List JsonText) (List JsonText) (List JsonText) texts_step (λ x. in_turn x.pairs.now) (λ x. x.name ∷ x.value)
 
 -- those of a list's items
 abbrev pub items_texts : List Tree → List JsonText

@@ -1,7 +1,7 @@
 //! A JSON text (RFC 8259) as a tree whose numbers stay tokens.
 #![tactic(auto)]
 
-mod closed;
+mod arena;
 mod fault;
 mod kinds;
 pub mod laws;
@@ -15,6 +15,7 @@ mod tree;
 mod unclosed;
 mod whole;
 
+pub use arena::Arena;
 pub use fault::JsonFault;
-pub use tree::{Items, JsonText, Members, Pair, Tree};
+pub use tree::{JsonText, Members, Pair, Tree};
 pub use whole::read;

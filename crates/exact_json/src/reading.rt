@@ -2,18 +2,17 @@
 
 ghost use Rattle.std.specs.Prelude.{◌≡◌, ◌≤◌, ◌<◌, [], ◌∷◌, length, map, IfOk, IfSome, OnOk, option_map};
 ghost use Rattle.exact_json.specs.Number.{ends_value};
-ghost use Rattle.exact_json.specs.View.{tree_view, text_view, pair_view, trees_in, pairs_in};
+ghost use Rattle.exact_json.specs.View.{tree_view, text_view, pair_view};
 ghost use Rattle.exact_json.specs.Slices.{texts_of, items_texts, pair_texts, members_texts, AreTextsBefore};
 ghost use Rattle.exact_json.specs.Unclosed.{Keeps};
 ghost use Rattle.exact_json.specs.Reading.{Gives, Finds, skip, elements_at, value, scalar_at, token_at, number_at, name_at, pair_at, literal};
 
-use crate::closed::{items_from, members_from, no_items, no_members};
+use crate::arena::Arena;
 use crate::fault::JsonFault;
 use crate::number::{after, after_number, byte_at};
 use crate::text::read_text;
-use crate::tree::{Items, JsonText, Members, Pair, Tree, array, record, string};
+use crate::tree::{JsonText, Pair, Tree, array, record, string};
 use crate::unclosed::Unclosed;
-use std::alloc::Global;
 
 pub(crate) fn skip_spaces(text: &[u8]) -> &[u8]
     ensures value { result.now ≡ skip text.now }
@@ -83,13 +82,13 @@ pub(crate) fn read_token(text: &[u8]) -> Option<(Tree<'_>, &[u8])>
 
 // A value that is no list and no object.
 #[inline(always)]
-fn read_scalar<'a>(alloc: Global, text: &'a [u8]) -> Result<(Tree<'a>, &'a [u8]), JsonFault>
+fn read_scalar<'a>(arena: &'a Arena, text: &'a [u8]) -> Result<(Tree<'a>, &'a [u8]), JsonFault>
     ensures value { Finds (λ r. (tree_view r.0, r.1.now)) (scalar_at text.now) result }
     ensures slices { IfOk result (λ r. AreTextsBefore (texts_of r.0) text.now r.1.now) }
     ensures within { IfOk result (λ r. length r.1.now ≤ length text.now) }
 {
     if byte_at(text, 0) == b'"' {
-        let (bytes, rest) = read_text(alloc, after(text, 1))?;
+        let (bytes, rest) = read_text(arena, after(text, 1))?;
         return Ok((string(bytes), rest));
     }
     match read_token(text) {
@@ -100,7 +99,7 @@ fn read_scalar<'a>(alloc: Global, text: &'a [u8]) -> Result<(Tree<'a>, &'a [u8])
 
 // A name and its colon.
 #[tactic(auto, unfolding(crate::specs::Reading::name_at))]
-fn read_name<'a>(alloc: Global, text: &'a [u8]) -> Result<(JsonText<'a>, &'a [u8]), JsonFault>
+fn read_name<'a>(arena: &'a Arena, text: &'a [u8]) -> Result<(JsonText<'a>, &'a [u8]), JsonFault>
     ensures value { Finds (λ r. (text_view r.0, r.1.now)) (name_at text.now) result }
     ensures slices { IfOk result (λ r. AreTextsBefore (r.0 ∷ []) text.now r.1.now) }
     ensures within { IfOk result (λ r. length r.1.now ≤ length text.now) }
@@ -108,7 +107,7 @@ fn read_name<'a>(alloc: Global, text: &'a [u8]) -> Result<(JsonText<'a>, &'a [u8
     if byte_at(text, 0) != b'"' {
         return Err(JsonFault::Text);
     }
-    let (name, rest) = read_text(alloc, after(text, 1))?;
+    let (name, rest) = read_text(arena, after(text, 1))?;
     let mark = skip_spaces(rest);
     if byte_at(mark, 0) == b':' {
         Ok((name, after(mark, 1)))
@@ -121,7 +120,7 @@ fn read_name<'a>(alloc: Global, text: &'a [u8]) -> Result<(JsonText<'a>, &'a [u8
 #[cycle(read)]
 #[inline(always)]
 pub(crate) fn read_value<'a>(
-    alloc: Global,
+    arena: &'a Arena,
     unclosed: &mut Unclosed<'a>,
     text: &'a [u8],
     depth: usize,
@@ -137,17 +136,17 @@ pub(crate) fn read_value<'a>(
             if depth == 0 {
                 return Err(JsonFault::Deep);
             }
-            let (list, rest) = read_items(alloc, unclosed, after(text, 1), depth - 1)?;
+            let (list, rest) = read_items(arena, unclosed, after(text, 1), depth - 1)?;
             Ok((array(list), rest))
         }
         b'{' => {
             if depth == 0 {
                 return Err(JsonFault::Deep);
             }
-            let (pairs, rest) = read_members(alloc, unclosed, after(text, 1), depth - 1)?;
+            let (pairs, rest) = read_members(arena, unclosed, after(text, 1), depth - 1)?;
             Ok((record(pairs), rest))
         }
-        _ => read_scalar(alloc, text),
+        _ => read_scalar(arena, text),
     }
 }
 
@@ -155,31 +154,31 @@ pub(crate) fn read_value<'a>(
 #[cycle(read)]
 #[inline(never)]
 fn read_items<'a>(
-    alloc: Global,
+    arena: &'a Arena,
     unclosed: &mut Unclosed<'a>,
     text: &'a [u8],
     depth: usize,
-) -> Result<(Items<'a>, &'a [u8]), JsonFault>
+) -> Result<(&'a [Tree<'a>], &'a [u8]), JsonFault>
     requires { depth ≤ 64 }
-    ensures value { Gives (λ r. (map tree_view (trees_in r.0), r.1.now)) depth
+    ensures value { Gives (λ r. (map tree_view r.0.now, r.1.now)) depth
         (λ d. elements_at 93 (value d) text.now) result }
-    ensures slices { IfOk result (λ r. AreTextsBefore (items_texts (trees_in r.0)) text.now r.1.now) }
+    ensures slices { IfOk result (λ r. AreTextsBefore (items_texts r.0.now) text.now r.1.now) }
     ensures within { IfOk result (λ r. length r.1.now ≤ length text.now) }
     ensures kept { OnOk result (Keeps unclosed.old unclosed.new) }
 {
     let mut rest = skip_spaces(text);
     if byte_at(rest, 0) == b']' {
-        return Ok((no_items(alloc)?, after(rest, 1)));
+        return Ok((&[], after(rest, 1)));
     }
     let start = unclosed.trees.len();
     loop {
-        let (tree, behind) = read_value(alloc, unclosed, skip_spaces(rest), depth)?;
+        let (tree, behind) = read_value(arena, unclosed, skip_spaces(rest), depth)?;
         unclosed.trees.push(tree)?;
         let mark = skip_spaces(behind);
         match byte_at(mark, 0) {
             b',' => rest = after(mark, 1),
             b']' => {
-                let items = items_from(alloc, &mut unclosed.trees, start)?;
+                let items = arena.close(&mut unclosed.trees, start)?;
                 return Ok((items, after(mark, 1)));
             }
             _ => return Err(JsonFault::Text),
@@ -191,7 +190,7 @@ fn read_items<'a>(
 #[cycle(read)]
 #[inline(always)]
 fn read_pair<'a>(
-    alloc: Global,
+    arena: &'a Arena,
     unclosed: &mut Unclosed<'a>,
     text: &'a [u8],
     depth: usize,
@@ -203,8 +202,8 @@ fn read_pair<'a>(
     ensures within { IfOk result (λ r. length r.1.now ≤ length text.now) }
     ensures kept { OnOk result (Keeps unclosed.old unclosed.new) }
 {
-    let (name, rest) = read_name(alloc, text)?;
-    let (value, behind) = read_value(alloc, unclosed, skip_spaces(rest), depth)?;
+    let (name, rest) = read_name(arena, text)?;
+    let (value, behind) = read_value(arena, unclosed, skip_spaces(rest), depth)?;
     Ok((Pair { name, value }, behind))
 }
 
@@ -212,32 +211,32 @@ fn read_pair<'a>(
 #[cycle(read)]
 #[inline(never)]
 fn read_members<'a>(
-    alloc: Global,
+    arena: &'a Arena,
     unclosed: &mut Unclosed<'a>,
     text: &'a [u8],
     depth: usize,
-) -> Result<(Members<'a>, &'a [u8]), JsonFault>
+) -> Result<(&'a [Pair<'a>], &'a [u8]), JsonFault>
     requires { depth ≤ 64 }
-    ensures value { Gives (λ r. (map pair_view (pairs_in r.0), r.1.now)) depth
+    ensures value { Gives (λ r. (map pair_view r.0.now, r.1.now)) depth
         (λ d. elements_at 125 (pair_at (value d)) text.now) result }
-    ensures slices { IfOk result (λ r. AreTextsBefore (members_texts (pairs_in r.0)) text.now r.1.now) }
+    ensures slices { IfOk result (λ r. AreTextsBefore (members_texts r.0.now) text.now r.1.now) }
     ensures within { IfOk result (λ r. length r.1.now ≤ length text.now) }
     ensures kept { OnOk result (Keeps unclosed.old unclosed.new) }
 {
     let mut rest = skip_spaces(text);
     if byte_at(rest, 0) == b'}' {
-        return Ok((no_members(alloc)?, after(rest, 1)));
+        return Ok((&[], after(rest, 1)));
     }
     let start = unclosed.pairs.len();
     loop {
-        let (pair, behind) = read_pair(alloc, unclosed, skip_spaces(rest), depth)?;
+        let (pair, behind) = read_pair(arena, unclosed, skip_spaces(rest), depth)?;
         unclosed.pairs.push(pair)?;
         let mark = skip_spaces(behind);
         match byte_at(mark, 0) {
             b',' => rest = after(mark, 1),
             b'}' => {
-                let members = members_from(alloc, &mut unclosed.pairs, start)?;
-                return Ok((members, after(mark, 1)));
+                let pairs = arena.close(&mut unclosed.pairs, start)?;
+                return Ok((pairs, after(mark, 1)));
             }
             _ => return Err(JsonFault::Text),
         }

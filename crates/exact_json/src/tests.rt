@@ -2,7 +2,7 @@
 
 mod table;
 
-use crate::{JsonFault, Tree, read};
+use crate::{Arena, JsonFault, Tree, read};
 use std::alloc::Global;
 use std::test::Fail;
 use table::{STRINGS, TABLE};
@@ -16,7 +16,7 @@ pub(crate) enum Answer {
 }
 
 fn answer_to(alloc: Global, bytes: &[u8]) -> Answer {
-    match read(alloc, bytes) {
+    match read(&Arena::new(alloc), bytes) {
         Ok(_) => Answer::Fine,
         Err(JsonFault::Text) => Answer::Text,
         Err(JsonFault::Deep) => Answer::Deep,
@@ -25,7 +25,7 @@ fn answer_to(alloc: Global, bytes: &[u8]) -> Answer {
 }
 
 fn is_text(alloc: Global, bytes: &[u8], wanted: &[u8]) -> bool {
-    match read(alloc, bytes) {
+    match read(&Arena::new(alloc), bytes) {
         Ok(tree) => tree.as_text() == Some(wanted),
         Err(_) => false,
     }
@@ -47,7 +47,8 @@ fn strings(rt: HostRuntime) {
 
 #[test]
 fn parts(rt: HostRuntime) -> Result<(), Fail> {
-    let tree = read(rt.alloc(), b"{\"a\":1e+2,\"b\":[true,null],\"a\":\"x\"}")
+    let arena = Arena::new(rt.alloc());
+    let tree = read(&arena, b"{\"a\":1e+2,\"b\":[true,null],\"a\":\"x\"}")
         .ok()
         .ok_or("read")?;
     let object = tree.as_object().ok_or("object")?;

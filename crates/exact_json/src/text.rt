@@ -1,6 +1,6 @@
 //! Strings (RFC 8259, section 7), from behind the opening quote on.
 
-ghost use Rattle.std.specs.Prelude.{◌≡◌, ◌≢◌, ◌+◌, ◌≤◌, ◌<◌, ◌++◌, [], ◌∷◌, length, option_map, IfOk, IfSome, OnOk, SomeIff, encode_utf8};
+ghost use Rattle.std.specs.Prelude.{◌≡◌, ◌≢◌, ◌+◌, ◌≤◌, ◌<◌, ◌++◌, [], ◌∷◌, true, drop, length, option_map, IfOk, IfSome, OnOk, SomeIff, encode_utf8};
 ghost use Rattle.std.specs.List.{prefix_len};
 ghost use Rattle.std.specs.Char.{digit_value};
 ghost use Rattle.exact_json.specs.Strings.{short_escape, is_low};
@@ -10,6 +10,7 @@ ghost use Rattle.exact_json.specs.View.{text_view};
 ghost use Rattle.exact_json.specs.Slices.{AreTextsBefore};
 ghost use Rattle.exact_json.specs.Scanning.{rest_of};
 
+use crate::arena::Arena;
 use crate::fault::JsonFault;
 use crate::number::{after, byte_at};
 use crate::tree::JsonText;
@@ -18,13 +19,39 @@ use std::alloc::{AllocError, Global};
 // What is written for half of a surrogate pair alone.
 const REPLACEMENT: char = '\u{fffd}';
 
+// A byte that stands for itself.
+#[inline(always)]
+fn is_plain(byte: u8) -> bool
+    ensures { result ≡ is_plain byte }
+{
+    (byte != b'"') & (byte != b'\\') & (byte >= 0x20)
+}
+
+// Eight bytes stand in front, each for itself.
+#[inline(always)]
+fn are_eight_plain(text: &[u8]) -> bool
+    ensures { result ≡ true → (8 ≤ length text.now)
+        × (prefix_len is_plain text.now ≡ 8 + prefix_len is_plain (drop 8 text.now)) }
+{
+    match text {
+        [a, b, c, d, e, f, g, h, ..] => {
+            let first = is_plain(*a) & is_plain(*b) & is_plain(*c) & is_plain(*d);
+            first & is_plain(*e) & is_plain(*f) & is_plain(*g) & is_plain(*h)
+        }
+        _ => false,
+    }
+}
+
 // How many bytes in front stand for themselves.
 fn plain_len(text: &[u8]) -> usize
     ensures value { result ≡ prefix_len is_plain text.now }
     ensures within { result ≤ length text.now }
 {
     let mut i = 0;
-    while i < text.len() && text[i] != b'"' && text[i] != b'\\' && text[i] >= 0x20 {
+    while are_eight_plain(after(text, i)) {
+        i += 8;
+    }
+    while i < text.len() && is_plain(text[i]) {
         i += 1;
     }
     i
@@ -183,7 +210,7 @@ fn unescape<'a>(alloc: Global, text: &'a [u8]) -> Result<(Vec<u8>, &'a [u8]), Js
 /// The text up to the closing quote, and what follows that. A text without escapes is not copied.
 #[inline(always)]
 pub(crate) fn read_text<'a>(
-    alloc: Global,
+    arena: &'a Arena,
     text: &'a [u8],
 ) -> Result<(JsonText<'a>, &'a [u8]), JsonFault>
     ensures value { Finds (λ r. (text_view r.0, r.1.now)) (text_at 0 text.now) result }
@@ -195,7 +222,7 @@ pub(crate) fn read_text<'a>(
     if byte_at(stop, 0) == b'"' {
         Ok((JsonText::Plain(text.split_at(count).0), after(stop, 1)))
     } else {
-        let (made, rest) = unescape(alloc, text)?;
-        Ok((JsonText::Made(Box::new(alloc, made)?), rest))
+        let (made, rest) = unescape(arena.alloc(), text)?;
+        Ok((JsonText::Made(arena.keep(made.as_slice())?), rest))
     }
 }

@@ -8,6 +8,7 @@ ghost use Rattle.exact_json.specs.Grammar.{IsSpace, IsJson, Starts, Answers, Mis
 ghost use Rattle.exact_json.specs.Reading.{value};
 ghost use Rattle.exact_json.specs.Scanning.{Reads};
 
+use crate::arena::Arena;
 use crate::fault::JsonFault;
 use crate::number::after;
 use crate::reading::{read_value, skip_spaces};
@@ -37,14 +38,14 @@ fn deep_fault(alloc: Global, start: &[u8]) -> JsonFault
     }
 }
 
-fn read_start<'a>(alloc: Global, start: &'a [u8]) -> Result<Tree<'a>, JsonFault>
+fn read_start<'a>(arena: &'a Arena, start: &'a [u8]) -> Result<Tree<'a>, JsonFault>
     ensures only { (j : Json) → (z : List ℕ) → IsSpace z → Reads start.now j z → Answers j result }
     ensures found { IfOk result (λ t. Starts start.now (tree_view t) × (depth (tree_view t) ≤ 64)) }
     ensures slices { IfOk result (λ t. AreTextsOf (texts_of t) start.now) }
     ensures deep { result ≡ Err JsonFault.Deep → (j : Json) × Starts start.now j × (64 < depth j) }
 {
-    let mut unclosed = Unclosed::new(alloc);
-    match read_value(alloc, &mut unclosed, start, MAX_DEPTH) {
+    let mut unclosed = Unclosed::new(arena.alloc());
+    match read_value(arena, &mut unclosed, start, MAX_DEPTH) {
         Ok((tree, rest)) => {
             if skip_spaces(rest).is_empty() {
                 Ok(tree)
@@ -52,7 +53,7 @@ fn read_start<'a>(alloc: Global, start: &'a [u8]) -> Result<Tree<'a>, JsonFault>
                 Err(JsonFault::Text)
             }
         }
-        Err(JsonFault::Deep) => Err(deep_fault(alloc, start)),
+        Err(JsonFault::Deep) => Err(deep_fault(arena.alloc(), start)),
         Err(JsonFault::Text) => Err(JsonFault::Text),
         Err(JsonFault::OutOfMemory) => Err(JsonFault::OutOfMemory),
     }
@@ -73,10 +74,10 @@ fn bare(bytes: &[u8]) -> &[u8]
 ///
 /// A list or an object that nests deeper than 64 is refused as `Deep`, if the text is JSON.
 /// Not proved, but by the form of the code: it takes time in proportion to the bytes, and what is kept of a list or an
-/// object has no room to spare.
+/// object has no room to spare in its arena, in which all of a tree lies but the texts without escapes.
 /// No recursion is deeper than the limit: the functions that call themselves (`read_value` and those that it calls)
 /// require `depth ≤ 64`, are proved to end by a measure of `depth`, and pass one less behind each open bracket.
-pub fn read<'a>(alloc: Global, bytes: &'a [u8]) -> Result<Tree<'a>, JsonFault>
+pub fn read<'a>(arena: &'a Arena, bytes: &'a [u8]) -> Result<Tree<'a>, JsonFault>
     // What is read is what the bytes spell.
     ensures ok { IfOk result
         (λ t. IsJson bytes.now (tree_view t) × (depth (tree_view t) ≤ 64)) }
@@ -96,5 +97,5 @@ pub fn read<'a>(alloc: Global, bytes: &'a [u8]) -> Result<Tree<'a>, JsonFault>
     if std::str::from_utf8(text).is_err() {
         return Err(JsonFault::Text);
     }
-    read_start(alloc, skip_spaces(text))
+    read_start(arena, skip_spaces(text))
 }

@@ -3,7 +3,7 @@
 mod table;
 
 use crate::{ReadGeometry, line, point, shape};
-use exact_json::{Tree, read};
+use exact_json::{Arena, Tree, read};
 use std::alloc::Global;
 use std::test::Fail;
 use table::TABLE;
@@ -100,7 +100,8 @@ fn seen(alloc: Global, kind: Kind, tree: &Tree) -> Result<Seen, OutOfMemory> {
 #[test]
 fn geometries(rt: HostRuntime) -> Result<(), Fail> {
     for (kind, text, wanted) in &TABLE {
-        let tree = read(rt.alloc(), text)?;
+        let arena = Arena::new(rt.alloc());
+        let tree = read(&arena, text)?;
         assert_eq!(rt; seen(rt.alloc(), *kind, &tree)?, *wanted);
     }
     Ok(())

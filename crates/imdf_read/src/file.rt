@@ -14,7 +14,7 @@ ghost use Rattle.imdf_read.specs.Taking.{Serves, Takes, TakesItems, HasOnlyValue
 
 use crate::items::{Gathered, Taken, take_items};
 use crate::rules::ReadingRule;
-use exact_json::{JsonFault, Tree, read};
+use exact_json::{Arena, JsonFault, Tree, read};
 use imdf_rows::FeatureRow;
 use imdf_schema::{File, Place, is_collection, items};
 use report_laws::add;
@@ -172,7 +172,8 @@ pub(crate) fn read_file<R: FeatureRow>(
     if bytes.len() > MAX_BYTES {
         return take_fault(alloc, gathered, file, ReadingRule::F2);
     }
-    match read(alloc, bytes) {
+    let arena = Arena::new(alloc);
+    match read(&arena, bytes) {
         Ok(tree) => take_tree(alloc, gathered, file, &tree),
         Err(JsonFault::Text) => take_fault(alloc, gathered, file, ReadingRule::F3),
         Err(JsonFault::Deep) => take_fault(alloc, gathered, file, ReadingRule::F4),

@@ -12,7 +12,7 @@ ghost use Rattle.imdf_read.specs.Taking.{HasOnlyValue, HasFault};
 
 use crate::file::{MAX_BYTES, whole};
 use crate::rules::ReadingRule;
-use exact_json::{JsonFault, Tree, read};
+use exact_json::{Arena, JsonFault, Tree, read};
 use imdf_schema::{File, is_null, is_object, is_text, is_word, member};
 use report_laws::add;
 use std::alloc::Global;
@@ -87,7 +87,8 @@ pub(crate) fn judge_manifest(
     if bytes.len() > MAX_BYTES {
         return judge_fault(findings, ReadingRule::F2);
     }
-    match read(alloc, bytes) {
+    let arena = Arena::new(alloc);
+    match read(&arena, bytes) {
         Ok(tree) => judge_tree(findings, &tree),
         Err(JsonFault::Text) => judge_fault(findings, ReadingRule::F3),
         Err(JsonFault::Deep) => judge_fault(findings, ReadingRule::F4),

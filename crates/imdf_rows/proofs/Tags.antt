@@ -1,5 +1,5 @@
 -- A map by texts, seen as a list by their bytes, and the labels of it.
-use Rattle.std.proofs.Common.{◌≡◌, ℕ, List, [], ◌∷◌, map, Some, None, unwrap_or, option_map, Result, Ok, Err, IfOk, Vec, Ordering, Less, Equal, Greater, refl, ap, ap₂, subst, ◌∙◌}
+use Rattle.std.proofs.Common.{◌≡◌, ℕ, List, [], ◌∷◌, map, Some, None, unwrap_or, option_map, Result, IfOk, Vec, Ordering, Less, Equal, Greater, refl, ap, ap₂, subst, ◌∙◌}
 use Rattle.std.specs.Prelude.{String}
 use Rattle.std.specs.Global.{Global}
 use Rattle.std.specs.Ordering.{nat_cmp, match_ordering}

@@ -3,7 +3,7 @@
 use crate::{
     Figure, doors_law, items_have_texts_law, labels_law, ordinal, passages_law, push_row, tags_law,
 };
-use exact_json::read;
+use exact_json::{Arena, read};
 use std::process::Abort;
 use std::test::Fail;
 use venue_types::{
@@ -41,7 +41,8 @@ fn judge_label(rt: &impl Abort, label: &Label, tag: &str, text: &str) {
 #[test]
 fn a_level(rt: HostRuntime) -> Result<(), Fail> {
     let mut rows = Vec::new(rt.alloc());
-    let item = read(rt.alloc(), LEVEL)?;
+    let arena = Arena::new(rt.alloc());
+    let item = read(&arena, LEVEL)?;
     items_have_texts_law();
     labels_law();
     tags_law();
@@ -58,7 +59,8 @@ fn a_level(rt: HostRuntime) -> Result<(), Fail> {
 #[test]
 fn an_opening(rt: HostRuntime) -> Result<(), Fail> {
     let mut rows = Vec::new(rt.alloc());
-    let item = read(rt.alloc(), OPENING)?;
+    let arena = Arena::new(rt.alloc());
+    let item = read(&arena, OPENING)?;
     push_row(rt.alloc(), &mut rows, &item, Figure::Nothing)?;
     let row: &OpeningRow = rows.first().ok_or("opening")?;
     assert_eq!(rt; row.level, numbered(0x10));
@@ -70,7 +72,8 @@ fn an_opening(rt: HostRuntime) -> Result<(), Fail> {
 #[test]
 fn a_relationship(rt: HostRuntime) -> Result<(), Fail> {
     let mut rows = Vec::new(rt.alloc());
-    let item = read(rt.alloc(), RELATIONSHIP)?;
+    let arena = Arena::new(rt.alloc());
+    let item = read(&arena, RELATIONSHIP)?;
     push_row(rt.alloc(), &mut rows, &item, Figure::Nothing)?;
     let row: &RelationshipRow = rows.first().ok_or("relationship")?;
     assert_eq!(rt; row.kind, Some(Kind::Stairs));
@@ -97,7 +100,8 @@ fn a_relationship(rt: HostRuntime) -> Result<(), Fail> {
 #[test]
 fn a_unit(rt: HostRuntime) -> Result<(), Fail> {
     let mut rows = Vec::new(rt.alloc());
-    let item = read(rt.alloc(), UNIT)?;
+    let arena = Arena::new(rt.alloc());
+    let item = read(&arena, UNIT)?;
     push_row(rt.alloc(), &mut rows, &item, Figure::Nothing)?;
     let row: &UnitRow = rows.first().ok_or("unit")?;
     assert_eq!(rt; row.id, numbered(0x300));

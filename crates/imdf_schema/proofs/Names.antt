@@ -1,5 +1,5 @@
 -- An object is one of texts where the last value of each of its names is a text.
-use Rattle.std.proofs.Common.{◌≡◌, ◌∙◌, ◌<◌, ℕ, zero, suc, not, length, get_or, drop, map, drop-cons, List, [], ◌∷◌, Option, Some, None, Bool, true, false, cond, ◌&&◌, is_some, unwrap_or, refl, sym, ap, subst}
+use Rattle.std.proofs.Common.{◌≡◌, ◌∙◌, ℕ, zero, suc, not, length, drop, map, List, [], ◌∷◌, Option, Some, None, Bool, true, false, cond, ◌&&◌, is_some, unwrap_or, refl, sym, ap, subst}
 use Rattle.std.specs.Borrow.{Bor}
 use Rattle.std.specs.BTreeSet.{BTreeSet}
 use Rattle.std.specs.Str.{bytes_eq}
@@ -140,9 +140,6 @@ new_fails names xs i k v front seen new fails =
     no_text_counts (members_view xs) k v (last_whole xs i k v here) fails
 
 -- the pairs from a place on
-pub pair_at : (xs : List Pair) (i : ℕ) (x : Pair) → i < length xs → x ≡ get_or xs i x → members_view (drop i xs) ≡ pair (pair_view x).0 (pair_view x).1 (members_view (drop (suc i) xs))
-pair_at xs i x within is = ap members_view (drop-cons xs i x within ∙ ap (λ (y : Pair). y ∷ drop (suc i) xs) (sym is))
-
 pub none_past : (xs : List Pair) → members_view (drop (length xs) xs) ≡ no_pairs
 none_past [] = refl
 none_past (x ∷ xs) = none_past xs

@@ -5,7 +5,7 @@ use crate::{
     id, is_collection, is_feature, is_null, is_word, item_fits, items, list_of, properties,
     property, text, type_of, unlisted_property,
 };
-use exact_json::{Tree, read};
+use exact_json::{Arena, Tree, read};
 use std::process::Abort;
 use std::test::Fail;
 
@@ -40,7 +40,8 @@ fn forms_say_what_fits(rt: HostRuntime) -> Result<(), Fail> {
         (Form::Name, b"{\"de\":\"\",\"en\":1,\"de\":\"\"}", false),
     ];
     for (form, bytes, wanted) in table {
-        let tree = read(rt.alloc(), bytes).expect(&rt, "JSON");
+        let arena = Arena::new(rt.alloc());
+        let tree = read(&arena, bytes).expect(&rt, "JSON");
         let fit = fits(rt.alloc(), form, Some(&tree)).expect(&rt, "memory");
         assert_eq!(rt; fit, wanted);
     }
@@ -66,7 +67,8 @@ fn has_its_members(rt: &impl Abort, item: &Tree) {
 fn a_feature_has_its_members(rt: HostRuntime) -> Result<(), Fail> {
     let bytes =
         b"{\"type\":\"FeatureCollection\",\"features\":[{\"type\":\"Feature\",\"id\":\"00000000-0000-4000-8000-000000000007\",\"geometry\":{\"type\":\"Point\"},\"properties\":{\"category\":\"room\",\"unit_ids\":[1]}}]}";
-    let tree = read(rt.alloc(), bytes).expect(&rt, "JSON");
+    let arena = Arena::new(rt.alloc());
+    let tree = read(&arena, bytes).expect(&rt, "JSON");
     assert!(rt; is_collection(Some(&tree)));
     for item in items(Some(&tree)).expect(&rt, "a list") {
         has_its_members(&rt, item);

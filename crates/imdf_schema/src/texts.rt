@@ -1,6 +1,6 @@
 //! Objects of texts, as names are.
 
-ghost use Rattle.std.specs.Prelude.{◌≡◌, ℕ, List, true, if◌then◌else◌, not, map, IfOk, OnOk};
+ghost use Rattle.std.specs.Prelude.{◌≡◌, ◌<◌, suc, ◌∷◌, ℕ, List, length, drop, true, if◌then◌else◌, not, map, IfOk, OnOk};
 ghost use Rattle.std.specs.List.{list_all};
 ghost use Rattle.std.specs.Str.{bytes_eq};
 ghost use Rattle.exact_json.specs.Json.{object as json_object};
@@ -34,6 +34,14 @@ fn is_new<'a>(names: &mut BTreeSet<&'a [u8]>, name: &'a [u8]) -> Result<bool, Ou
     Ok(names.insert(name)?)
 }
 
+// One of the pairs.
+fn pair_at<'a, 'b>(pairs: &'b [Pair<'a>], i: usize) -> &'b Pair<'a>
+    requires { i < length pairs.now }
+    ensures { drop i pairs.now ≡ result.now ∷ drop (suc i) pairs.now }
+{
+    &pairs[i]
+}
+
 // Whether the last value of each name is a text.
 fn last_are_texts(alloc: Global, pairs: &[Pair]) -> Result<bool, OutOfMemory>
     ensures { IfOk result (λ all. all ≡ has_texts (json_object (members_view pairs.now))) }
@@ -42,7 +50,7 @@ fn last_are_texts(alloc: Global, pairs: &[Pair]) -> Result<bool, OutOfMemory>
     let mut left = pairs.len();
     while left > 0 {
         left -= 1;
-        let pair = &pairs[left];
+        let pair = pair_at(pairs, left);
         if is_new(&mut names, pair.name.bytes())? && !is_text(Some(&pair.value)) {
             return Ok(false);
         }

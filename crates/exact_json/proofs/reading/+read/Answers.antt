@@ -1,6 +1,6 @@
 use Rattle.std.proofs.Common.{◌≡◌, ◌≢◌, ℕ, suc, ◌-◌, ◌≤◌, [], ◌∷◌, ◌++◌, length, map, Some, sym, ap, ◌∙◌, subst, arith, rules}
 use Rattle.std.proofs.lemmas.Result.{err_from_is_err_and}
-use Rattle.exact_json.specs.View.{tree_view, pair_view, trees_in, pairs_in}
+use Rattle.exact_json.specs.View.{tree_view, pair_view}
 use Rattle.exact_json.specs.Number.{head}
 use Rattle.exact_json.specs.Slices.{texts_of, pair_texts, items_texts, members_texts, AreTextsBefore}
 use Rattle.exact_json.specs.Reading.{elements_at, pair_at, value}
@@ -28,7 +28,7 @@ read_value-returns-in_ok-list-in-91-clause-value t c =
     let b = c.args.text.now in
     let h : head b ≡ 91 = grind arith in
     let found = c.in_ok-list-in-91 in
-    let least = λ (d : ℕ) (le : c.args.depth ≤ d). list_is (c.args.depth - 1) b c.after.result.now found.rest.now (map tree_view (trees_in found.list)) h c.after.ensures.value found.ensures.value d (omega arith) in
+    let least = λ (d : ℕ) (le : c.args.depth ≤ d). list_is (c.args.depth - 1) b c.after.result.now found.rest.now (map tree_view found.list.now) h c.after.ensures.value found.ensures.value d (omega arith) in
     λ d le. least d le ∙ ap (λ j. Some (j, found.rest.now)) (sym c.array.ensures.value)
 
 pub read_value-returns-in_ok-pairs-in-123-clause-value : goal.read_value-returns-in_ok-pairs-in-123-clause-value
@@ -36,7 +36,7 @@ read_value-returns-in_ok-pairs-in-123-clause-value t c =
     let b = c.args.text.now in
     let h : head b ≡ 123 = grind arith in
     let found = c.in_ok-pairs-in-123 in
-    let least = λ (d : ℕ) (le : c.args.depth ≤ d). object_is (c.args.depth - 1) b c.after-in-123.result.now found.rest.now (map pair_view (pairs_in found.pairs)) h c.after-in-123.ensures.value found.ensures.value d (omega arith) in
+    let least = λ (d : ℕ) (le : c.args.depth ≤ d). object_is (c.args.depth - 1) b c.after-in-123.result.now found.rest.now (map pair_view found.pairs.now) h c.after-in-123.ensures.value found.ensures.value d (omega arith) in
     λ d le. least d le ∙ ap (λ j. Some (j, found.rest.now)) (sym c.record.ensures.value)
 
 pub read_value-returns-in_err-list-in-91-clause-value : goal.read_value-returns-in_err-list-in-91-clause-value
@@ -73,7 +73,7 @@ read_value-returns-in_ok-list-in-91-clause-slices t c =
     let h : head b ≡ 91 = grind arith in
     let found = c.in_ok-list-in-91 in
     subst (λ ts. AreTextsBefore ts b found.rest.now) (sym c.array.ensures.texts)
-    (joins [] (items_texts (trees_in found.list)) b c.after.result.now found.rest.now (one_byte 91 b c.after.result.now (λ e. omega (arith, e)) (λ e. omega (arith, e)) h c.after.ensures.value) found.ensures.slices)
+    (joins [] (items_texts found.list.now) b c.after.result.now found.rest.now (one_byte 91 b c.after.result.now (λ e. omega (arith, e)) (λ e. omega (arith, e)) h c.after.ensures.value) found.ensures.slices)
 
 pub read_value-returns-in_ok-pairs-in-123-clause-slices : goal.read_value-returns-in_ok-pairs-in-123-clause-slices
 read_value-returns-in_ok-pairs-in-123-clause-slices t c =
@@ -81,7 +81,7 @@ read_value-returns-in_ok-pairs-in-123-clause-slices t c =
     let h : head b ≡ 123 = grind arith in
     let found = c.in_ok-pairs-in-123 in
     subst (λ ts. AreTextsBefore ts b found.rest.now) (sym c.record.ensures.texts)
-    (joins [] (members_texts (pairs_in found.pairs)) b c.after-in-123.result.now found.rest.now (one_byte 123 b c.after-in-123.result.now (λ e. omega (arith, e)) (λ e. omega (arith, e)) h c.after-in-123.ensures.value) found.ensures.slices)
+    (joins [] (members_texts found.pairs.now) b c.after-in-123.result.now found.rest.now (one_byte 123 b c.after-in-123.result.now (λ e. omega (arith, e)) (λ e. omega (arith, e)) h c.after-in-123.ensures.value) found.ensures.slices)
 
 pub read_pair-returns-clause-slices : goal.read_pair-returns-clause-slices
 read_pair-returns-clause-slices t c =
@@ -98,14 +98,13 @@ pub read_items-returns-then-byte_at-eq93-clause-value : goal.read_items-returns-
 read_items-returns-then-byte_at-eq93-clause-value t c =
     let s = c.skip_spaces-rest.result.now in
     let h : head s ≡ 93 = grind arith in
-    λ d le. no_elements 93 (value d) c.args.text.now s c.after.result.now c.skip_spaces-rest.ensures.value h c.after.ensures.value ∙ ap (λ l. Some (map tree_view l, c.after.result.now)) (sym c.in_ok-no_items.ensures)
+    λ d le. no_elements 93 (value d) c.args.text.now s c.after.result.now c.skip_spaces-rest.ensures.value h c.after.ensures.value
 
 pub read_items-returns-then-byte_at-eq93-clause-slices : goal.read_items-returns-then-byte_at-eq93-clause-slices
 read_items-returns-then-byte_at-eq93-clause-slices t c =
     let s = c.skip_spaces-rest.result.now in
     let h : head s ≡ 93 = grind arith in
-    subst (λ l. AreTextsBefore (items_texts l) c.args.text.now c.after.result.now) (sym c.in_ok-no_items.ensures)
-    (spaced_byte 93 c.args.text.now s c.after.result.now (λ e. omega (arith, e)) (λ e. omega (arith, e)) c.skip_spaces-rest.ensures.value h c.after.ensures.value)
+    spaced_byte 93 c.args.text.now s c.after.result.now (λ e. omega (arith, e)) (λ e. omega (arith, e)) c.skip_spaces-rest.ensures.value h c.after.ensures.value
 
 pub read_items-loop-tree-init : goal.read_items-loop-tree-init
 read_items-loop-tree-init t c =
@@ -136,7 +135,7 @@ read_items-returns-in-93-clause-value t c =
     let pushed : c.push.new.self.items ≡ c.read_value.new.unclosed.trees.items ++ found.tree ∷ [] = search rules in
     last_elements tree_view texts_of 93 value c.args.depth c.args.text.now c.len-start.result c.args.unclosed.now.trees.items c.args.unclosed.now.pairs.items l.unclosed.trees.items l.unclosed.pairs.items l.rest.now l.invariant c.skip_spaces.result.now
     c.skip_spaces.ensures.value found.tree found.behind.now m found.ensures.value c.skip_spaces-mark.ensures.value c.skip_spaces.ensures.within found.ensures.within found.ensures.slices c.read_value.new.unclosed.trees.items c.push.new.self.items found.ensures.kept.trees pushed
-    (trees_in last.items) c.after-in-93.result.now (λ e. omega (arith, e)) last.ensures.items h c.after-in-93.ensures.value
+    last.items.now c.after-in-93.result.now (λ e. omega (arith, e)) last.ensures.taken h c.after-in-93.ensures.value
 
 pub read_items-returns-in-93-clause-slices : goal.read_items-returns-in-93-clause-slices
 read_items-returns-in-93-clause-slices t c =
@@ -148,7 +147,7 @@ read_items-returns-in-93-clause-slices t c =
     let pushed : c.push.new.self.items ≡ c.read_value.new.unclosed.trees.items ++ found.tree ∷ [] = search rules in
     last_texts tree_view texts_of 93 value c.args.depth c.args.text.now c.len-start.result c.args.unclosed.now.trees.items c.args.unclosed.now.pairs.items l.unclosed.trees.items l.unclosed.pairs.items l.rest.now l.invariant c.skip_spaces.result.now
     c.skip_spaces.ensures.value found.tree found.behind.now m found.ensures.value c.skip_spaces-mark.ensures.value c.skip_spaces.ensures.within found.ensures.within found.ensures.slices c.read_value.new.unclosed.trees.items c.push.new.self.items found.ensures.kept.trees pushed
-    (trees_in last.items) c.after-in-93.result.now (λ e. omega (arith, e)) (λ e. omega (arith, e)) last.ensures.items h c.after-in-93.ensures.value
+    last.items.now c.after-in-93.result.now (λ e. omega (arith, e)) (λ e. omega (arith, e)) last.ensures.taken h c.after-in-93.ensures.value
 
 pub read_items-returns-in_default-clause-value : goal.read_items-returns-in_default-clause-value
 read_items-returns-in_default-clause-value t c =
@@ -164,7 +163,7 @@ pub read_items-returns-in_err-tree-clause-value : goal.read_items-returns-in_err
 read_items-returns-in_err-tree-clause-value t c =
     let l = c.loop-tree in
     let e = c.in_err-tree.field-0.0 in
-    let p = err_from_is_err_and c.from_residual-in_err-tree.result c.from_residual-in_err-tree.ensures.1 in
+    let p = err_from_is_err_and c.from_residual.result c.from_residual.ensures.1 in
     let same : p.0 ≡ e = first_of (search (rules, p.2), grind (arith, p.2)) in
     let fails = lost tree_view texts_of 93 value c.args.depth c.args.text.now c.len-start.result c.args.unclosed.now.trees.items c.args.unclosed.now.pairs.items l.unclosed.trees.items l.unclosed.pairs.items l.rest.now l.invariant c.skip_spaces.result.now c.skip_spaces.ensures.value in
     rw (p.1, same) (carry c.args.depth (λ d. value d c.skip_spaces.result.now) (λ d. elements_at 93 (value d) c.args.text.now) fails e c.in_err-tree.ensures.value)
@@ -175,14 +174,13 @@ pub read_members-returns-then-byte_at-eq125-clause-value : goal.read_members-ret
 read_members-returns-then-byte_at-eq125-clause-value t c =
     let s = c.skip_spaces-rest.result.now in
     let h : head s ≡ 125 = grind arith in
-    λ d le. no_elements 125 (pair_at (value d)) c.args.text.now s c.after.result.now c.skip_spaces-rest.ensures.value h c.after.ensures.value ∙ ap (λ l. Some (map pair_view l, c.after.result.now)) (sym c.in_ok-no_members.ensures)
+    λ d le. no_elements 125 (pair_at (value d)) c.args.text.now s c.after.result.now c.skip_spaces-rest.ensures.value h c.after.ensures.value
 
 pub read_members-returns-then-byte_at-eq125-clause-slices : goal.read_members-returns-then-byte_at-eq125-clause-slices
 read_members-returns-then-byte_at-eq125-clause-slices t c =
     let s = c.skip_spaces-rest.result.now in
     let h : head s ≡ 125 = grind arith in
-    subst (λ l. AreTextsBefore (members_texts l) c.args.text.now c.after.result.now) (sym c.in_ok-no_members.ensures)
-    (spaced_byte 125 c.args.text.now s c.after.result.now (λ e. omega (arith, e)) (λ e. omega (arith, e)) c.skip_spaces-rest.ensures.value h c.after.ensures.value)
+    spaced_byte 125 c.args.text.now s c.after.result.now (λ e. omega (arith, e)) (λ e. omega (arith, e)) c.skip_spaces-rest.ensures.value h c.after.ensures.value
 
 pub read_members-loop-pair-init : goal.read_members-loop-pair-init
 read_members-loop-pair-init t c =
@@ -208,24 +206,24 @@ read_members-returns-in-125-clause-value t c =
     let l = c.loop-pair in
     let m = c.skip_spaces-mark.result.now in
     let found = c.in_ok-pair in
-    let last = c.in_ok-members-in-125 in
+    let last = c.in_ok-pairs-in-125 in
     let h : head m ≡ 125 = grind arith in
     let pushed : c.push.new.self.items ≡ c.read_pair.new.unclosed.pairs.items ++ found.pair ∷ [] = search rules in
     last_elements pair_view pair_texts 125 (λ d. pair_at (value d)) c.args.depth c.args.text.now c.len-start.result c.args.unclosed.now.pairs.items c.args.unclosed.now.trees.items l.unclosed.pairs.items l.unclosed.trees.items l.rest.now l.invariant c.skip_spaces.result.now
     c.skip_spaces.ensures.value found.pair found.behind.now m found.ensures.value c.skip_spaces-mark.ensures.value c.skip_spaces.ensures.within found.ensures.within found.ensures.slices c.read_pair.new.unclosed.pairs.items c.push.new.self.items found.ensures.kept.pairs pushed
-    (pairs_in last.members) c.after-in-125.result.now (λ e. omega (arith, e)) last.ensures.items h c.after-in-125.ensures.value
+    last.pairs.now c.after-in-125.result.now (λ e. omega (arith, e)) last.ensures.taken h c.after-in-125.ensures.value
 
 pub read_members-returns-in-125-clause-slices : goal.read_members-returns-in-125-clause-slices
 read_members-returns-in-125-clause-slices t c =
     let l = c.loop-pair in
     let m = c.skip_spaces-mark.result.now in
     let found = c.in_ok-pair in
-    let last = c.in_ok-members-in-125 in
+    let last = c.in_ok-pairs-in-125 in
     let h : head m ≡ 125 = grind arith in
     let pushed : c.push.new.self.items ≡ c.read_pair.new.unclosed.pairs.items ++ found.pair ∷ [] = search rules in
     last_texts pair_view pair_texts 125 (λ d. pair_at (value d)) c.args.depth c.args.text.now c.len-start.result c.args.unclosed.now.pairs.items c.args.unclosed.now.trees.items l.unclosed.pairs.items l.unclosed.trees.items l.rest.now l.invariant c.skip_spaces.result.now
     c.skip_spaces.ensures.value found.pair found.behind.now m found.ensures.value c.skip_spaces-mark.ensures.value c.skip_spaces.ensures.within found.ensures.within found.ensures.slices c.read_pair.new.unclosed.pairs.items c.push.new.self.items found.ensures.kept.pairs pushed
-    (pairs_in last.members) c.after-in-125.result.now (λ e. omega (arith, e)) (λ e. omega (arith, e)) last.ensures.items h c.after-in-125.ensures.value
+    last.pairs.now c.after-in-125.result.now (λ e. omega (arith, e)) (λ e. omega (arith, e)) last.ensures.taken h c.after-in-125.ensures.value
 
 pub read_members-returns-in_default-clause-value : goal.read_members-returns-in_default-clause-value
 read_members-returns-in_default-clause-value t c =
@@ -241,7 +239,7 @@ pub read_members-returns-in_err-pair-clause-value : goal.read_members-returns-in
 read_members-returns-in_err-pair-clause-value t c =
     let l = c.loop-pair in
     let e = c.in_err-pair.field-0.0 in
-    let p = err_from_is_err_and c.from_residual-in_err-pair.result c.from_residual-in_err-pair.ensures.1 in
+    let p = err_from_is_err_and c.from_residual.result c.from_residual.ensures.1 in
     let same : p.0 ≡ e = first_of (search (rules, p.2), grind (arith, p.2)) in
     let fails = lost pair_view pair_texts 125 (λ d. pair_at (value d)) c.args.depth c.args.text.now c.len-start.result c.args.unclosed.now.pairs.items c.args.unclosed.now.trees.items l.unclosed.pairs.items l.unclosed.trees.items l.rest.now l.invariant c.skip_spaces.result.now c.skip_spaces.ensures.value in
     rw (p.1, same) (carry c.args.depth (λ d. pair_at (value d) c.skip_spaces.result.now) (λ d. elements_at 125 (pair_at (value d)) c.args.text.now) fails e c.in_err-pair.ensures.value)

@@ -4,8 +4,13 @@ use Rattle.exact_json.specs.StringReading.{is_plain}
 use Rattle.exact_json.proofs.text.plain_len.Given as goal
 
 abbrev pub invariant-loop-i : goal.invariant-loop-i
-invariant-loop-i l =
-    (prefix_len is_plain l.text ≡ l.i + prefix_len is_plain (drop l.i l.text)) × (l.i ≤ length l.text)
+invariant-loop-i l = (prefix_len is_plain l.text ≡ l.i + prefix_len is_plain (drop l.i l.text)) × (l.i ≤ length l.text)
 
 abbrev pub decreases-loop-i : goal.decreases-loop-i
 decreases-loop-i l = length l.text - l.i
+
+abbrev pub invariant-loop-i-2 : goal.invariant-loop-i-2
+invariant-loop-i-2 l = (prefix_len is_plain l.text ≡ l.i + prefix_len is_plain (drop l.i l.text)) × (l.i ≤ length l.text)
+
+abbrev pub decreases-loop-i-2 : goal.decreases-loop-i-2
+decreases-loop-i-2 l = length l.text - l.i

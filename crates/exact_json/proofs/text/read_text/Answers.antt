@@ -24,13 +24,13 @@ returns-then-byte_at-eq34-clause-slices c =
     plain_text b c.after.result.now c.split_at.result.0 (returns-then-byte_at-eq34-clause-value c)
     (sym (take-append-drop n b) ∙ ap (λ l. take n b ++ l) (sym c.after-stop.ensures.value ∙ head_cons s 34 h (λ e. omega (arith, e))) ∙ ap₂ (λ u v. u ++ 34 ∷ v) (sym c.split_at.ensures.front) (sym c.after.ensures.value))
 
-pub returns-in_ok-new-clause-slices : goal.returns-in_ok-new-clause-slices
-returns-in_ok-new-clause-slices c =
+pub returns-in_ok-keep-clause-slices : goal.returns-in_ok-keep-clause-slices
+returns-in_ok-keep-clause-slices c =
     let b = c.args.text.now in
     let s = c.after-stop.result.now in
     let rest = c.in_ok-made.rest.now in
-    let box = c.in_ok-new.field-0 in
+    let kept = c.in_ok-keep.field-0 in
     let at : s ≡ drop (prefix_len is_plain b) b = c.after-stop.ensures.value ∙ ap (λ n. drop n b) c.plain_len-count.ensures.value in
     let ne : head s ≢ 34 = grind arith in
-    let found : text_at 0 b ≡ Some (box.value.items, rest) = c.in_ok-made.ensures.value ∙ ap (λ v. Some (v.items, rest)) (sym c.in_ok-new.ensures.ok) in
-    made_text b rest box found (has_backslash b box.value.items rest found (subst (λ l. head l ≢ 34) at ne))
+    let found : text_at 0 b ≡ Some (kept.now, rest) = c.in_ok-made.ensures.value ∙ ap (λ text. Some (text, rest)) (sym (c.in_ok-keep.ensures ∙ c.as_slice.ensures.value)) in
+    made_text b rest kept found (has_backslash b kept.now rest found (subst (λ l. head l ≢ 34) at ne))
