@@ -1,51 +1,16 @@
 //! Units beside a square level with a square hole, worked out by hand.
 
-ghost use Rattle.std.specs.Prelude.{All, IfOk};
+ghost use Rattle.std.specs.Prelude.{All};
 ghost use Rattle.plane_exact.specs.Testing.{IsInBox};
 ghost use Rattle.plane_exact.specs.Figure.{vertices};
 
 use crate::leaving::figure_leaves;
 use crate::rules::HoldRule;
+use boxed_figures::polygon;
 use plane_bands::Bands;
 use std::alloc::{AllocError, Global};
 use std::test::Fail;
-use venue_types::{Finding, List, OutOfMemory, Part, Point, Ring, Shape};
-
-/// A position at most 100,000,000 from the middle on each axis, so that any two are close.
-fn at(place: (i64, i64)) -> Point
-    ensures { IsInBox result }
-{
-    Point {
-        x: place.0.clamp(-100_000_000, 100_000_000),
-        y: place.1.clamp(-100_000_000, 100_000_000),
-    }
-}
-
-fn ring(alloc: Global, points: &[(i64, i64)]) -> Result<Ring, AllocError>
-    ensures { IfOk result (λ ring. All IsInBox ring.points) }
-{
-    let mut list = Vec::new(alloc);
-    for point in points {
-        list.push(at(*point))?;
-    }
-    Ok(Ring {
-        points: List::from_vec(list),
-    })
-}
-
-fn polygon(alloc: Global, outer: &[(i64, i64)], hole: &[(i64, i64)]) -> Result<Shape, AllocError>
-    ensures { IfOk result (λ shape. All IsInBox (vertices shape)) }
-{
-    let outer = ring(alloc, outer)?;
-    let hole = ring(alloc, hole)?;
-    let part = Part {
-        outer,
-        holes: List::from_vec(vec![in alloc; hole]?),
-    };
-    Ok(Shape {
-        parts: List::from_vec(vec![in alloc; part]?),
-    })
-}
+use venue_types::{Finding, OutOfMemory, Shape};
 
 fn leaves(alloc: Global, level: &Shape, tolerance: u32, unit: &Shape) -> Result<bool, OutOfMemory>
     requires level { All IsInBox (vertices level.now) }

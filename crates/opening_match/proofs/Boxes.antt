@@ -1,11 +1,9 @@
 -- Where the openings and units of the tests lie.
 use Rattle.std.proofs.Common.{◌≡◌, List, [], ◌∷◌, All, subst, sym, get_or}
-use Rattle.std.proofs.lemmas.List.Elements.{All-nil, All-append, All-cons, All-contains}
+use Rattle.std.proofs.lemmas.List.Elements.{All-nil, All-cons, All-contains}
 use Rattle.venue_types.specs.declared.features.OpeningRow.{OpeningRow}
 use Rattle.venue_types.specs.declared.features.UnitRow.{UnitRow}
-use Rattle.venue_types.specs.declared.point.Part.{Part}
 use Rattle.venue_types.specs.declared.point.Point.{Point}
-use Rattle.venue_types.specs.declared.point.Ring.{Ring}
 use Rattle.venue_types.specs.declared.point.Shape.{Shape}
 use Rattle.plane_exact.specs.Figure.{vertices}
 use Rattle.plane_exact.specs.Testing.{IsInBox}
@@ -13,13 +11,6 @@ use Rattle.plane_exact.proofs.BoxLemmas.{all_close}
 use Rattle.opening_match.specs.Entries.{HaveVertices}
 use Rattle.opening_match.specs.Matches.{AreCloseTo, AreBeside}
 use Rattle.opening_match.specs.Testing.{IsBoxedOpening, IsBoxedUnit}
-
-pub one_polygon : (outer hole : Ring) (holes : List Ring) (parts : List Part) → parts ≡ record { outer = outer; holes = holes } ∷ [] → holes ≡ hole ∷ [] → All IsInBox outer.points → All IsInBox hole.points → All IsInBox (vertices (record { parts = parts }))
-one_polygon outer hole holes parts e f h k =
-    let P : List Part → Type 0 = λ list. All IsInBox (vertices (record { parts = list })) in
-    let Q : List Ring → Type 0 = λ list. P (record { outer = outer; holes = list } ∷ []) in
-    let whole : Q (hole ∷ []) = All-append IsInBox outer.points _ h (All-append IsInBox hole.points _ k (All-nil IsInBox)) in
-    subst P (sym e) (subst Q (sym f) whole)
 
 pub three : (a b c : Point) (points : List Point) → points ≡ a ∷ b ∷ c ∷ [] → IsInBox a → IsInBox b → IsInBox c → All IsInBox points
 three a b c points e h k l = subst (λ (list : List Point). All IsInBox list) (sym e) (All-cons IsInBox a (b ∷ c ∷ []) h (All-cons IsInBox b (c ∷ []) k (All-cons IsInBox c [] l (All-nil IsInBox))))

@@ -7,23 +7,12 @@ ghost use Rattle.opening_match.specs.Matches.{AreCloseTo};
 ghost use Rattle.opening_match.specs.Testing.{IsBoxedOpening, IsBoxedUnit};
 
 use crate::matching::rows_of;
+use boxed_figures::{at, polygon};
 use plane_exact::near;
 use std::alloc::{AllocError, Global};
 use std::process::Abort;
 use std::test::Fail;
-use venue_types::{
-    FeatureId, Line, List, OpeningRow, OutOfMemory, Part, Point, Ring, Shape, Text, UnitRow,
-};
-
-/// A position at most 100,000,000 from the middle on each axis, so that any two are close.
-fn at(place: (i64, i64)) -> Point
-    ensures { IsInBox result }
-{
-    Point {
-        x: place.0.clamp(-100_000_000, 100_000_000),
-        y: place.1.clamp(-100_000_000, 100_000_000),
-    }
-}
+use venue_types::{FeatureId, Line, List, OpeningRow, OutOfMemory, Point, Shape, Text, UnitRow};
 
 fn opening(alloc: Global, level: u128, points: [(i64, i64); 3]) -> Result<OpeningRow, AllocError>
     ensures { IfOk result (λ opening. IsBoxedOpening opening) }
@@ -39,32 +28,6 @@ fn opening(alloc: Global, level: u128, points: [(i64, i64); 3]) -> Result<Openin
         turnstile: false,
         marked: false,
         out: false,
-    })
-}
-
-fn ring(alloc: Global, points: &[(i64, i64)]) -> Result<Ring, AllocError>
-    ensures { IfOk result (λ ring. All IsInBox ring.points) }
-{
-    let mut list = Vec::new(alloc);
-    for point in points {
-        list.push(at(*point))?;
-    }
-    Ok(Ring {
-        points: List::from_vec(list),
-    })
-}
-
-fn polygon(alloc: Global, outer: &[(i64, i64)], hole: &[(i64, i64)]) -> Result<Shape, AllocError>
-    ensures { IfOk result (λ shape. All IsInBox (vertices shape)) }
-{
-    let outer = ring(alloc, outer)?;
-    let hole = ring(alloc, hole)?;
-    let part = Part {
-        outer,
-        holes: List::from_vec(vec![in alloc; hole]?),
-    };
-    Ok(Shape {
-        parts: List::from_vec(vec![in alloc; part]?),
     })
 }
 

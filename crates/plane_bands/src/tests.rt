@@ -5,54 +5,13 @@ ghost use Rattle.plane_exact.specs.Testing.{IsInBox};
 ghost use Rattle.plane_exact.specs.Figure.{vertices, part_points};
 
 use crate::{Bands, RingBands, ring_crosses};
+use boxed_figures::{at, part, polygon, ring};
 use plane_exact::{inside, inside_ring, near, near_ring};
 use std::alloc::{AllocError, Global};
 use std::test::Fail;
-use venue_types::{List, Part, Point, Ring, Shape};
+use venue_types::{List, Part, Ring, Shape};
 
 const FAR: i64 = 100_000_000;
-
-/// A position at most 100,000,000 from the middle on each axis, so that any two are close.
-fn at(place: (i64, i64)) -> Point
-    ensures { IsInBox result }
-{
-    Point {
-        x: place.0.clamp(-100_000_000, 100_000_000),
-        y: place.1.clamp(-100_000_000, 100_000_000),
-    }
-}
-
-fn ring(alloc: Global, points: &[(i64, i64)]) -> Result<Ring, AllocError>
-    ensures { IfOk result (λ ring. All IsInBox ring.points) }
-{
-    let mut list = Vec::new(alloc);
-    for point in points {
-        list.push(at(*point))?;
-    }
-    Ok(Ring {
-        points: List::from_vec(list),
-    })
-}
-
-fn part(alloc: Global, outer: &[(i64, i64)], hole: &[(i64, i64)]) -> Result<Part, AllocError>
-    ensures { IfOk result (λ part. All IsInBox (part_points part)) }
-{
-    let outer = ring(alloc, outer)?;
-    let hole = ring(alloc, hole)?;
-    Ok(Part {
-        outer,
-        holes: List::from_vec(vec![in alloc; hole]?),
-    })
-}
-
-fn shape(alloc: Global, outer: &[(i64, i64)], hole: &[(i64, i64)]) -> Result<Shape, AllocError>
-    ensures { IfOk result (λ shape. All IsInBox (vertices shape)) }
-{
-    let part = part(alloc, outer, hole)?;
-    Ok(Shape {
-        parts: List::from_vec(vec![in alloc; part]?),
-    })
-}
 
 fn add_part(
     alloc: Global,
@@ -273,7 +232,7 @@ fn forms(rt: HostRuntime) -> Result<(), Fail> {
     ];
     for form in table {
         let points = drawn(alloc, form)?;
-        let one = shape(alloc, points.as_slice(), &[])?;
+        let one = polygon(alloc, points.as_slice(), &[])?;
         let outer = ring(alloc, points.as_slice())?;
         let bands = Bands::of(alloc, &one)?;
         let ring_bands = RingBands::of(alloc, &outer)?;
@@ -362,7 +321,7 @@ fn many_rings(rt: HostRuntime) -> Result<(), Fail> {
             }
         }
     }
-    let wide = shape(
+    let wide = polygon(
         alloc,
         &[
             (-FAR, -FAR),
