@@ -1,7 +1,7 @@
 //! Writing features. Each gets a comma behind it.
 
-ghost use Rattle.std.specs.Prelude.{◌≡◌, ◌<◌, ◌++◌, map, OnOk};
-ghost use Rattle.gen_text.specs.Texts.{item_front, ordinal, level_properties, opening_properties, unit_properties, reference, relationship_properties};
+ghost use Rattle.std.specs.Prelude.{◌≡◌, ◌<◌, ◌++◌, map, codes, OnOk};
+ghost use Rattle.gen_text.specs.Texts.{item_front, item, ordinal, level_properties, opening_properties, unit_properties, reference, relationship_properties};
 ghost use Rattle.gen_text.specs.Texts.{rooms, level_item, opening_item, room_opening_item, opening_items, unit_item, room_unit_item, unit_items};
 ghost use Rattle.gen_text.specs.Texts.{lift_relationship_item, stairs_relationship_item, relationship_items, venue_item};
 ghost use Rattle.gen_text.specs.Ended.{with_comma, ended};
@@ -210,21 +210,32 @@ pub(crate) fn push_units(out: &mut Vec<u8>, levels: u8, level: u8) -> Result<(),
     Ok(())
 }
 
+fn push_relationship(
+    out: &mut Vec<u8>,
+    number: u32,
+    category: &[u8],
+    feature_type: &[u8],
+    origin: u32,
+    destination: u32,
+) -> Result<(), AllocError>
+    ensures { OnOk result (out.new.items ≡ out.old.items ++ with_comma (item (codes "relationship") number (codes "null") (relationship_properties category.now feature_type.now origin destination))) }
+{
+    push_front(out, b"relationship", number)?;
+    out.extend_from_slice(b"null")?;
+    out.extend_from_slice(br#","properties":"#)?;
+    push_relationship_properties(out, category, feature_type, origin, destination)?;
+    out.extend_from_slice(b"},")?;
+    Ok(())
+}
+
 fn push_lift_relationship(out: &mut Vec<u8>, levels: u8, level: u8) -> Result<(), AllocError>
     requires { level < 255 }
     ensures { OnOk result (out.new.items ≡ out.old.items ++ with_comma (lift_relationship_item levels level)) }
 {
-    push_front(
-        out,
-        b"relationship",
-        relationship_number(levels, level, LIFT_RELATIONSHIP),
-    )?;
-    out.extend_from_slice(b"null")?;
-    out.extend_from_slice(br#","properties":"#)?;
+    let number = relationship_number(levels, level, LIFT_RELATIONSHIP);
     let origin = unit_number(levels, level, LIFT_UNIT);
     let destination = unit_number(levels, level + 1, LIFT_UNIT);
-    push_relationship_properties(out, b"elevator", b"unit", origin, destination)?;
-    out.extend_from_slice(b"},")?;
+    push_relationship(out, number, b"elevator", b"unit", origin, destination)?;
     Ok(())
 }
 
@@ -232,17 +243,10 @@ fn push_stairs_relationship(out: &mut Vec<u8>, levels: u8, level: u8) -> Result<
     requires { level < 255 }
     ensures { OnOk result (out.new.items ≡ out.old.items ++ with_comma (stairs_relationship_item levels level)) }
 {
-    push_front(
-        out,
-        b"relationship",
-        relationship_number(levels, level, STAIRS_RELATIONSHIP),
-    )?;
-    out.extend_from_slice(b"null")?;
-    out.extend_from_slice(br#","properties":"#)?;
+    let number = relationship_number(levels, level, STAIRS_RELATIONSHIP);
     let origin = opening_number(levels, level, STAIRS_OPENING);
     let destination = opening_number(levels, level + 1, STAIRS_OPENING);
-    push_relationship_properties(out, b"stairs", b"opening", origin, destination)?;
-    out.extend_from_slice(b"},")?;
+    push_relationship(out, number, b"stairs", b"opening", origin, destination)?;
     Ok(())
 }
 

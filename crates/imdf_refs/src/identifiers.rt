@@ -9,7 +9,7 @@ ghost use Rattle.imdf_refs.specs.Gathering.{RepeatsIn, Repeats};
 
 use crate::known::Known;
 use crate::row::HasReferences;
-use imdf_schema::{FEATURE_FILES, File, Place, Rule};
+use imdf_schema::{File, Place, Rule, feature_files};
 use report_laws::add;
 use std::alloc::Global;
 use venue_types::{FeatureId, Features, Finding, OutOfMemory};
@@ -88,7 +88,7 @@ pub(crate) fn judge_identifiers(
     ensures findings { OnOk result (Adds (Repeats features.now) findings.old.items findings.new.items) }
 {
     let mut known = Known::new(alloc);
-    for file in &FEATURE_FILES {
+    for file in feature_files() {
         judge_file(alloc, findings, &mut known, features, *file)?;
     }
     Ok(known)

@@ -2,7 +2,7 @@
 
 ghost use Rattle.std.specs.Prelude.{◌≡◌, ◌≢◌, ◌<◌, IfSome, IfNone, slice_get};
 ghost use Rattle.imdf_schema.specs.declared.files.File.{File as AFile};
-ghost use Rattle.imdf_schema.specs.Files.{file_number, file_name, type_name, geometry_of, file_among, file_of_type, all_files};
+ghost use Rattle.imdf_schema.specs.Files.{file_number, file_name, type_name, geometry_of, file_among, file_of_type, all_files, feature_files};
 
 /// A file of a folder. All but the first are named for the type of their features, `address.geojson` and so on.
 #[derive(Clone, Copy, Debug, PartialEq, Eq)]
@@ -43,26 +43,6 @@ pub enum Geometry {
 /// All files, in the order of their numbers.
 pub static ALL_FILES: [File; 17] = [
     File::Manifest,
-    File::Address,
-    File::Amenity,
-    File::Anchor,
-    File::Building,
-    File::Detail,
-    File::Fixture,
-    File::Footprint,
-    File::Geofence,
-    File::Kiosk,
-    File::Level,
-    File::Occupant,
-    File::Opening,
-    File::Relationship,
-    File::Section,
-    File::Unit,
-    File::Venue,
-];
-
-/// The files of features, in the order of their numbers.
-pub static FEATURE_FILES: [File; 16] = [
     File::Address,
     File::Amenity,
     File::Anchor,
@@ -193,6 +173,13 @@ pub fn file_numbers_law()
     ensures few { (file : AFile) → file_number file < 17 }
 {}
 
+/// The files of features, in the order of their numbers: all but the first.
+pub fn feature_files() -> &'static [File]
+    ensures { result.now ≡ feature_files }
+{
+    &ALL_FILES[1..]
+}
+
 // The first of the files whose type has this name.
 fn find(files: &[File], name: &[u8]) -> Option<File>
     ensures { result ≡ file_among files.now name.now }
@@ -210,5 +197,5 @@ fn find(files: &[File], name: &[u8]) -> Option<File>
 pub fn file_of_type(name: &[u8]) -> Option<File>
     ensures { result ≡ file_of_type name.now }
 {
-    find(&FEATURE_FILES, name)
+    find(feature_files(), name)
 }

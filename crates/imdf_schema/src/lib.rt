@@ -16,7 +16,7 @@ mod values;
 pub use features::{
     fits_geometry, geometry, is_collection, is_feature, items, property, unlisted_property,
 };
-pub use files::{ALL_FILES, FEATURE_FILES, File, Geometry, file_numbers_law, file_of_type};
+pub use files::{ALL_FILES, File, Geometry, feature_files, file_numbers_law, file_of_type};
 pub use forms::{Form, fits, is_reference, item_fits, list_of, type_of};
 pub use place::Place;
 pub use rules::{NoteKind, Rule, rule_numbers_law};

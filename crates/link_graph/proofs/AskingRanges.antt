@@ -1,19 +1,14 @@
--- The ends of a graph's links are nodes, their ways can be closed, their costs are bounded, and they aren't too many.
-use Rattle.std.proofs.Common.{◌≡◌, ℕ, ◌<◌, ◌≤◌, Bool, true, false, List, [], ◌∷◌, length, filter, flat_map, sum_by, cond, Some, subst, inl, inr, arith, length-append}
+-- The ends of a graph's links are nodes, their ways can be closed, and their costs are bounded.
+use Rattle.std.proofs.Common.{◌≡◌, ℕ, ◌<◌, ◌≤◌, List, length, Some, subst, inl, inr, arith}
 use Rattle.std.specs.Prelude.{Contains, slice_get}
-use Rattle.std.proofs.lemmas.List.{length-map}
-use Rattle.std.proofs.lemmas.List.Concat.{length-flat_map}
 use Rattle.std.proofs.lemmas.List.Elements.{All-contains}
-use Rattle.std.proofs.lemmas.List.Sums.{length-filter, count_by-le-length, sum_by-cons, sum_by-le}
 use Rattle.venue_types.specs.declared.link.Link.{Link}
-use Rattle.venue_nodes.specs.Crowds.{square_of}
 use Rattle.venue_nodes.specs.Rows.{row_list}
 use Rattle.venue_nodes.specs.Views.{node_list, closable_list}
 use Rattle.venue_nodes.proofs.Items.{member_at}
 use Rattle.link_graph.specs.declared.parts.Core.{Core}
 use Rattle.link_graph.specs.declared.parts.Crossing.{Crossing}
-use Rattle.link_graph.specs.Cores.{IsSoundCore, IsCrossing, IsPassage, IsRow, link_across, links_across_from, links_across, links_across_all, links_in, spot_in}
-use Rattle.link_graph.specs.Links.{are_joined}
+use Rattle.link_graph.specs.Cores.{IsSoundCore, IsCrossing, IsPassage, IsRow, links_in, spot_in}
 use Rattle.link_graph.proofs.AskingLinks.{IsByRow, link_sort}
 use Rattle.link_graph.proofs.Lengths.{between_bound}
 use Rattle.link_graph.proofs.Ranges.{IsInRange}
@@ -66,43 +61,3 @@ link_range core link sound h = elim (link_sort core link h) [
   | inl across ↦ across_range core link sound across
   | inr passage ↦ passage_range core link sound passage
 ]
-
--- ---- how many
-
-from_length : (core : Core) (crossing : Crossing) (row : List ℕ) (a : ℕ) → length (links_across_from core crossing row a) ≤ length row
-from_length core crossing row a =
-    let mapped = length-map (filter (are_joined a) row) (link_across core crossing a) in
-    let kept = length-filter (are_joined a) row in
-    let bound = count_by-le-length (are_joined a) row in
-    omega (arith, mapped, kept, bound)
-
-chosen_length : (b : Bool) (links : List Link) → length (cond b links []) ≤ length links
-chosen_length true links = omega arith
-chosen_length false links = omega arith
-
-across_length : (core : Core) (crossing : Crossing) (row : List ℕ) → length (links_across core crossing row) ≤ square_of row
-across_length core crossing row =
-    let all = flat_map (links_across_from core crossing row) row in
-    let some = chosen_length crossing.walked all in
-    let total = length-flat_map (links_across_from core crossing row) row in
-    let bound = sum_by-le (λ (a : ℕ). length (links_across_from core crossing row a)) (length row) row (λ k d below. from_length core crossing row _) in
-    omega (arith, some, total, bound)
-
-all_length : (core : Core) (crossings : List Crossing) (rows : List (List ℕ)) → length (links_across_all core crossings rows) ≤ sum_by square_of rows
-all_length core [] rows = omega arith
-all_length core (c ∷ cs) [] = omega arith
-all_length core (c ∷ cs) (r ∷ rs) =
-    let both = length-append (links_across core c r) (links_across_all core cs rs) in
-    let first = across_length core c r in
-    let rest = all_length core cs rs in
-    let sum = sum_by-cons square_of r rs in
-    omega (arith, both, first, rest, sum)
-
-pub links_bound : (core : Core) → IsSoundCore core → length (links_in core) ≤ 32800000
-unfolding links_in
-links_bound core sound =
-    let both = length-append (links_across_all core core.crossings.items (row_list core.rows)) core.passages.items in
-    let across = all_length core core.crossings.items (row_list core.rows) in
-    let squares = sound.squares in
-    let passages = sound.few_passages in
-    omega (arith, both, across, squares, passages)

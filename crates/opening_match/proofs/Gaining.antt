@@ -3,10 +3,10 @@ use Rattle.std.proofs.Common.{◌≡◌, ℕ, ◌+◌, ◌<◌, ◌≤◌, zero,
 use Rattle.std.specs.Prelude.{Contains, slice_get}
 use Rattle.std.specs.List.Sorted.{IsStrictlyIncreasing}
 use Rattle.std.proofs.lemmas.Bool.{cases_lt}
-use Rattle.std.proofs.lemmas.List.{take_all, length-replicate, length-append, get_or_append_left, get_or_push}
+use Rattle.std.proofs.lemmas.List.{take_all, length-replicate}
 use Rattle.std.proofs.lemmas.List.Elements.{All-replicate, All-contains, Contains-append_left, Contains-push, Contains-push_cases, Contains-get_or}
 use Rattle.std.proofs.lemmas.Option.{slice_get_within, slice_get-get_or, same_Some}
-use Rattle.venue_types.proofs.Items.{member_at, Contains-nil}
+use Rattle.venue_types.proofs.Items.{member_at, Contains-nil, IsStrictlyIncreasing-push}
 use Rattle.venue_types.specs.declared.features.Features.{Features}
 use Rattle.venue_types.specs.declared.features.OpeningRow.{OpeningRow}
 use Rattle.venue_types.specs.declared.features.UnitRow.{UnitRow}
@@ -62,25 +62,6 @@ below_none t openings units n rows count is = subst (λ (list : List (List ℕ))
 match_of : (t : ℕ) (openings : List OpeningRow) (units : List UnitRow) (k : ℕ) (unit : UnitRow) (o : ℕ) → slice_get units k ≡ Some unit → HaveMatch t openings units o k → TouchesAt t openings unit o
 match_of t openings units k unit o there have = subst (λ (u : UnitRow). TouchesAt t openings u o) (same_Some have.unit unit (sym have.there ∙ there)) have.touch
 
-rises_with : (row : List ℕ) (k : ℕ) → IsStrictlyIncreasing row → ((u : ℕ) → Contains row u → u < k) → IsStrictlyIncreasing (row ++ k ∷ [])
-rises_with row k rise under = from row k rise (λ i within. under (get_or row i 0) (Contains-get_or row i 0 within)) where
-  from : (row : List ℕ) (k : ℕ) → IsStrictlyIncreasing row → ((i : ℕ) → i < length row → get_or row i 0 < k) → IsStrictlyIncreasing (row ++ k ∷ [])
-  from row k rise under i within =
-      let whole : length (row ++ k ∷ []) ≡ length row + 1 = length-append row (k ∷ []) in
-      elim (cases_lt (i + 1) (length row)) [
-        | inl inside ↦
-            let a : get_or (row ++ k ∷ []) i 0 ≡ get_or row i 0 = get_or_append_left row (k ∷ []) 0 i (omega arith) in
-            let b : get_or (row ++ k ∷ []) (i + 1) 0 ≡ get_or row (i + 1) 0 = get_or_append_left row (k ∷ []) 0 (i + 1) inside in
-            let less : get_or row i 0 < get_or row (i + 1) 0 = rise i inside in
-            omega (arith, a, b, less)
-        | inr past ↦
-            let last : length row ≡ i + 1 = omega (arith, within, whole) in
-            let a : get_or (row ++ k ∷ []) i 0 ≡ get_or row i 0 = get_or_append_left row (k ∷ []) 0 i (omega arith) in
-            let b : get_or (row ++ k ∷ []) (i + 1) 0 ≡ k = get_or_push row k 0 (i + 1) last in
-            let less : get_or row i 0 < k = under i (omega arith) in
-            omega (arith, a, b, less)
-      ]
-
 -- what one unit more makes of a row
 pub record IsRowBelow (t : ℕ) (openings : List OpeningRow) (units : List UnitRow) (count o : ℕ) (row : List ℕ) : Type 0 where
   pub rise : IsStrictlyIncreasing row
@@ -88,7 +69,7 @@ pub record IsRowBelow (t : ℕ) (openings : List OpeningRow) (units : List UnitR
 
 row_with : (t : ℕ) (openings : List OpeningRow) (units : List UnitRow) (k o : ℕ) (row : List ℕ) → HaveMatch t openings units o k → IsRowBelow t openings units k o row → IsRowBelow t openings units (k + 1) o (row ++ k ∷ [])
 row_with t openings units k o row have is = record {
-  rise = rises_with row k is.rise (λ u h. ((is.exact u).0 h).0);
+  rise = IsStrictlyIncreasing-push row k is.rise (λ i within. ((is.exact (get_or row i 0)).0 (Contains-get_or row i 0 within)).0);
   exact = λ u. (
     (λ h. elim (Contains-push_cases row k u h) [
       | inl before ↦ let both = (is.exact u).0 before in (omega (arith, both.0), both.1)

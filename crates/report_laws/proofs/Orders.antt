@@ -1,6 +1,7 @@
 -- The orders are total, and what they hold equal is one and the same.
 use Rattle.std.proofs.Common.{◌≡◌, ℕ, Bool, ◌&&◌, true, eqb, refl, sym, ap, ◌∙◌}
-use Rattle.std.specs.Ordering.{eq_by_cmp, nat_cmp}
+use Rattle.std.specs.declared.cmp.Ordering.{Ordering}
+use Rattle.std.specs.Ordering.{ordering_then, eq_by_cmp, nat_cmp}
 use Rattle.std.specs.Cmp.{IsTotalOrder, IsEquivalence, both_tied, unsigned_ties, and_equiv, on_equiv, nat_eq_equiv}
 use Rattle.std.proofs.lemmas.Bool.{eqb-true}
 use Rattle.std.proofs.lemmas.Cmp.{then_total, on_total, nat_cmp_total}
@@ -8,80 +9,92 @@ use Rattle.venue_types.specs.declared.finding.Finding.{Finding}
 use Rattle.venue_types.specs.declared.finding.Note.{Note}
 use Rattle.report_laws.specs.Order.{finding_cmp, note_cmp}
 
+-- ---- values that are four numbers
+
+-- the numbers of a value, in the order in which they are compared
+record Numbers (X : Type 0) : Type 0 where
+  first : X → ℕ
+  second : X → ℕ
+  third : X → ℕ
+  fourth : X → ℕ
+
+abbrev four_cmp : {X : Type 0} → Numbers X → X → X → Ordering
+four_cmp n x y = ordering_then (nat_cmp (n.first x) (n.first y)) (ordering_then (nat_cmp (n.second x) (n.second y)) (ordering_then (nat_cmp (n.third x) (n.third y)) (nat_cmp (n.fourth x) (n.fourth y))))
+
+abbrev same_four : {X : Type 0} → Numbers X → X → X → Bool
+same_four n x y = eqb (n.first x) (n.first y) && (eqb (n.second x) (n.second y) && (eqb (n.third x) (n.third y) && eqb (n.fourth x) (n.fourth y)))
+
+four_total : {X : Type 0} (n : Numbers X) → IsTotalOrder (four_cmp n)
+four_total n =
+    then_total (on_total n.first nat_cmp_total)
+    (then_total (on_total n.second nat_cmp_total)
+    (then_total (on_total n.third nat_cmp_total) (on_total n.fourth nat_cmp_total)))
+
+four_tied : {X : Type 0} (n : Numbers X) (x y : X) → same_four n x y ≡ eq_by_cmp (four_cmp n) x y
+four_tied n x y =
+    both_tied (eqb (n.first x) (n.first y)) _ (nat_cmp (n.first x) (n.first y)) _ (unsigned_ties (n.first x) (n.first y))
+    (both_tied (eqb (n.second x) (n.second y)) _ (nat_cmp (n.second x) (n.second y)) _ (unsigned_ties (n.second x) (n.second y))
+    (both_tied (eqb (n.third x) (n.third y)) (eqb (n.fourth x) (n.fourth y)) (nat_cmp (n.third x) (n.third y)) (nat_cmp (n.fourth x) (n.fourth y)) (unsigned_ties (n.third x) (n.third y)) (unsigned_ties (n.fourth x) (n.fourth y))))
+
+four_equal : {X : Type 0} (n : Numbers X) → IsEquivalence (same_four n)
+four_equal n =
+    and_equiv (on_equiv n.first nat_eq_equiv)
+    (and_equiv (on_equiv n.second nat_eq_equiv)
+    (and_equiv (on_equiv n.third nat_eq_equiv) (on_equiv n.fourth nat_eq_equiv)))
+
 both_true : (a b : Bool) → (a && b) ≡ true → (a ≡ true) × (b ≡ true)
 both_true true b e = (refl, e)
 both_true _ b e = cc
 
-pub findings_total : IsTotalOrder finding_cmp
-findings_total =
-    then_total (on_total (λ (x : Finding). x.rule) nat_cmp_total)
-    (then_total (on_total (λ (x : Finding). x.file) nat_cmp_total)
-    (then_total (on_total (λ (x : Finding). x.index) nat_cmp_total) (on_total (λ (x : Finding). x.member) nat_cmp_total)))
+-- a value is nothing but its numbers
+four_exact : {X : Type 0} (n : Numbers X) (of : ℕ → ℕ → ℕ → ℕ → X) → ((x : X) → of (n.first x) (n.second x) (n.third x) (n.fourth x) ≡ x) → (x y : X) → same_four n x y ≡ true → x ≡ y
+four_exact n of whole x y e =
+    let a = both_true _ _ e in
+    let b = both_true _ _ a.1 in
+    let c = both_true _ _ b.1 in
+    sym (whole x)
+    ∙ (ap (λ (k : ℕ). of k (n.second x) (n.third x) (n.fourth x)) (eqb-true (n.first x) (n.first y) a.0)
+    ∙ ap (λ (k : ℕ). of (n.first y) k (n.third x) (n.fourth x)) (eqb-true (n.second x) (n.second y) b.0)
+    ∙ ap (λ (k : ℕ). of (n.first y) (n.second y) k (n.fourth x)) (eqb-true (n.third x) (n.third y) c.0)
+    ∙ ap (λ (k : ℕ). of (n.first y) (n.second y) (n.third y) k) (eqb-true (n.fourth x) (n.fourth y) c.1))
+    ∙ whole y
+
+-- ---- findings
+
+abbrev finding_numbers : Numbers Finding
+finding_numbers = record { first = λ x. x.rule; second = λ x. x.file; third = λ x. x.index; fourth = λ x. x.member }
 
 abbrev pub same_finding : Finding → Finding → Bool
-same_finding x y = eqb x.rule y.rule && (eqb x.file y.file && (eqb x.index y.index && eqb x.member y.member))
+same_finding = same_four finding_numbers
+
+pub findings_total : IsTotalOrder finding_cmp
+findings_total = four_total finding_numbers
 
 pub findings_tied : (x y : Finding) → same_finding x y ≡ eq_by_cmp finding_cmp x y
-findings_tied x y =
-    both_tied (eqb x.rule y.rule) _ (nat_cmp x.rule y.rule) _ (unsigned_ties x.rule y.rule)
-    (both_tied (eqb x.file y.file) _ (nat_cmp x.file y.file) _ (unsigned_ties x.file y.file)
-    (both_tied (eqb x.index y.index) (eqb x.member y.member) (nat_cmp x.index y.index) (nat_cmp x.member y.member) (unsigned_ties x.index y.index) (unsigned_ties x.member y.member)))
-
-abbrev finding : ℕ → ℕ → ℕ → ℕ → Finding
-finding rule file index member = record { rule = rule; file = file; index = index; member = member }
-
--- a finding is its four numbers
-finding_of : (x : Finding) (r f i m : ℕ) → x.rule ≡ r → x.file ≡ f → x.index ≡ i → x.member ≡ m → finding r f i m ≡ x
-finding_of x r f i m rule file index member =
-    let whole : finding x.rule x.file x.index x.member ≡ x = refl in
-    sym (ap (λ (n : ℕ). finding n x.file x.index x.member) rule ∙ ap (λ (n : ℕ). finding r n x.index x.member) file ∙ ap (λ (n : ℕ). finding r f n x.member) index ∙ ap (λ (n : ℕ). finding r f i n) member) ∙ whole
+findings_tied = four_tied finding_numbers
 
 pub findings_exact : (x y : Finding) → same_finding x y ≡ true → x ≡ y
-findings_exact x y e =
-    let a = both_true _ _ e in
-    let b = both_true _ _ a.1 in
-    let c = both_true _ _ b.1 in
-    finding_of y x.rule x.file x.index x.member (sym (eqb-true x.rule y.rule a.0)) (sym (eqb-true x.file y.file b.0)) (sym (eqb-true x.index y.index c.0)) (sym (eqb-true x.member y.member c.1))
+findings_exact = four_exact finding_numbers (λ rule file index member. record { rule = rule; file = file; index = index; member = member }) (λ x. refl)
 
 pub findings_equal : IsEquivalence same_finding
-findings_equal =
-    and_equiv (on_equiv (λ (x : Finding). x.rule) nat_eq_equiv)
-    (and_equiv (on_equiv (λ (x : Finding). x.file) nat_eq_equiv)
-    (and_equiv (on_equiv (λ (x : Finding). x.index) nat_eq_equiv) (on_equiv (λ (x : Finding). x.member) nat_eq_equiv)))
+findings_equal = four_equal finding_numbers
 
-pub notes_total : IsTotalOrder note_cmp
-notes_total =
-    then_total (on_total (λ (x : Note). x.note) nat_cmp_total)
-    (then_total (on_total (λ (x : Note). x.file) nat_cmp_total)
-    (then_total (on_total (λ (x : Note). x.index) nat_cmp_total) (on_total (λ (x : Note). x.member) nat_cmp_total)))
+-- ---- notes
+
+abbrev note_numbers : Numbers Note
+note_numbers = record { first = λ x. x.note; second = λ x. x.file; third = λ x. x.index; fourth = λ x. x.member }
 
 abbrev pub same_note : Note → Note → Bool
-same_note x y = eqb x.note y.note && (eqb x.file y.file && (eqb x.index y.index && eqb x.member y.member))
+same_note = same_four note_numbers
+
+pub notes_total : IsTotalOrder note_cmp
+notes_total = four_total note_numbers
 
 pub notes_tied : (x y : Note) → same_note x y ≡ eq_by_cmp note_cmp x y
-notes_tied x y =
-    both_tied (eqb x.note y.note) _ (nat_cmp x.note y.note) _ (unsigned_ties x.note y.note)
-    (both_tied (eqb x.file y.file) _ (nat_cmp x.file y.file) _ (unsigned_ties x.file y.file)
-    (both_tied (eqb x.index y.index) (eqb x.member y.member) (nat_cmp x.index y.index) (nat_cmp x.member y.member) (unsigned_ties x.index y.index) (unsigned_ties x.member y.member)))
-
-abbrev noted : ℕ → ℕ → ℕ → ℕ → Note
-noted rule file index member = record { note = rule; file = file; index = index; member = member }
-
--- a note is its four numbers
-note_of : (x : Note) (r f i m : ℕ) → x.note ≡ r → x.file ≡ f → x.index ≡ i → x.member ≡ m → noted r f i m ≡ x
-note_of x r f i m rule file index member =
-    let whole : noted x.note x.file x.index x.member ≡ x = refl in
-    sym (ap (λ (n : ℕ). noted n x.file x.index x.member) rule ∙ ap (λ (n : ℕ). noted r n x.index x.member) file ∙ ap (λ (n : ℕ). noted r f n x.member) index ∙ ap (λ (n : ℕ). noted r f i n) member) ∙ whole
+notes_tied = four_tied note_numbers
 
 pub notes_exact : (x y : Note) → same_note x y ≡ true → x ≡ y
-notes_exact x y e =
-    let a = both_true _ _ e in
-    let b = both_true _ _ a.1 in
-    let c = both_true _ _ b.1 in
-    note_of y x.note x.file x.index x.member (sym (eqb-true x.note y.note a.0)) (sym (eqb-true x.file y.file b.0)) (sym (eqb-true x.index y.index c.0)) (sym (eqb-true x.member y.member c.1))
+notes_exact = four_exact note_numbers (λ note file index member. record { note = note; file = file; index = index; member = member }) (λ x. refl)
 
 pub notes_equal : IsEquivalence same_note
-notes_equal =
-    and_equiv (on_equiv (λ (x : Note). x.note) nat_eq_equiv)
-    (and_equiv (on_equiv (λ (x : Note). x.file) nat_eq_equiv)
-    (and_equiv (on_equiv (λ (x : Note). x.index) nat_eq_equiv) (on_equiv (λ (x : Note). x.member) nat_eq_equiv)))
+notes_equal = four_equal note_numbers

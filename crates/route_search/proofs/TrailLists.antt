@@ -3,30 +3,13 @@ use Rattle.std.proofs.Common.{◌≡◌, inl, inr, ℕ, ◌+◌, ◌<◌, ◌≤
 use Rattle.std.specs.Prelude.{Contains}
 use Rattle.std.specs.List.Sorted.{IsStrictlyIncreasing}
 use Rattle.std.proofs.lemmas.Bool.{cases_lt}
-use Rattle.std.proofs.lemmas.List.{length-append, length-map, get_or_append_left, get_or_push, get_or-map, map-append, get_or_past, get_or_default}
+use Rattle.std.proofs.lemmas.List.{length-map, get_or-map, map-append, get_or_past, get_or_default}
 use Rattle.std.proofs.lemmas.List.Elements.{Contains-append_left, Contains-push, Contains-push_cases, Contains-get_or}
 use Rattle.venue_types.specs.declared.link.Potential.{Potential}
+use Rattle.venue_types.proofs.Items.{IsStrictlyIncreasing-push}
 use Rattle.link_graph.specs.Views.{potential_view}
 use Rattle.route_search.specs.Labels.{cost_at, no_cost}
 use Rattle.route_search.specs.Trails.{AreNodesBelow, IsPotentialBelow, ArePotentialsBelow}
-
--- numbers that rise, and one above all of them
-rises_with : (row : List ℕ) (n : ℕ) → IsStrictlyIncreasing row → ((i : ℕ) → i < length row → get_or row i 0 < n) → IsStrictlyIncreasing (row ++ n ∷ [])
-rises_with row n rise under i within =
-    let whole : length (row ++ n ∷ []) ≡ length row + 1 = length-append row (n ∷ []) in
-    elim (cases_lt (i + 1) (length row)) [
-      | inl inside ↦
-          let a : get_or (row ++ n ∷ []) i 0 ≡ get_or row i 0 = get_or_append_left row (n ∷ []) 0 i (omega arith) in
-          let b : get_or (row ++ n ∷ []) (i + 1) 0 ≡ get_or row (i + 1) 0 = get_or_append_left row (n ∷ []) 0 (i + 1) inside in
-          let less : get_or row i 0 < get_or row (i + 1) 0 = rise i inside in
-          omega (arith, a, b, less)
-      | inr past ↦
-          let last : length row ≡ i + 1 = omega (arith, within, whole) in
-          let a : get_or (row ++ n ∷ []) i 0 ≡ get_or row i 0 = get_or_append_left row (n ∷ []) 0 i (omega arith) in
-          let b : get_or (row ++ n ∷ []) (i + 1) 0 ≡ n = get_or_push row n 0 (i + 1) last in
-          let less : get_or row i 0 < n = under i (omega arith) in
-          omega (arith, a, b, less)
-    ]
 
 -- what is read at a place is what it costs
 pub cost_read : (costs : List ℕ) (n : ℕ) → n < length costs → cost_at costs n ≡ get_or costs n 0
@@ -65,7 +48,7 @@ nodes_push costs limit k ns cheap are = record {
     | inl before ↦ Contains-append_left ns (k ∷ []) n (are.all n before less)
     | inr last ↦ let here : k ≡ n = omega arith in subst (Contains (ns ++ k ∷ [])) here (Contains-push ns k)
   ];
-  rising = rises_with ns k are.rising (λ i within. (are.only (get_or ns i 0) (Contains-get_or ns i 0 within)).0);
+  rising = IsStrictlyIncreasing-push ns k are.rising (λ i within. (are.only (get_or ns i 0) (Contains-get_or ns i 0 within)).0);
 }
 
 -- ---- potentials
@@ -108,5 +91,5 @@ potentials_push costs limit k ps cheap are = record {
   ];
   rising =
       let whole : map potential_view.node (ps ++ potential_at costs k ∷ []) ≡ map potential_view.node ps ++ k ∷ [] = map-append potential_view.node ps (potential_at costs k ∷ []) in
-      subst IsStrictlyIncreasing (sym whole) (rises_with (map potential_view.node ps) k are.rising (nodes_under costs limit k ps are));
+      subst IsStrictlyIncreasing (sym whole) (IsStrictlyIncreasing-push (map potential_view.node ps) k are.rising (nodes_under costs limit k ps are));
 }

@@ -1,8 +1,11 @@
--- Items of lists by their places, and what stands in a list.
-use Rattle.std.proofs.Common.{◌≡◌, ◌∙◌, ℕ, List, [], ◌∷◌, Some, None, zero, suc, length, map, refl, sym, ap, subst, arith, ◌⊎◌, inl, inr}
+-- Items of lists by their places, what stands in a list, and numbers that rise.
+use Rattle.std.proofs.Common.{◌≡◌, ◌∙◌, ℕ, ◌+◌, ◌<◌, List, [], ◌∷◌, ◌++◌, Some, None, zero, suc, length, map, get_or, refl, sym, ap, subst, arith, ◌⊎◌, inl, inr}
 use Rattle.std.specs.Prelude.{Contains, slice_get, ◌↔◌}
 use Rattle.std.specs.List.{flat_map}
+use Rattle.std.specs.List.Sorted.{IsStrictlyIncreasing}
 use Rattle.std.specs.Option.{option_map}
+use Rattle.std.proofs.lemmas.Bool.{cases_lt}
+use Rattle.std.proofs.lemmas.List.{length-append, get_or_append_left, get_or_push}
 use Rattle.std.proofs.lemmas.List.Elements.{Contains-append_left, Contains-append_right, Contains-append_cases}
 use Rattle.std.proofs.lemmas.Option.{slice_get_within, slice_get_read, slice_get-map, get_or_from_slice_get, same_Some}
 
@@ -61,3 +64,21 @@ flat_map_whole find (z ∷ xs) x y at h =
 -- a list of lists, put together, has what one of them has
 pub Contains-flat_map : {X A : Type 0} (find : X → List A) (xs : List X) (y : A) → Contains (flat_map find xs) y ↔ ((x : X) × Contains xs x × Contains (find x) y)
 Contains-flat_map find xs y = ((λ h. flat_map_only find xs y h), (λ h. flat_map_whole find xs h.0 y h.1 h.2))
+
+-- numbers that rise, and behind them one above all
+pub IsStrictlyIncreasing-push : (xs : List ℕ) (n : ℕ) → IsStrictlyIncreasing xs → ((i : ℕ) → i < length xs → get_or xs i 0 < n) → IsStrictlyIncreasing (xs ++ n ∷ [])
+IsStrictlyIncreasing-push xs n rise under i within =
+    let whole : length (xs ++ n ∷ []) ≡ length xs + 1 = length-append xs (n ∷ []) in
+    elim (cases_lt (i + 1) (length xs)) [
+      | inl inside ↦
+          let a : get_or (xs ++ n ∷ []) i 0 ≡ get_or xs i 0 = get_or_append_left xs (n ∷ []) 0 i (omega arith) in
+          let b : get_or (xs ++ n ∷ []) (i + 1) 0 ≡ get_or xs (i + 1) 0 = get_or_append_left xs (n ∷ []) 0 (i + 1) inside in
+          let less : get_or xs i 0 < get_or xs (i + 1) 0 = rise i inside in
+          omega (arith, a, b, less)
+      | inr past ↦
+          let last : length xs ≡ i + 1 = omega (arith, within, whole) in
+          let a : get_or (xs ++ n ∷ []) i 0 ≡ get_or xs i 0 = get_or_append_left xs (n ∷ []) 0 i (omega arith) in
+          let b : get_or (xs ++ n ∷ []) (i + 1) 0 ≡ n = get_or_push xs n 0 (i + 1) last in
+          let less : get_or xs i 0 < n = under i (omega arith) in
+          omega (arith, a, b, less)
+    ]

@@ -1,7 +1,8 @@
 use Rattle.std.proofs.Common.{arith}
 use Rattle.link_graph.specs.Cores.{network_in}
 use Rattle.link_graph.specs.Graphs.{network}
-use Rattle.link_graph.proofs.AskingRanges.{link_range, links_bound}
+use Rattle.link_graph.proofs.AskingRanges.{link_range}
+use Rattle.link_graph.proofs.LeadingEnds.{links_few}
 use Rattle.link_graph.proofs.graph.Graph.range_law.Goals as goal
 
 pub returns-clause-from : goal.returns-clause-from
@@ -26,7 +27,7 @@ returns-clause-apart c = λ link h. (link_range c.args.self.now.core link c.args
 
 pub returns-clause-links : goal.returns-clause-links
 unfolding network network_in
-returns-clause-links c = let bound = links_bound c.args.self.now.core c.args.self.now.sound in omega (arith, bound)
+returns-clause-links c = let bound = links_few c.args.self.now.core c.args.self.now.sound in omega (arith, bound)
 
 pub returns-clause-once : goal.returns-clause-once
 unfolding network network_in
