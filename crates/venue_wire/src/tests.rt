@@ -190,17 +190,30 @@ fn desk(alloc: Global) -> Result<List<Text>, AllocError> {
     Ok(List::from_vec(keys))
 }
 
-type Row<'t> = (&'t str, &'t str, &'t [u8], Outcome<'t>);
-
-/// Each request of the table comes to what stands beside it.
-fn check_all(
+/// Each request of the table, which has neither fields nor a body, comes to what stands beside it.
+fn check_bare(
     rt: &impl Abort,
     alloc: Global,
     front: &Front,
-    table: &[Row<'_>],
+    table: &[(&str, Outcome<'_>)],
 ) -> Result<(), AllocError> {
-    for (row, (line, fields, body, want)) in table.iter().enumerate() {
-        let bytes = request(alloc, line, fields, body)?;
+    for (row, (line, want)) in table.iter().enumerate() {
+        let bytes = request(alloc, line, "", b"")?;
+        check(rt, alloc, front, &bytes, *want, row)?;
+    }
+    Ok(())
+}
+
+/// With each body of the table such a request by staff comes to what stands beside it.
+fn check_posted(
+    rt: &impl Abort,
+    alloc: Global,
+    front: &Front,
+    line: &str,
+    table: &[(&[u8], Outcome<'_>)],
+) -> Result<(), AllocError> {
+    for (row, (body, want)) in table.iter().enumerate() {
+        let bytes = request(alloc, line, KEY, body)?;
         check(rt, alloc, front, &bytes, *want, row)?;
     }
     Ok(())
@@ -208,238 +221,166 @@ fn check_all(
 
 /// Paths and methods.
 fn check_paths(rt: &impl Abort, alloc: Global, front: &Front) -> Result<(), AllocError> {
-    let table: &[Row<'_>] = &[
-        ("GET /v1/version", "", b"", VERSION),
-        ("GET /v1/version?", "", b"", VERSION),
-        ("GET /v1/places", "", b"", Outcome::Ask(None, What::Places)),
-        ("GET /v1/version/", "", b"", NO_PATH),
-        ("GET /V1/version", "", b"", NO_PATH),
-        ("GET /v2", "", b"", NO_PATH),
-        ("GET /v1/place/", "", b"", NO_PATH),
-        ("GET /v1/place/a/b", "", b"", NO_PATH),
-        ("GET http://a/v1/version", "", b"", NO_PATH),
-        ("OPTIONS *", "", b"", NO_PATH),
-        ("HEAD /v1/version", "", b"", only(Methods::Get)),
-        ("POST /v1/version", "", b"", only(Methods::Get)),
-        ("GET /v1/publish", "", b"", only(Methods::Post)),
-        ("PUT /v1/closures", "", b"", only(Methods::Both)),
+    let table = [
+        ("GET /v1/version", VERSION),
+        ("GET /v1/version?", VERSION),
+        ("GET /v1/places", Outcome::Ask(None, What::Places)),
+        ("GET /v1/version/", NO_PATH),
+        ("GET /V1/version", NO_PATH),
+        ("GET /v2", NO_PATH),
+        ("GET /v1/place/", NO_PATH),
+        ("GET /v1/place/a/b", NO_PATH),
+        ("GET http://a/v1/version", NO_PATH),
+        ("OPTIONS *", NO_PATH),
+        ("HEAD /v1/version", only(Methods::Get)),
+        ("POST /v1/version", only(Methods::Get)),
+        ("GET /v1/publish", only(Methods::Post)),
+        ("PUT /v1/closures", only(Methods::Both)),
         (
             "GET /v1/place/00000000-0000-4000-8000-000000000052",
-            "",
-            b"",
             Outcome::Ask(None, What::Place(I_52)),
         ),
         (
             "GET /v1/place/00000000000040008000000000000052",
-            "",
-            b"",
             Outcome::Ask(None, What::Place(I_52)),
         ),
         (
             "GET /v1/place/URN:UUID:00000000-0000-4000-8000-000000000052",
-            "",
-            b"",
             Outcome::Ask(None, What::Place(I_52)),
         ),
-        ("GET /v1/place/x", "", b"", BAD_QUERY),
+        ("GET /v1/place/x", BAD_QUERY),
         (
             "GET /v1/place/%300000000-0000-4000-8000-000000000052",
-            "",
-            b"",
             BAD_QUERY,
         ),
     ];
-    check_all(rt, alloc, front, table)
+    check_bare(rt, alloc, front, &table)
 }
 
 /// The version that is asked for at least, and what other paths' keys do.
 fn check_queries(rt: &impl Abort, alloc: Global, front: &Front) -> Result<(), AllocError> {
-    let table: &[Row<'_>] = &[
+    let table = [
         (
             "GET /v1/closures?since=7",
-            "",
-            b"",
             Outcome::Ask(Some(7), What::Closures),
         ),
-        ("GET /v1/version?since=0", "", b"", since(0)),
-        ("GET /v1/version?since=%31", "", b"", since(1)),
-        (
-            "GET /v1/version?since=4294967295",
-            "",
-            b"",
-            since(4_294_967_295),
-        ),
-        ("GET /v1/version?since=", "", b"", BAD_QUERY),
-        ("GET /v1/version?since=00", "", b"", BAD_QUERY),
-        ("GET /v1/version?since=01", "", b"", BAD_QUERY),
-        ("GET /v1/version?since=+1", "", b"", BAD_QUERY),
-        ("GET /v1/version?since=4294967296", "", b"", BAD_QUERY),
-        ("GET /v1/version?since=1&since=1", "", b"", BAD_QUERY),
-        ("GET /v1/version?sinc%65=1&since=1", "", b"", BAD_QUERY),
-        ("GET /v1/version?x=1&x=2", "", b"", VERSION),
-        ("GET /v1/version?from=1&from=2", "", b"", VERSION),
+        ("GET /v1/version?since=0", since(0)),
+        ("GET /v1/version?since=%31", since(1)),
+        ("GET /v1/version?since=4294967295", since(4_294_967_295)),
+        ("GET /v1/version?since=", BAD_QUERY),
+        ("GET /v1/version?since=00", BAD_QUERY),
+        ("GET /v1/version?since=01", BAD_QUERY),
+        ("GET /v1/version?since=+1", BAD_QUERY),
+        ("GET /v1/version?since=4294967296", BAD_QUERY),
+        ("GET /v1/version?since=1&since=1", BAD_QUERY),
+        ("GET /v1/version?sinc%65=1&since=1", BAD_QUERY),
+        ("GET /v1/version?x=1&x=2", VERSION),
+        ("GET /v1/version?from=1&from=2", VERSION),
     ];
-    check_all(rt, alloc, front, table)
+    check_bare(rt, alloc, front, &table)
 }
 
 /// Routes.
 fn check_routes(rt: &impl Abort, alloc: Global, front: &Front) -> Result<(), AllocError> {
-    let table: &[Row<'_>] = &[
+    let table = [
         (
             "GET /v1/route?from=00000000-0000-4000-8000-000000000051",
-            "",
-            b"",
             BAD_QUERY,
         ),
         (
             "GET /v1/route?from=00000000-0000-4000-8000-000000000051&to=00000000-0000-4000-8000-000000000052",
-            "",
-            b"",
             BAD_QUERY,
         ),
         (
             "GET /v1/route?from=00000000-0000-4000-8000-000000000051&to=00000000-0000-4000-8000-000000000052&profile=&certificate=maybe",
-            "",
-            b"",
             BAD_QUERY,
         ),
         (
             "GET /v1/route?from=00000000-0000-4000-8000-000000000051&to=00000000-0000-4000-8000-000000000052&profile=&certificate=1",
-            "",
-            b"",
             BAD_QUERY,
         ),
         (
             "GET /v1/route?from=x&to=00000000-0000-4000-8000-000000000052&profile=",
-            "",
-            b"",
             BAD_QUERY,
         ),
         (
             "GET /v1/route?from=00000000-0000-4000-8000-000000000051&to=00000000-0000-4000-8000-000000000052&profile=",
-            "",
-            b"",
             route("", false),
         ),
         (
             "GET /v1/route?from=00000000-0000-4000-8000-000000000051&to=00000000-0000-4000-8000-000000000052&profile=a+b&certificate=yes",
-            "",
-            b"",
             route("a b", true),
         ),
         (
             "GET /v1/route?from=00000000-0000-4000-8000-000000000051&to=00000000-0000-4000-8000-000000000052&profile=%77&certificate=no",
-            "",
-            b"",
             route("w", false),
         ),
     ];
-    check_all(rt, alloc, front, table)
+    check_bare(rt, alloc, front, &table)
 }
 
 /// Staff keys.
 fn check_staff(rt: &impl Abort, alloc: Global, front: &Front) -> Result<(), AllocError> {
-    let table: &[Row<'_>] = &[
-        ("POST /v1/closures", KEY, CLOSING, CLOSED),
+    let table = [
+        (KEY, CLOSED),
+        ("X-Staff-Key: desk-key-1\r\n", CLOSED),
+        ("x-staff-key: \t desk-key-1 \r\n", CLOSED),
+        ("", NOT_STAFF),
         (
-            "POST /v1/closures",
-            "X-Staff-Key: desk-key-1\r\n",
-            CLOSING,
-            CLOSED,
-        ),
-        (
-            "POST /v1/closures",
-            "x-staff-key: \t desk-key-1 \r\n",
-            CLOSING,
-            CLOSED,
-        ),
-        ("POST /v1/closures", "", CLOSING, NOT_STAFF),
-        (
-            "POST /v1/closures",
             "x-staff-key: desk-key-1\r\nx-staff-key: desk-key-1\r\n",
-            CLOSING,
             NOT_STAFF,
         ),
-        (
-            "POST /v1/closures",
-            "x-staff-key: desk-key-1\r\nx-staff-key: a\r\n",
-            CLOSING,
-            NOT_STAFF,
-        ),
-        (
-            "POST /v1/closures",
-            "x-staff-key: Desk-key-1\r\n",
-            CLOSING,
-            NOT_STAFF,
-        ),
-        (
-            "POST /v1/closures",
-            "x-staff-key: desk-key-12\r\n",
-            CLOSING,
-            NOT_STAFF,
-        ),
-        ("POST /v1/closures", "", b"[]", NOT_STAFF),
-        ("POST /v1/closures?since=x", KEY, CLOSING, CLOSED),
+        ("x-staff-key: desk-key-1\r\nx-staff-key: a\r\n", NOT_STAFF),
+        ("x-staff-key: Desk-key-1\r\n", NOT_STAFF),
+        ("x-staff-key: desk-key-12\r\n", NOT_STAFF),
     ];
-    check_all(rt, alloc, front, table)
+    for (row, (fields, want)) in table.iter().enumerate() {
+        let bytes = request(alloc, "POST /v1/closures", fields, CLOSING)?;
+        check(rt, alloc, front, &bytes, *want, row)?;
+    }
+    let bytes = request(alloc, "POST /v1/closures", "", b"[]")?;
+    check(rt, alloc, front, &bytes, NOT_STAFF, 8)?;
+    let bytes = request(alloc, "POST /v1/closures?since=x", KEY, CLOSING)?;
+    check(rt, alloc, front, &bytes, CLOSED, 9)
 }
 
 /// Bodies.
 fn check_bodies(rt: &impl Abort, alloc: Global, front: &Front) -> Result<(), AllocError> {
-    let table: &[Row<'_>] = &[
+    let table: &[(&[u8], Outcome<'_>)] = &[
         (
-            "POST /v1/closures",
-            KEY,
             b"\xef\xbb\xbf{\"feature\":\"00000000-0000-4000-8000-000000000301\",\"closed\":true}",
             BAD_BODY,
         ),
-        ("POST /v1/closures", KEY, b"\"\"", BAD_BODY),
-        ("POST /v1/closures", KEY, b"[]", BAD_BODY),
-        ("POST /v1/closures", KEY, b"", BAD_BODY),
+        (b"\"\"", BAD_BODY),
+        (b"[]", BAD_BODY),
+        (b"", BAD_BODY),
         (
-            "POST /v1/closures",
-            KEY,
             b"{\"feature\":\"00000000-0000-4000-8000-000000000301\",\"closed\":true,\"z\":\"\xff\"}",
             BAD_BODY,
         ),
         (
-            "POST /v1/closures",
-            KEY,
             b"{\"feature\":\"00000000-0000-4000-8000-000000000301\",\"closed\":null}",
             BAD_BODY,
         ),
         (
-            "POST /v1/closures",
-            KEY,
             b"{\"feature\":\"00000000-0000-4000-8000-000000000301\"}",
             BAD_BODY,
         ),
+        (b"{\"feature\":301,\"closed\":true}", BAD_BODY),
         (
-            "POST /v1/closures",
-            KEY,
-            b"{\"feature\":301,\"closed\":true}",
-            BAD_BODY,
-        ),
-        (
-            "POST /v1/closures",
-            KEY,
             b"{\"feature\":\"00000000-0000-4000-8000-000000000301\",\"closed\":true,\"z\":\"\\ud800\"}",
             BAD_BODY,
         ),
         (
-            "POST /v1/closures",
-            KEY,
             b"{\"feature\":\"00000000-0000-4000-8000-000000000301\",\"closed\":true,\"z\":1e400}",
             BAD_BODY,
         ),
         (
-            "POST /v1/closures",
-            KEY,
             b"{\"closed\":1,\"feature\":\"x\",\"feature\":\"00000000-0000-4000-8000-000000000301\",\"closed\":false}",
             Outcome::Closure(I_0301, false),
         ),
     ];
-    check_all(rt, alloc, front, table)
+    check_posted(rt, alloc, front, "POST /v1/closures", table)
 }
 
 /// Bodies at the limits of depth and of a folder's name.
@@ -449,27 +390,17 @@ fn check_limits(rt: &impl Abort, alloc: Global, front: &Front) -> Result<(), All
     let long = repeated(alloc, b"{\"folder\":\"", b"a", 64, b"\"}")?;
     let longer = repeated(alloc, b"{\"folder\":\"", b"a", 65, b"\"}")?;
     let folder = "aaaaaaaaaaaaaaaaaaaaaaaaaaaaaaaaaaaaaaaaaaaaaaaaaaaaaaaaaaaaaaaa";
-    let table: &[Row<'_>] = &[
-        ("POST /v1/closures", KEY, &deep, CLOSED),
-        ("POST /v1/closures", KEY, &deeper, BAD_BODY),
-        (
-            "POST /v1/publish",
-            KEY,
-            b"{\"folder\":\"tall\"}",
-            Outcome::Publish("tall"),
-        ),
-        ("POST /v1/publish", KEY, &long, Outcome::Publish(folder)),
-        ("POST /v1/publish", KEY, &longer, BAD_BODY),
-        (
-            "POST /v1/publish",
-            KEY,
-            b"{\"folder\":\"../tall\"}",
-            BAD_BODY,
-        ),
-        ("POST /v1/publish", KEY, b"{\"folder\":\"Tall\"}", BAD_BODY),
-        ("POST /v1/publish", KEY, b"{\"folder\":\"\"}", BAD_BODY),
+    let table: &[(&[u8], Outcome<'_>)] = &[(&deep, CLOSED), (&deeper, BAD_BODY)];
+    check_posted(rt, alloc, front, "POST /v1/closures", table)?;
+    let table: &[(&[u8], Outcome<'_>)] = &[
+        (b"{\"folder\":\"tall\"}", Outcome::Publish("tall")),
+        (&long, Outcome::Publish(folder)),
+        (&longer, BAD_BODY),
+        (b"{\"folder\":\"../tall\"}", BAD_BODY),
+        (b"{\"folder\":\"Tall\"}", BAD_BODY),
+        (b"{\"folder\":\"\"}", BAD_BODY),
     ];
-    check_all(rt, alloc, front, table)
+    check_posted(rt, alloc, front, "POST /v1/publish", table)
 }
 
 #[test]
