@@ -20,59 +20,39 @@ const IDENTIFIER: &str = "00000000-0000-4000-8000-00000000";
 
 const ADDRESS: &str = "127.0.0.1:7070";
 
-/// The folder, the workers and the connections, which bind, accept and write of the console fail, the room of the console, what is
-/// printed, the status, and how many failures the doors have counted.
-type Row = ([&'static str; 3], [u64; 3], usize, &'static str, u8, u64);
+/// The folder, the workers and the connections, which write of the console fails, its room, what is printed, and the status.
+type Row = ([&'static str; 3], u64, usize, &'static str, u8);
 
 static WORDS: [Row; 5] = [
-    (["station", "0", "1"], [0, 0, 0], 400, "words\n", 2, 0),
-    (["station", "17", "1"], [0, 0, 0], 400, "words\n", 2, 0),
-    (["station", "1", "0"], [0, 0, 0], 400, "words\n", 2, 0),
-    (["station", "01", "1"], [0, 0, 0], 400, "words\n", 2, 0),
-    (["station", "1", "1000001"], [0, 0, 0], 400, "words\n", 2, 0),
+    (["station", "0", "1"], 0, 400, "words\n", 2),
+    (["station", "17", "1"], 0, 400, "words\n", 2),
+    (["station", "1", "0"], 0, 400, "words\n", 2),
+    (["station", "01", "1"], 0, 400, "words\n", 2),
+    (["station", "1", "1000001"], 0, 400, "words\n", 2),
 ];
 
-static STOPS: [Row; 6] = [
-    (
-        ["station", "1", "1000000"],
-        [1, 0, 0],
-        400,
-        "fault doors\n",
-        3,
-        1,
-    ),
-    (
-        ["station", "1", "3"],
-        [0, 2, 0],
-        400,
-        "listening 127.0.0.1:7070\nworkers 1 sessions 1 versions 1 changes 0\n",
-        3,
-        1,
-    ),
+static STOPS: [Row; 4] = [
     (
         ["tall", "1", "1"],
-        [0, 0, 0],
+        0,
         400,
         "rejected 1\nfinding K1 unit.geojson 7 0\n",
         1,
-        0,
     ),
-    (["station", "1", "1"], [0, 0, 1], 400, "", 3, 0),
+    (["station", "1", "1"], 1, 400, "", 3),
     (
         ["station", "1", "1"],
-        [0, 0, 2],
+        2,
         400,
         "listening 127.0.0.1:7070\n",
         3,
-        0,
     ),
     (
         ["station", "1", "1"],
-        [0, 0, 0],
+        0,
         30,
         "listening 127.0.0.1:7070\nworke",
         3,
-        0,
     ),
 ];
 
@@ -159,12 +139,10 @@ fn folders(alloc: Global) -> Result<MemoryFolders, Fail> {
 }
 
 // Doors through which come clients that say nothing.
-fn silent_doors(alloc: Global, bind: u64, accept: u64) -> Result<MemoryDoors, Fail>
+fn silent_doors(alloc: Global) -> Result<MemoryDoors, Fail>
     ensures { IfOk result (λ doors. doors_ready doors ≡ false) }
 {
-    let binds = vec![in alloc; bind]?;
-    let accepts = vec![in alloc; accept]?;
-    match MemoryDoors::new(alloc, Vec::new(alloc), binds, accepts) {
+    match MemoryDoors::new(alloc, Vec::new(alloc), Vec::new(alloc), Vec::new(alloc)) {
         Ok(doors) => Ok(doors),
         Err(_) => Err(Fail::new("no doors")),
     }
@@ -190,21 +168,19 @@ fn judge_words<R: Abort + Threads + Wait + Sync>(
     rt: &R,
     alloc: Global,
     words: &[&str],
-    failing: [u64; 3],
+    write: u64,
     room: usize,
     text: &str,
     status: u8,
-    faults: u64,
 ) -> Result<(), Fail> {
-    let [bind, accept, write] = failing;
     let words = owned(alloc, words)?;
     let folders = folders(alloc)?;
-    let doors = silent_doors(alloc, bind, accept)?;
+    let doors = silent_doors(alloc)?;
     let mut console = console(alloc, room, write)?;
     let ended = run(rt, alloc, words.as_slice(), folders, doors, &mut console);
     assert_eq!(rt; str::from_utf8(console.written()), Ok(text));
     assert_eq!(rt; ended.status.code(), status, "at {text}");
-    assert_eq!(rt; ended.doors.fault_count(), faults, "at {text}");
+    assert_eq!(rt; ended.doors.fault_count(), 0, "at {text}");
     Ok(())
 }
 
@@ -214,10 +190,10 @@ fn judge_rows<R: Abort + Threads + Wait + Sync>(
     rows: &[Row],
 ) -> Result<(), Fail> {
     for row in rows {
-        let (words, failing, room, text, status, faults) = *row;
+        let (words, write, room, text, status) = *row;
         let [folder, workers, connections] = words;
         let words = ["serve", "base", folder, ADDRESS, workers, connections];
-        judge_words(rt, alloc, &words, failing, room, text, status, faults)?;
+        judge_words(rt, alloc, &words, write, room, text, status)?;
     }
     Ok(())
 }
@@ -297,13 +273,13 @@ fn addresses_of_at_most_256_bytes(rt: HostRuntime) -> Result<(), Fail> {
     let alloc = rt.alloc();
     let long = "a".repeat(alloc, 257)?;
     let words = ["serve", "base", "station", long.as_str(), "1", "1"];
-    judge_words(&rt, alloc, &words, [0, 0, 0], 400, "words\n", 2, 0)?;
+    judge_words(&rt, alloc, &words, 0, 400, "words\n", 2)?;
     let address = "a".repeat(alloc, 256)?;
     let words = ["serve", "base", "station", address.as_str(), "16", "1"];
     let text = format!(in alloc;
         "listening {address}\nworkers 16 sessions 1 versions 1 changes 0\n"
     )?;
-    judge_words(&rt, alloc, &words, [0, 0, 0], 400, text.as_str(), 0, 0)
+    judge_words(&rt, alloc, &words, 0, 400, text.as_str(), 0)
 }
 
 #[test]

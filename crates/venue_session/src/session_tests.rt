@@ -27,9 +27,6 @@ const PADDED: &str = "GET /v1/version HTTP/1.1\r\nhost: a\r\nx: ";
 // Version 9 or a later one is asked for.
 const SINCE: &str = "GET /v1/version?since=9 HTTP/1.1\r\nhost: a\r\n\r\n";
 
-// The body is a byte too long.
-const LONG: &str = "GET /v1/version HTTP/1.1\r\nhost: a\r\ncontent-length: 65537\r\n\r\n";
-
 // There are two hosts.
 const TWICE: &str = "GET /v1/version HTTP/1.1\r\nhost: a\r\nhost: b\r\n\r\n";
 
@@ -69,8 +66,8 @@ const TOO_LARGE: &str =
 const BAD_HEAD: &str =
     "HTTP/1.1 400 Bad Request\r\ncontent-type: application/json\r\ncontent-length: 20\r\nconnection: close\r\n\r\n{\"error\":\"bad_head\"}";
 
-const BODY_TOO_LARGE: &str =
-    "HTTP/1.1 413 Payload Too Large\r\ncontent-type: application/json\r\ncontent-length: 26\r\nconnection: close\r\n\r\n{\"error\":\"body_too_large\"}";
+// The sizes of pieces in which each input comes, in turn; 0 where it comes whole.
+static PIECES: [usize; 3] = [0, 1, 7];
 
 // What comes, what is written for it, and how the session then ends.
 #[derive(Clone, Copy)]
@@ -79,16 +76,10 @@ struct Row {
     input: &'static [&'static str],
     // How many letters stand for the sign `*` in the input.
     fill: usize,
-    // The sizes of pieces in which the input comes, in turn; 0 where it comes whole.
-    pieces: &'static [usize],
-    // Which read and which write fail, from 1.
-    failing_read: u64,
+    // Which write fails, from 1.
     failing_write: u64,
     written: &'static [&'static str],
     end: End,
-    // What comes in a second session over the same hall, and is written for it.
-    then: &'static [&'static str],
-    later: &'static [&'static str],
 }
 
 fn telling(
@@ -101,13 +92,9 @@ fn telling(
         name,
         input,
         fill: 0,
-        pieces: &[0, 1, 7],
-        failing_read: 0,
         failing_write: 0,
         written,
         end,
-        then: &[],
-        later: &[],
     }
 }
 
@@ -132,9 +119,8 @@ fn sizes(alloc: Global, size: usize, length: usize) -> Result<Vec<usize>, Fail> 
 fn stream(alloc: Global, row: &Row, size: usize) -> Result<MemoryStream, Fail> {
     let input = joined(alloc, row.input, row.fill)?;
     let pieces = sizes(alloc, size, input.len())?;
-    let reads = vec![in alloc; row.failing_read]?;
     let writes = vec![in alloc; row.failing_write]?;
-    match MemoryStream::new(alloc, input, pieces, 2_000, reads, writes) {
+    match MemoryStream::new(alloc, input, pieces, 2_000, Vec::new(alloc), writes) {
         Ok(stream) => Ok(stream),
         Err(_) => Err(Fail::new("no stream")),
     }
@@ -191,7 +177,7 @@ fn hall(
     }
 }
 
-// The sessions of a row, over a hall of their own for each size of pieces.
+// The session of a row, over a hall of its own for each size of pieces.
 fn judge(
     rt: &impl Abort,
     alloc: Global,
@@ -202,11 +188,9 @@ fn judge(
 ) -> Result<(), Fail>
     requires { (arc_value venue.now).settings ≡ arc_value settings.now }
 {
-    let second = telling(row.name, row.then, row.later, End::Done);
-    for size in row.pieces {
+    for size in &PIECES {
         let mut hall = hall(alloc, settings, venue)?;
         judge_session(rt, alloc, &mut hall, front, row, *size)?;
-        judge_session(rt, alloc, &mut hall, front, &second, *size)?;
     }
     Ok(())
 }
@@ -258,12 +242,6 @@ fn sessions_end(rt: HostRuntime) -> Result<(), Fail> {
             )
         },
         telling(
-            "a body of 65,537 bytes",
-            &[VERSION, LONG],
-            &[FIRST, BODY_TOO_LARGE],
-            End::Refused(413),
-        ),
-        telling(
             "two hosts",
             &[VERSION, TWICE, VERSION],
             &[FIRST, BAD_HEAD],
@@ -302,17 +280,6 @@ fn sessions_end(rt: HostRuntime) -> Result<(), Fail> {
                 &[FIRST],
                 End::LinkFault,
             )
-        },
-        Row {
-            failing_read: 2,
-            pieces: &[10],
-            ..telling("the second read fails", &[VERSION], &[], End::LinkFault)
-        },
-        Row {
-            failing_write: 1,
-            then: &[VERSION],
-            later: &[SECOND],
-            ..telling("a closure untold", &[CLOSURE, LIFT], &[], End::LinkFault)
         },
     ] {
         judge(&rt, alloc, &settings, &venue, &front, &row)?;

@@ -1,79 +1,21 @@
-//! The program, while the disk or the console fails, and over folders about the limits.
+//! The program, while the disk or the console fails.
 
-use super::outside::{Ended, doors, file, folders, joined, run_over, stream};
+use super::outside::{Ended, file, joined, run_without_doors};
 use super::texts::{FIRST, FOLDER_FAULT, NEW_FOLDER, PUBLICATION, PUBLISHED, VERSION};
 use station_folder::{Change, station_files};
-use std::alloc::{AllocError, Global};
+use std::alloc::Global;
 use std::process::Abort;
 use std::sync::Wait;
 use std::test::Fail;
 use std::thread::Threads;
-use venue_ports::MemoryFile;
 
 const SESSION: [&str; 3] = ["session", "base", "station"];
-
-const CHECK: [&str; 3] = ["check", "base", "station"];
 
 // Three nodes.
 const LINKS: &str =
     "imdf-links 1\nnode 00000000-0000-4000-8000-000000000001\nnode 00000000-0000-4000-8000-000000000002\nnode 00000000-0000-4000-8000-000000000003\nlink 0 1 633 00000000-0000-4000-8000-000000000009\nlink 1 2 200 00000000-0000-4000-8000-000000000009\nlink 0 2 900 00000000-0000-4000-8000-000000000009\nend\n";
 
 const WALK: &str = "imdf-walk 1\nfrom 0\nstep 0\nstep 1\nend\n";
-
-// The front of the station's addresses, with its one.
-const ADDRESSES: &str =
-    "{\"type\":\"FeatureCollection\",\"features\":[{\"type\":\"Feature\",\"id\":\"00000000-0000-4000-8000-000000000001\",\"feature_type\":\"address\",\"geometry\":null,\"properties\":{}}";
-
-// The program without doors, where the read of a file and the write to the console with these numbers fail.
-fn run_without_doors(
-    rt: &(impl Threads + Wait + Sync),
-    alloc: Global,
-    words: &[&str],
-    files: Vec<MemoryFile>,
-    input: Vec<u8>,
-    failing: [u64; 2],
-) -> Result<Ended, Fail> {
-    let [read, write] = failing;
-    let folders = folders(alloc, files, read)?;
-    let doors = doors(alloc, Vec::new(alloc), [0, 0])?;
-    let console = stream(alloc, input, 0, 4_000, [0, write])?;
-    run_over(rt, alloc, words, folders, doors, console)
-}
-
-// The station, its settings, and `address.geojson` as these bytes.
-fn station_with_addresses(alloc: Global, bytes: Vec<u8>) -> Result<Vec<MemoryFile>, Fail> {
-    let mut files = station_files(alloc, "base", "station", Change::of(&[]))?;
-    files.push(file(alloc, "base/station", "address.geojson", bytes)?)?;
-    Ok(files)
-}
-
-// The station's addresses with so many more.
-fn addresses(alloc: Global, more: u32) -> Result<Vec<u8>, AllocError> {
-    let mut text = String::from_str(alloc, ADDRESSES)?;
-    for number in 0..more {
-        let item = format!(in alloc;
-            ",{{\"type\":\"Feature\",\"id\":\"00000000-0000-4000-8000-1{number:0>11}\",\"feature_type\":\"address\",\"geometry\":null,\"properties\":{{}}}}"
-        )?;
-        text.push_str(item.as_str())?;
-    }
-    text.push_str("]}")?;
-    Ok(text.into_bytes())
-}
-
-// `check` over the station with these addresses prints this.
-fn judge_addresses<R: Abort + Threads + Wait + Sync>(
-    rt: &R,
-    alloc: Global,
-    bytes: Vec<u8>,
-    text: &str,
-    status: u8,
-) -> Result<(), Fail> {
-    let files = station_with_addresses(alloc, bytes)?;
-    let ended = run_without_doors(rt, alloc, &CHECK, files, Vec::new(alloc), [0, 0])?;
-    assert_eq!(rt; str::from_utf8(ended.text.as_slice()), Ok(text));
-    assert_eq!(rt; ended.status, status);
-    Ok(())
-}
 
 // A session over the station, where the read of a file and the write to the console with these numbers fail.
 fn run_session(
@@ -158,32 +100,4 @@ pub(super) fn each_read_of_a_publication_fails(
         assert_eq!(rt; ended.folder_faults, 1, "at read {read}");
     }
     Ok(())
-}
-
-pub(super) fn a_file_is_spaces(
-    rt: &(impl Threads + Wait + Abort + Sync),
-    alloc: Global,
-) -> Result<(), Fail> {
-    let spaces = vec![in alloc; b' '; 33_554_432]?;
-    judge_addresses(
-        rt,
-        alloc,
-        spaces,
-        "rejected 1\nfinding F3 address.geojson 0 0\n",
-        1,
-    )
-}
-
-pub(super) fn a_folder_has_the_most_features(
-    rt: &(impl Threads + Wait + Abort + Sync),
-    alloc: Global,
-) -> Result<(), Fail> {
-    // The station has 44 features.
-    judge_addresses(
-        rt,
-        alloc,
-        addresses(alloc, 99_956)?,
-        "accepted 100000\nnotes 0\n",
-        0,
-    )
 }

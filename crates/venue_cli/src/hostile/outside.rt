@@ -121,6 +121,22 @@ pub(super) fn run_over<D: Doors + Send + Drop, R: Threads + Wait + Sync>(
     })
 }
 
+/// Runs the program without doors, where the read of a file and the write to the console with these numbers fail.
+pub(super) fn run_without_doors(
+    rt: &(impl Threads + Wait + Sync),
+    alloc: Global,
+    words: &[&str],
+    files: Vec<MemoryFile>,
+    input: Vec<u8>,
+    failing: [u64; 2],
+) -> Result<Ended, Fail> {
+    let [read, write] = failing;
+    let folders = folders(alloc, files, read)?;
+    let doors = doors(alloc, Vec::new(alloc), [0, 0])?;
+    let console = stream(alloc, input, 0, 4_000, [0, write])?;
+    run_over(rt, alloc, words, folders, doors, console)
+}
+
 /// The station's venue.
 pub(super) fn venue_of(alloc: Global, settings: &Settings) -> Result<Arc<Venue>, Fail>
     ensures { IfOk result (λ venue. (arc_value venue).settings ≡ settings.now) }

@@ -1,4 +1,4 @@
-//! A service with two workers, of whose clients one says nothing and one fails.
+//! Services of whose clients or doors some fail.
 
 ghost use Rattle.std.specs.Prelude.{◌≡◌, false, IfOk};
 ghost use Rattle.venue_ports.specs.Doors.{doors_ready, doors_accepted, doors_binds, doors_bound, doors_faults};
@@ -89,6 +89,16 @@ static CLIENTS: [(&str, usize, u64); 3] = [("", 0, 0), (VERSION, 10, 2), (VERSIO
 
 const WORDS: [&str; 6] = ["serve", "base", "station", "127.0.0.1:80", "2", "3"];
 
+// How many connections are asked for, which bind and which accept fail (0: none), and what is printed.
+static STOPS: [(&str, [u64; 2], &str); 2] = [
+    ("1000000", [1, 0], "fault doors\n"),
+    (
+        "3",
+        [0, 2],
+        "listening 127.0.0.1:7070\nworkers 1 sessions 1 versions 1 changes 0\n",
+    ),
+];
+
 // The doors through which the clients come.
 fn heard_doors<'a, R>(
     rt: &'a R,
@@ -124,5 +134,42 @@ pub(super) fn a_client_says_nothing_and_another_fails(
     assert_eq!(rt; ended.door_faults, 0);
     let heard = heard.into_inner();
     assert_eq!(rt; str::from_utf8(heard.as_slice()), Ok(FIRST));
+    Ok(())
+}
+
+// A service of one worker, whose clients say nothing.
+fn judge_stop<R: Abort + Threads + Wait + Sync>(
+    rt: &R,
+    alloc: Global,
+    connections: &str,
+    failing: [u64; 2],
+    text: &str,
+) -> Result<(), Fail> {
+    let files = station_files(alloc, "base", "station", Change::of(&[]))?;
+    let folders = folders(alloc, files, 0)?;
+    let doors = doors(alloc, Vec::new(alloc), failing)?;
+    let console = stream(alloc, Vec::new(alloc), 0, 1_000, [0, 0])?;
+    let words = [
+        "serve",
+        "base",
+        "station",
+        "127.0.0.1:7070",
+        "1",
+        connections,
+    ];
+    let ended = run_over(rt, alloc, &words, folders, doors, console)?;
+    assert_eq!(rt; str::from_utf8(ended.text.as_slice()), Ok(text));
+    assert_eq!(rt; ended.status, 3, "at {text}");
+    assert_eq!(rt; ended.door_faults, 1, "at {text}");
+    Ok(())
+}
+
+pub(super) fn doors_fail(
+    rt: &(impl Threads + Wait + Abort + Sync),
+    alloc: Global,
+) -> Result<(), Fail> {
+    for (connections, failing, text) in &STOPS {
+        judge_stop(rt, alloc, connections, *failing, text)?;
+    }
     Ok(())
 }

@@ -13,14 +13,7 @@ pub(super) type BulkRow = (
     &'static str,
 );
 
-pub(super) static BYTES: [BulkRow; 5] = [
-    (
-        "F2",
-        &[(ADDRESS, "", "", "+")],
-        "   ",
-        11_184_811,
-        "rejected 1\nfinding F2 address.geojson 0 0\n",
-    ),
+pub(super) static BYTES: [BulkRow; 4] = [
     (
         "F2 of the venue",
         &[(VENUE, "", "", "+")],
@@ -51,19 +44,7 @@ pub(super) static BYTES: [BulkRow; 5] = [
     ),
 ];
 
-pub(super) static COUNTS: [BulkRow; 5] = [
-    (
-        "S1",
-        &[(
-            SECTION,
-            "",
-            "",
-            "{'type':'FeatureCollection','features':[+{'type':'Feature','id':'@0070','feature_type':'section','properties':{}}]}",
-        )],
-        "{'type':'Feature','id':'@0070','feature_type':'section','properties':{}},",
-        99_956,
-        "rejected 1\nfinding S1 manifest.json 0 0\n",
-    ),
+pub(super) static COUNTS: [BulkRow; 2] = [
     (
         "100,000 features",
         &[
@@ -80,30 +61,6 @@ pub(super) static COUNTS: [BulkRow; 5] = [
         "rejected 1\nfinding M3 manifest.json 0 0\n",
     ),
     (
-        "S4",
-        &[(
-            RELATIONSHIP,
-            "@0021",
-            "'origin'",
-            "'intermediary':[+{'id':'@0301','feature_type':'unit'}],'origin'",
-        )],
-        "{'id':'@0301','feature_type':'unit'},",
-        63,
-        "rejected 1\nfinding S4 relationship.geojson 0 0\n",
-    ),
-    (
-        "65 elements",
-        &[(
-            RELATIONSHIP,
-            "@0021",
-            "'origin'",
-            "'intermediary':[+{'id':'@0301','feature_type':'unit'}],'origin'",
-        )],
-        "{'id':'@0301','feature_type':'unit'},",
-        62,
-        "accepted 44\nnotes 0\n",
-    ),
-    (
         "66 elements of which one is null",
         &[(
             RELATIONSHIP,
@@ -117,7 +74,7 @@ pub(super) static COUNTS: [BulkRow; 5] = [
     ),
 ];
 
-pub(super) static POSITIONS: [BulkRow; 6] = [
+pub(super) static POSITIONS: [BulkRow; 5] = [
     (
         "S2",
         &[(OPENING, "", "(21,40),", "+")],
@@ -131,13 +88,6 @@ pub(super) static POSITIONS: [BulkRow; 6] = [
         "[9,50],",
         999_881,
         "rejected 1\nfinding G6 manifest.json 0 0\n",
-    ),
-    (
-        "S3",
-        &[(UNIT, "@0307", "(62,20),", "+")],
-        "(62,20),",
-        19_997,
-        "rejected 1\nfinding S3 unit.geojson 7 0\n",
     ),
     (
         "ring of 20,000 positions",

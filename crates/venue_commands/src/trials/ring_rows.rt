@@ -10,12 +10,7 @@ const WALKWAY: &str = "[(10,10),(90,10),(90,40),(10,40),(10,10)]";
 
 const LEVEL_RING: &str = "[(0,0),(100,0),(100,60),(0,60),(0,0)]";
 
-pub(super) static RINGS: [Row; 28] = [
-    (
-        "G6",
-        &[(ANCHOR, "@0041", "(22,4)", "[10.3,50.00004]")],
-        "rejected 1\nfinding G6 manifest.json 0 0\n",
-    ),
+pub(super) static RINGS: [Row; 27] = [
     (
         "G6 by a nanodegree",
         &[(ANCHOR, "@0041", "(22,4)", "[10.200000001,50.00004]")],
