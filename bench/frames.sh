@@ -62,5 +62,5 @@ fn main(rt: HostRuntime) -> io::Result<()> {
 }
 END
 python3 bench/time_frames.py make "$work"
-(cd "$work/crates/time_frames" && rt run --jobs 1 -- "$work/37" 1 1) >"$work/build.log" 2>&1 || { tail -n 20 "$work/build.log" >&2; exit 1; }
+build_program "$work" time_frames "$work/37" 1 1
 python3 bench/time_frames.py time "$work" "$work/crates/time_frames/out/time_frames" "$work/time_httparse"

@@ -60,7 +60,7 @@ fn main(rt: HostRuntime) -> io::Result<()> {
     println!(rt; "{text} {judged} {whole} {}", size(&files))
 }
 END
-(cd "$work/crates/time_parts" && rt run) >"$work/build.log" 2>&1 || { tail -n 20 "$work/build.log" >&2; exit 1; }
+build_program "$work" time_parts
 for _ in 1 2 3 4 5; do "$work/crates/time_parts/out/time_parts"; done | sort -k3 -n | head -n 1 | {
     read -r text judged whole bytes
     python3 - "$text" "$judged" "$whole" "$bytes" <<'END'

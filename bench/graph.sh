@@ -1,10 +1,12 @@
 #!/usr/bin/env bash
 # `link_graph::Graph::build` over the venue of `levels.py`, 200 levels where no number is given, beside plain Rust that makes stored rows
-# of the printed table: the least milliseconds of five builds in each of three turns, and the most bytes held while one is made.
-# Wants the kit (rt), python3, rustc and gcc. The first build proves some twenty crates and takes a while.
+# of the printed table, with the reading of the table from memory and without it: the least milliseconds of five builds in each of three
+# turns, and the most bytes held while one is made, without what it is made of. Wants the kit (rt), python3, rustc and gcc. The first build
+# proves some twenty crates and takes a while.
 set -e
 cd "$(dirname "$0")/.."
 . bench/lay_out.sh
+. bench/program_parts.sh
 levels=${1:-200}
 work=$(mktemp -d)
 trap 'rm -rf "$work"' EXIT
@@ -14,7 +16,7 @@ gcc -O2 -shared -fPIC -o "$work/count_bytes.so" bench/count_bytes.c
 
 # A repository of its own, with a program that times the call.
 lay_out "$work" time_graph link_graph venue_folder venue_ports station_folder imdf_read reading_laws imdf_refs ring_rules opening_match
-mkdir -p "$work/crates/time_graph/proofs"/{judged,read}
+mkdir -p "$work/crates/time_graph/proofs/judged"
 cat >"$work/crates/time_graph/src/main.rt" <<'END'
 //! Times the making of the graph of a folder, so many times, and prints the least milliseconds and the number of its nodes:
 //! `time_graph FOLDER ROUNDS`. With no rounds it prints the table of its links, and marks the making for `count_bytes.c`.
@@ -121,6 +123,7 @@ fn show(
     out.flush()
 }
 
+// The least milliseconds of so many makings, or the table where there are to be none.
 fn time(
     rt: &HostRuntime,
     features: &Features,
@@ -133,6 +136,9 @@ fn time(
     requires close { AllClose (judged_positions features.now) }
     requires touches { AreTouches settings.now.border_tol features.now touches.now }
 {
+    if rounds == 0 {
+        return show(rt, features, touches, settings);
+    }
     let mut least = 1e9;
     let mut nodes = 0;
     for _ in 0..rounds {
@@ -147,34 +153,42 @@ fn time(
     println!(rt; "{least} {nodes}")
 }
 
-fn judged(rt: &HostRuntime, features: &Features, settings: &Settings, rounds: u32) -> io::Result<()>
+fn judged(
+    rt: &HostRuntime,
+    features: &Features,
+    settings: &Settings,
+    rounds: u32,
+) -> Result<io::Result<()>, OutOfMemory>
     requires { AreSound features.now }
 {
     own_ids_law();
-    let misnamed = reference_findings(rt.alloc(), features).map_err(no_memory)?;
+    let misnamed = reference_findings(rt.alloc(), features)?;
     if !misnamed.is_empty() {
-        return Err(Error::other("misnamed"));
+        return Ok(Err(Error::other("misnamed")));
     }
     if is_spread(features) {
-        return Err(Error::other("spread"));
+        return Ok(Err(Error::other("spread")));
     }
-    let touches = touches(rt.alloc(), features, settings).map_err(no_memory)?;
-    if rounds == 0 {
-        show(rt, features, &touches, settings)
-    } else {
-        time(rt, features, &touches, settings, rounds)
-    }
+    let touches = touches(rt.alloc(), features, settings)?;
+    Ok(time(rt, features, &touches, settings, rounds))
 }
 
-fn read(rt: &HostRuntime, files: &Files, settings: &Settings, rounds: u32) -> io::Result<()>
+fn read(
+    rt: &HostRuntime,
+    files: &Files,
+    settings: &Settings,
+    rounds: u32,
+) -> Result<io::Result<()>, OutOfMemory>
     requires { length files.now.slots ≡ 17 }
 {
     sound_reading_law();
     let ReadOut {
-        features, findings, ..
-    } = read_folder(rt.alloc(), files).map_err(no_memory)?;
+        features,
+        findings,
+        ..
+    } = read_folder(rt.alloc(), files)?;
     if !findings.is_empty() {
-        return Err(Error::other("broken"));
+        return Ok(Err(Error::other("broken")));
     }
     judged(rt, &features, settings, rounds)
 }
@@ -194,48 +208,46 @@ fn main(rt: HostRuntime) -> io::Result<()> {
         Err(_) => return Err(Error::other("not read")),
     };
     let settings = station_settings(rt.alloc()).map_err(no_memory)?;
-    read(&rt, &files, &settings, rounds)
+    read(&rt, &files, &settings, rounds).map_err(no_memory)?
 }
-END
-cat >"$work/crates/time_graph/proofs/Lib.antt" <<'END'
-pub mod Silent
-END
-cat >"$work/crates/time_graph/proofs/Silent.antt" <<'END'
--- An empty report: nothing is broken.
-use Rattle.std.proofs.Common.{◌≡◌, List, [], subst}
-use Rattle.std.specs.Prelude.{Contains}
-use Rattle.venue_types.specs.declared.finding.Finding.{Finding}
-use Rattle.report_laws.specs.Reports.{IsReport}
-use Rattle.report_laws.proofs.Members.{Contains-nil}
-
-pub nothing : (P : Finding → Type 0) (findings : List Finding) → findings ≡ [] → IsReport P findings → (x : Finding) → ¬ P x
-nothing P findings empty report x breaks = Contains-nil x (subst (λ (xs : List Finding). Contains xs x) empty (report.whole x breaks))
 END
 cat >"$work/crates/time_graph/proofs/judged/Answers.antt" <<'END'
 use Rattle.imdf_refs.specs.Rules.{IsMisnamed}
 use Rattle.time_graph.proofs.Silent.{nothing}
 use Rattle.time_graph.proofs.judged.Goals as goal
 
-pub show-requires-clause-own_ids : goal.show-requires-clause-own_ids
-show-requires-clause-own_ids c =
-    let features = c.args.features.now in
-    c.own_ids_law.ensures features (nothing (IsMisnamed features) c.in_ok-misnamed.misnamed (c.is_empty.ensures.0 c.if-not-is_empty.false) c.in_ok-misnamed.ensures)
-
 pub time-requires-clause-own_ids : goal.time-requires-clause-own_ids
 time-requires-clause-own_ids c =
     let features = c.args.features.now in
-    c.own_ids_law.ensures features (nothing (IsMisnamed features) c.in_ok-misnamed.misnamed (c.is_empty.ensures.0 c.if-not-is_empty.false) c.in_ok-misnamed.ensures)
-END
-cat >"$work/crates/time_graph/proofs/read/Answers.antt" <<'END'
-use Rattle.imdf_read.specs.Broken.{IsBroken}
-use Rattle.time_graph.proofs.Silent.{nothing}
-use Rattle.time_graph.proofs.read.Goals as goal
-
-pub judged-requires : goal.judged-requires
-judged-requires c =
-    let files = c.args.files.now in
-    let out = c.in_ok-features.field-0 in
     let none = c.is_empty.ensures.0 c.if-not-is_empty.false in
-    c.sound_reading_law.ensures files out.features c.requires
-    (nothing (IsBroken files) out.findings none c.in_ok-features.ensures.findings) (c.in_ok-features.ensures.rows none)
+    c.own_ids_law.ensures features (nothing (IsMisnamed features) c.in_ok-misnamed.misnamed none c.in_ok-misnamed.ensures)
 END
+write_sound_reading "$work" time_graph
+build_program "$work" time_graph "$work/base/levels" 1
+program=$work/crates/time_graph/out/time_graph
+
+# The table of its links, and what each program tells at its marks: in front of all, behind the graph; in front of all, behind the reading,
+# behind the rows.
+LD_PRELOAD=$work/count_bytes.so "$program" "$work/base/levels" 0 >"$work/table" 2>"$work/our_bytes"
+LD_PRELOAD=$work/count_bytes.so "$work/time_rows" "$work/table" 0 >/dev/null 2>"$work/their_bytes"
+for _ in 1 2 3; do
+    "$program" "$work/base/levels" 5 >>"$work/our_times"
+    "$work/time_rows" "$work/table" 5 >>"$work/their_times"
+done
+
+# usage: least FILE COLUMN
+least() { cut -d ' ' -f "$2" "$1" | sort -g | head -n 1; }
+# usage: ratio OURS THEIRS
+ratio() { python3 -c "print(round($1 / $2, 2))"; }
+
+ours=$(least "$work/our_times" 1) both=$(least "$work/their_times" 1) alone=$(least "$work/their_times" 2)
+read -r _ most _ kept < <(sed -n 2p "$work/our_bytes")
+read -r _ read_most _ read_kept < <(sed -n 2p "$work/their_bytes")
+read -r _ rows_most _ < <(sed -n 3p "$work/their_bytes")
+# The rows are made while what was read is still held.
+both_most=$((read_most > read_kept + rows_most ? read_most : read_kept + rows_most))
+echo "$levels levels: $(least "$work/our_times" 2) nodes, $(least "$work/their_times" 3) links"
+echo "graph: $ours ms, $most bytes at most, $kept of them kept"
+wanted="(wanted: at most 1 and 0.25)"
+echo "rows with the reading: $both ms, $both_most bytes; ratios $(ratio "$ours" "$both") and $(ratio "$most" "$both_most") $wanted"
+echo "rows alone: $alone ms, $rows_most bytes; ratios $(ratio "$ours" "$alone") and $(ratio "$most" "$rows_most") $wanted"

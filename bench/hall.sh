@@ -6,6 +6,7 @@
 set -e
 cd "$(dirname "$0")/.."
 . bench/lay_out.sh
+. bench/program_parts.sh
 work=$(mktemp -d)
 trap 'rm -rf "$work"' EXIT
 python3 bench/levels.py 50 "$work/base"
@@ -115,43 +116,7 @@ fn main(rt: HostRuntime) -> io::Result<()> {
     }
 }
 END
-cat >"$work/crates/time_copies/src/opening.rt" <<'END'
-//! A folder's venue.
-
-ghost use Rattle.std.specs.Prelude.{◌≡◌, IfSome};
-ghost use Rattle.std.specs.Arc.{arc_value};
-
-use station_folder::station_settings;
-use std::alloc::Global;
-use std::fs::Files;
-use std::sync::Arc;
-use venue_build::{Built, Venue, build};
-use venue_folder::files_of;
-use venue_ports::DirFolders;
-use venue_types::Settings;
-
-/// A venue with its settings.
-#[derive(Drop)]
-pub struct Opened {
-    pub settings: Arc<Settings>,
-    pub venue: Arc<Venue>,
-    ghost same: { (arc_value venue).settings ≡ arc_value settings },
-}
-
-/// The venue of a folder.
-pub fn open_folder<R: Files>(rt: &R, alloc: Global, folder: &str) -> Option<Opened> {
-    let mut folders = DirFolders::new(rt);
-    let files = files_of(alloc, folder, &mut folders).ok()?;
-    let settings = Arc::new(alloc, station_settings(alloc).ok()?).ok()?;
-    match build(alloc, &files, &settings).ok()? {
-        Built::Venue(venue) => {
-            let venue = Arc::new(alloc, venue).ok()?;
-            Some(Opened { settings, venue })
-        }
-        Built::Rejected(_) => None,
-    }
-}
-END
+write_opening "$work" time_copies
 cat >"$work/crates/time_copies/src/office.rt" <<'END'
 //! The writer of the two copies with its book.
 
@@ -513,7 +478,7 @@ END
 lift=00000000-0000-4000-8000-000000005350
 ways="00000000-0000-4000-8000-000000005250 00000000-0000-4000-8000-000000010346"
 folder="$work/base/levels"
-(cd "$work/crates/time_copies" && rt run -- "$folder" turn 1 $lift) >"$work/build.log" 2>&1 || { tail -n 20 "$work/build.log" >&2; exit 1; }
+build_program "$work" time_copies "$folder" turn 1 $lift
 program="$work/crates/time_copies/out/time_copies"
 for kind in copies lock; do
     for readers in 1 2 4; do

@@ -1,6 +1,7 @@
 # Sourced by benchmarks, at the top of the repository: `lay_out FOLDER PROGRAM NAME..` makes a repository of its own in FOLDER, for a program
 # called PROGRAM that stands on the crates of these names, on all below them, and on what of the kit is named. Its sources go into
-# FOLDER/crates/PROGRAM/src.
+# FOLDER/crates/PROGRAM/src. `build_program FOLDER PROGRAM WORD..` proves, builds and once runs it with these words, and leaves it at
+# FOLDER/crates/PROGRAM/out/PROGRAM; where that fails, it shows the end of what was told.
 lay_out() {
     local folder=$1 program=$2 line crate part wanted names=()
     shift 2
@@ -25,4 +26,10 @@ lay_out() {
     done
     echo "$program: ${names[*]}" >>"$folder/crates.txt"
     cp HANDLES "$folder"
+}
+
+build_program() {
+    local folder=$1 program=$2
+    shift 2
+    (cd "$folder/crates/$program" && rt run -- "$@") >"$folder/build.log" 2>&1 || { tail -n 20 "$folder/build.log" >&2; return 1; }
 }

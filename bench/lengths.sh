@@ -84,7 +84,7 @@ use Rattle.time_lengths.proofs.sum_of.Goals as goal
 pub length_cm-requires-clause-close : goal.length_cm-requires-clause-close
 length_cm-requires-clause-close c = doubled_close _ _ c.at-a.ensures c.at-b.ensures
 ANTT
-(cd "$work/crates/time_lengths" && rt run) >"$work/build.log" 2>&1 || { tail -n 20 "$work/build.log" >&2; exit 1; }
+build_program "$work" time_lengths
 
 ours=$work/crates/time_lengths/out/time_lengths
 for _ in 1 2 3; do

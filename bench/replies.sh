@@ -177,7 +177,7 @@ fn main(rt: HostRuntime) -> io::Result<()> {
     Ok(())
 }
 END
-(cd "$work/crates/time_replies" && rt run --jobs 1 -- version "$work/version" 1 1) >"$work/build.log" 2>&1 || { tail -n 20 "$work/build.log" >&2; exit 1; }
+build_program "$work" time_replies version "$work/version" 1 1
 
 least() { sort -n "$1" | head -n 1 | awk '{ print $1 / ($2 ? $2 : 1) }'; }
 while read -r reply batches times; do

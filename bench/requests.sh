@@ -133,5 +133,5 @@ fn main(rt: HostRuntime) -> io::Result<()> {
 }
 END
 python3 bench/time_requests.py make "$work"
-(cd "$work/crates/time_requests" && rt run --jobs 1 -- "$work/version" 1 1) >"$work/build.log" 2>&1 || { tail -n 20 "$work/build.log" >&2; exit 1; }
+build_program "$work" time_requests "$work/version" 1 1
 python3 bench/time_requests.py time "$work" "$work/crates/time_requests/out/time_requests" "$work/time_requests"

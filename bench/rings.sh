@@ -245,6 +245,6 @@ inside-requires c = all_close _ _ c.at-p.ensures c.requires
 pub near-requires-clause-close : goal.near-requires-clause-close
 near-requires-clause-close c = all_close _ _ c.at-p.ensures c.requires
 END
-(cd "$work/crates/time_rings" && rt run -- "$work/rings.txt") >"$work/build.log" 2>&1 || { tail -n 20 "$work/build.log" >&2; exit 1; }
+build_program "$work" time_rings "$work/rings.txt"
 "$work/rings" "$work/rings.txt"
 "$work/crates/time_rings/out/time_rings" "$work/rings.txt" | sed -E 's/([0-9]+\.[0-9]{2})[0-9]*/\1/g'

@@ -7,6 +7,7 @@
 set -e
 cd "$(dirname "$0")/.."
 . bench/lay_out.sh
+. bench/program_parts.sh
 work=$(mktemp -d)
 trap 'rm -rf "$work"' EXIT
 python3 bench/levels.py 50 "$work/base"
@@ -142,43 +143,7 @@ fn main(rt: HostRuntime) -> io::Result<()> {
     }
 }
 END
-cat >"$work/crates/time_hall/src/opening.rt" <<'END'
-//! A folder's venue.
-
-ghost use Rattle.std.specs.Prelude.{◌≡◌, IfSome};
-ghost use Rattle.std.specs.Arc.{arc_value};
-
-use station_folder::station_settings;
-use std::alloc::Global;
-use std::fs::Files;
-use std::sync::Arc;
-use venue_build::{Built, Venue, build};
-use venue_folder::files_of;
-use venue_ports::DirFolders;
-use venue_types::Settings;
-
-/// A venue with its settings.
-#[derive(Drop)]
-pub struct Opened {
-    pub settings: Arc<Settings>,
-    pub venue: Arc<Venue>,
-    ghost same: { (arc_value venue).settings ≡ arc_value settings },
-}
-
-/// The venue of a folder.
-pub fn open_folder<R: Files>(rt: &R, alloc: Global, folder: &str) -> Option<Opened> {
-    let mut folders = DirFolders::new(rt);
-    let files = files_of(alloc, folder, &mut folders).ok()?;
-    let settings = Arc::new(alloc, station_settings(alloc).ok()?).ok()?;
-    match build(alloc, &files, &settings).ok()? {
-        Built::Venue(venue) => {
-            let venue = Arc::new(alloc, venue).ok()?;
-            Some(Opened { settings, venue })
-        }
-        Built::Rejected(_) => None,
-    }
-}
-END
+write_opening "$work" time_hall
 cat >"$work/crates/time_hall/src/working.rt" <<'END'
 //! What is done at a seat.
 
@@ -363,7 +328,7 @@ ghost use Rattle.shared_hall.specs.Copied.{entries_in, book_in};
 
 use crate::opening::Opened;
 use crate::working::{Task, work};
-use shared_hall::{Copies, HallName, Office, Pass, Seat, open_hall};
+use shared_hall::{Copies, HallName, Office, Pass, Seat, open_hall, opening_entries};
 use std::alloc::Global;
 use std::marker::Brand;
 use std::sync::ledger::Blank;
@@ -455,7 +420,8 @@ pub fn hall_at<F: Folders + Drop + Send, R: Threads + Wait + Clock + Sync>(
     requires range { workers ≤ 16 }
 {
     let Opened { settings, venue } = opened;
-    let copies = Copies::new(rt, task.alloc, settings, venue, workers).ok()?;
+    let entries = opening_entries(task.alloc, venue).ok()?;
+    let copies = Copies::new(rt, task.alloc, settings, entries, workers).ok()?;
     hall_over(rt, copies, folders, base, workers, task)
 }
 END
@@ -539,7 +505,7 @@ END
 first=00000000-0000-4000-8000-00000000
 lifts="${first}5350 ${first}5453 ${first}5556 ${first}5659"
 folder="$work/base/levels"
-(cd "$work/crates/time_hall" && rt run -- "$folder" turn 1 1 $lifts) >"$work/build.log" 2>&1 || { tail -n 20 "$work/build.log" >&2; exit 1; }
+build_program "$work" time_hall "$folder" turn 1 1 $lifts
 program="$work/crates/time_hall/out/time_hall"
 for turn in 1 2 3; do
     for seats in 1 2 4; do

@@ -37,9 +37,9 @@ def measure(rounds, program, rapidjson, path):
     print(f"{os.path.basename(path)}: {size / (1 << 20):.1f} MiB")
     for name in ("exact_json", "json", "rapidjson"):
         print(f"  {name}: {least[name]:.3f} s, {size / least[name] / 1e6:.0f} MB/s")
-    faster = min(("json", "rapidjson"), key=least.get)
-    print(f"  ratio exact_json / {faster}: {least[faster] / least['exact_json']:.2f} (wanted: at least 1)")
-    print(f"  tree: {(peak['exact_json'] - peak['load']) / size:.2f} bytes a byte (wanted: at most 8)")
+    for name in ("rapidjson", "json"):
+        print(f"  ratio exact_json / {name}: {least[name] / least['exact_json']:.2f}")
+    print(f"  tree: {(peak['exact_json'] - peak['load']) / size:.2f} bytes a byte")
 
 
 for path in sys.argv[4:]:

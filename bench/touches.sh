@@ -6,6 +6,7 @@
 set -e
 cd "$(dirname "$0")/.."
 . bench/lay_out.sh
+. bench/program_parts.sh
 work=$(mktemp -d)
 trap 'rm -rf "$work"' EXIT
 python3 bench/folder.py "$work/venue"
@@ -14,7 +15,6 @@ g++ -O3 -DNDEBUG -std=c++17 -o "$work/touches" bench/touches.cpp
 
 # A repository of its own, with a program that times the call.
 lay_out "$work" time_touches opening_match venue_folder venue_ports station_folder imdf_read reading_laws ring_rules
-mkdir -p "$work/crates/time_touches/proofs/read"
 cat >"$work/crates/time_touches/src/main.rt" <<'RT'
 //! Times which openings of a folder touch which units, so many times: `time_touches FOLDER ROUNDS`. Prints the least milliseconds of a
 //! call, the number of touches, a sum of them, and the milliseconds of reading the folder.
@@ -134,34 +134,8 @@ fn main(rt: HostRuntime) -> io::Result<()> {
     read(&rt, &files, &settings, rounds, start).map_err(no_memory)?
 }
 RT
-cat >"$work/crates/time_touches/proofs/Lib.antt" <<'ANTT'
-pub mod Silent
-ANTT
-cat >"$work/crates/time_touches/proofs/Silent.antt" <<'ANTT'
--- An empty report: nothing is broken.
-use Rattle.std.proofs.Common.{◌≡◌, List, [], subst}
-use Rattle.std.specs.Prelude.{Contains}
-use Rattle.venue_types.specs.declared.finding.Finding.{Finding}
-use Rattle.report_laws.specs.Reports.{IsReport}
-use Rattle.report_laws.proofs.Members.{Contains-nil}
-
-pub nothing : (P : Finding → Type 0) (findings : List Finding) → findings ≡ [] → IsReport P findings → (x : Finding) → ¬ P x
-nothing P findings empty report x breaks = Contains-nil x (subst (λ (xs : List Finding). Contains xs x) empty (report.whole x breaks))
-ANTT
-cat >"$work/crates/time_touches/proofs/read/Answers.antt" <<'ANTT'
-use Rattle.imdf_read.specs.Broken.{IsBroken}
-use Rattle.time_touches.proofs.Silent.{nothing}
-use Rattle.time_touches.proofs.read.Goals as goal
-
-pub judged-requires : goal.judged-requires
-judged-requires c =
-    let files = c.args.files.now in
-    let out = c.in_ok-features.field-0 in
-    let none = c.is_empty.ensures.0 c.if-not-is_empty.false in
-    c.sound_reading_law.ensures files out.features c.requires
-    (nothing (IsBroken files) out.findings none c.in_ok-features.ensures.findings) (c.in_ok-features.ensures.rows none)
-ANTT
-(cd "$work/crates/time_touches" && rt run -- "$work/venue/grid" 1) >"$work/build.log" 2>&1 || { tail -n 20 "$work/build.log" >&2; exit 1; }
+write_sound_reading "$work" time_touches
+build_program "$work" time_touches "$work/venue/grid" 1
 
 # The tolerance is what the program's settings have.
 for name in sound grid hall; do
