@@ -13,6 +13,7 @@ pub struct Arena {
 }
 
 impl Arena {
+    /// An arena with nothing in it. It takes its first memory for the first list, object or text.
     pub fn new(alloc: Global) -> Arena {
         Arena {
             alloc,
