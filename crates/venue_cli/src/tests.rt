@@ -7,7 +7,7 @@ ghost use Rattle.venue_ports.specs.Doors.{doors_ready};
 mod talks;
 
 use crate::{Outcome, run};
-use station_folder::{Change, TALL, folder_files, station_files};
+use station_folder::{Change, station_files};
 use std::alloc::{AllocError, Global};
 use std::process::Abort;
 use std::sync::Wait;
@@ -20,40 +20,14 @@ const IDENTIFIER: &str = "00000000-0000-4000-8000-00000000";
 
 const ADDRESS: &str = "127.0.0.1:7070";
 
-/// The folder, the workers and the connections, which write of the console fails, its room, what is printed, and the status.
-type Row = ([&'static str; 3], u64, usize, &'static str, u8);
+/// Which write of the console fails, its room, and what is printed.
+type Row = (u64, usize, &'static str);
 
-static WORDS: [Row; 5] = [
-    (["station", "0", "1"], 0, 400, "words\n", 2),
-    (["station", "17", "1"], 0, 400, "words\n", 2),
-    (["station", "1", "0"], 0, 400, "words\n", 2),
-    (["station", "01", "1"], 0, 400, "words\n", 2),
-    (["station", "1", "1000001"], 0, 400, "words\n", 2),
-];
-
-static STOPS: [Row; 4] = [
-    (
-        ["tall", "1", "1"],
-        0,
-        400,
-        "rejected 1\nfinding K1 unit.geojson 7 0\n",
-        1,
-    ),
-    (["station", "1", "1"], 1, 400, "", 3),
-    (
-        ["station", "1", "1"],
-        2,
-        400,
-        "listening 127.0.0.1:7070\n",
-        3,
-    ),
-    (
-        ["station", "1", "1"],
-        0,
-        30,
-        "listening 127.0.0.1:7070\nworke",
-        3,
-    ),
+// The first or the second write of the console fails, or its room ends in the last line.
+static STOPS: [Row; 3] = [
+    (1, 400, ""),
+    (2, 400, "listening 127.0.0.1:7070\n"),
+    (0, 30, "listening 127.0.0.1:7070\nworke"),
 ];
 
 // What a client sends once so many bytes were written to the client with this number, from 0.
@@ -126,12 +100,9 @@ fn owned(alloc: Global, words: &[&str]) -> Result<Vec<String>, AllocError> {
     Ok(owned)
 }
 
-// The station, and the folder `tall` beside it.
+// The station.
 fn folders(alloc: Global) -> Result<MemoryFolders, Fail> {
-    let mut files = station_files(alloc, "base", "station", Change::of(&[]))?;
-    for file in folder_files(alloc, "base/tall", Change::of(&TALL))? {
-        files.push(file)?;
-    }
+    let files = station_files(alloc, "base", "station", Change::of(&[]))?;
     match MemoryFolders::new(files, Vec::new(alloc)) {
         Ok(folders) => Ok(folders),
         Err(_) => Err(Fail::new("no folders")),
@@ -181,20 +152,6 @@ fn judge_words<R: Abort + Threads + Wait + Sync>(
     assert_eq!(rt; str::from_utf8(console.written()), Ok(text));
     assert_eq!(rt; ended.status.code(), status, "at {text}");
     assert_eq!(rt; ended.doors.fault_count(), 0, "at {text}");
-    Ok(())
-}
-
-fn judge_rows<R: Abort + Threads + Wait + Sync>(
-    rt: &R,
-    alloc: Global,
-    rows: &[Row],
-) -> Result<(), Fail> {
-    for row in rows {
-        let (words, write, room, text, status) = *row;
-        let [folder, workers, connections] = words;
-        let words = ["serve", "base", folder, ADDRESS, workers, connections];
-        judge_words(rt, alloc, &words, write, room, text, status)?;
-    }
     Ok(())
 }
 
@@ -263,17 +220,10 @@ fn judge<R: Abort + Threads + Wait + Sync>(
     Ok(())
 }
 
+// Any text of at most 256 bytes is an address, of which the doors judge.
 #[test]
-fn words_of_no_service(rt: HostRuntime) -> Result<(), Fail> {
-    judge_rows(&rt, rt.alloc(), &WORDS)
-}
-
-#[test]
-fn addresses_of_at_most_256_bytes(rt: HostRuntime) -> Result<(), Fail> {
+fn an_address_of_256_bytes(rt: HostRuntime) -> Result<(), Fail> {
     let alloc = rt.alloc();
-    let long = "a".repeat(alloc, 257)?;
-    let words = ["serve", "base", "station", long.as_str(), "1", "1"];
-    judge_words(&rt, alloc, &words, 0, 400, "words\n", 2)?;
     let address = "a".repeat(alloc, 256)?;
     let words = ["serve", "base", "station", address.as_str(), "16", "1"];
     let text = format!(in alloc;
@@ -284,7 +234,11 @@ fn addresses_of_at_most_256_bytes(rt: HostRuntime) -> Result<(), Fail> {
 
 #[test]
 fn services_that_are_stopped(rt: HostRuntime) -> Result<(), Fail> {
-    judge_rows(&rt, rt.alloc(), &STOPS)
+    for (write, room, text) in &STOPS {
+        let words = ["serve", "base", "station", ADDRESS, "1", "1"];
+        judge_words(&rt, rt.alloc(), &words, *write, *room, text, 3)?;
+    }
+    Ok(())
 }
 
 #[test]

@@ -18,10 +18,6 @@ mod running;
 mod serving_console;
 mod settings;
 mod status;
-#[cfg(test)]
-mod tests;
-#[cfg(test)]
-mod trials;
 mod verifying;
 mod words;
 

@@ -23,13 +23,11 @@ pub(super) struct Ended {
     pub door_faults: u64,
 }
 
-/// The bytes of these texts, each so many times.
-pub(super) fn joined(alloc: Global, texts: &[(&str, usize)]) -> Result<Vec<u8>, AllocError> {
+/// The bytes of these texts.
+pub(super) fn joined(alloc: Global, texts: &[&str]) -> Result<Vec<u8>, AllocError> {
     let mut bytes = Vec::new(alloc);
-    for (text, times) in texts {
-        for _ in 0..*times {
-            bytes.extend_from_slice(text.as_bytes())?;
-        }
+    for text in texts {
+        bytes.extend_from_slice(text.as_bytes())?;
     }
     Ok(bytes)
 }
@@ -121,19 +119,21 @@ pub(super) fn run_over<D: Doors + Send + Drop, R: Threads + Wait + Sync>(
     })
 }
 
-/// Runs the program without doors, where the read of a file and the write to the console with these numbers fail.
+/// Runs the program without doors. The read of a file, and the read and the write of the console with these numbers fail, counted
+/// from 1 (0: none), and the console has room for so many bytes.
 pub(super) fn run_without_doors(
     rt: &(impl Threads + Wait + Sync),
     alloc: Global,
     words: &[&str],
     files: Vec<MemoryFile>,
     input: Vec<u8>,
-    failing: [u64; 2],
+    failing: [u64; 3],
+    room: usize,
 ) -> Result<Ended, Fail> {
-    let [read, write] = failing;
-    let folders = folders(alloc, files, read)?;
+    let [file, read, write] = failing;
+    let folders = folders(alloc, files, file)?;
     let doors = doors(alloc, Vec::new(alloc), [0, 0])?;
-    let console = stream(alloc, input, 0, 4_000, [0, write])?;
+    let console = stream(alloc, input, 0, room, [read, write])?;
     run_over(rt, alloc, words, folders, doors, console)
 }
 

@@ -109,7 +109,7 @@ fn heard_doors<'a, R>(
 {
     let mut streams = Vec::new(alloc);
     for (sent, piece, read) in &CLIENTS {
-        let input = joined(alloc, &[(*sent, 1)])?;
+        let input = joined(alloc, &[*sent])?;
         streams.push(stream(alloc, input, *piece, 1_000, [*read, 0])?)?;
     }
     let doors = doors(alloc, streams, [0, 0])?;

@@ -7,6 +7,10 @@ pub(super) const VERSION: &str = "GET /v1/version HTTP/1.1\r\nhost: a\r\n\r\n";
 pub(super) const CLOSURE: &str =
     "POST /v1/closures HTTP/1.1\r\nhost: a\r\nx-staff-key: desk-key-1\r\ncontent-length: 64\r\n\r\n{\"feature\":\"00000000-0000-4000-8000-000000000301\",\"closed\":true}";
 
+/// The lift was closed, as version 2.
+pub(super) const LIFT_CLOSED: &str =
+    "HTTP/1.1 200 OK\r\ncontent-type: application/json\r\ncontent-length: 91\r\n\r\n{\"changed\":true,\"closed\":true,\"feature\":\"00000000-0000-4000-8000-000000000301\",\"version\":2}";
+
 /// The station published.
 pub(super) const PUBLICATION: &str =
     "POST /v1/publish HTTP/1.1\r\nhost: a\r\nx-staff-key: desk-key-1\r\ncontent-length: 20\r\n\r\n{\"folder\":\"station\"}";
