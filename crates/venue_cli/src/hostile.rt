@@ -7,7 +7,8 @@
 //! - each read of a publication fails in turn: `commands::each_read_of_a_publication_fails`
 //! - the reply to a closure can't be written; the second read of a session fails; a closure comes but for its last byte:
 //!   `messages::links_fail_or_end`
-//! - the second accept of a service fails, or its bind: `services::doors_fail`
+//! - the second accept of a service fails, or its bind, or a write of its console: `services::doors_or_the_console_fail`
+//! - an address of 256 bytes, at doors that take any: `services::an_address_has_256_bytes`
 //! - two workers and three connections, of which one sends nothing and one fails: `services::a_client_says_nothing_and_another_fails`
 //! - a folder is published while another's reply fails in its middle: `seats::a_folder_is_published_in_the_middle_of_a_reply`
 //! - at a seat, each read of a publication fails in turn, and the reply to a closure can't be written:
@@ -15,7 +16,7 @@
 
 mod commands;
 mod messages;
-mod outside;
+pub(crate) mod outside;
 mod seats;
 mod services;
 mod texts;
@@ -32,7 +33,8 @@ fn hostile_use(rt: HostRuntime) -> Result<(), Fail> {
     commands::each_read_of_a_publication_fails(&rt, alloc)?;
     messages::links_fail_or_end(&rt, alloc)?;
     services::a_client_says_nothing_and_another_fails(&rt, alloc)?;
-    services::doors_fail(&rt, alloc)?;
+    services::doors_or_the_console_fail(&rt, alloc)?;
+    services::an_address_has_256_bytes(&rt, alloc)?;
     seats::each_read_of_a_publication_fails_at_a_seat(&rt, alloc)?;
     seats::the_write_of_a_closure_fails_at_a_seat(&rt, alloc)?;
     seats::a_folder_is_published_in_the_middle_of_a_reply(&rt, alloc)

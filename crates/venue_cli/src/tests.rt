@@ -1,11 +1,9 @@
-//! The command `serve` over folders, doors and a console in memory: what is printed, the status, and what is written to the
-//! clients. `'` stands for a quotation mark, `@0301` for the identifier that ends in 0301.
-
-ghost use Rattle.std.specs.Prelude.{◌≡◌, IfOk, false};
-ghost use Rattle.venue_ports.specs.Doors.{doors_ready};
+//! The command `serve` over clients who wait for one another: what is printed, the status, and what is written to them. `'` stands
+//! for a quotation mark, `@0301` for the identifier that ends in 0301.
 
 mod talks;
 
+use crate::hostile::outside::{folders, owned, stream};
 use crate::{Outcome, run};
 use station_folder::{Change, station_files};
 use std::alloc::{AllocError, Global};
@@ -14,21 +12,11 @@ use std::sync::Wait;
 use std::test::Fail;
 use std::thread::Threads;
 use talks::{Client, Part, Talks};
-use venue_ports::{Doors, MemoryDoors, MemoryFolders, MemoryStream};
+use venue_ports::Doors;
 
 const IDENTIFIER: &str = "00000000-0000-4000-8000-00000000";
 
 const ADDRESS: &str = "127.0.0.1:7070";
-
-/// Which write of the console fails, its room, and what is printed.
-type Row = (u64, usize, &'static str);
-
-// The first or the second write of the console fails, or its room ends in the last line.
-static STOPS: [Row; 3] = [
-    (1, 400, ""),
-    (2, 400, "listening 127.0.0.1:7070\n"),
-    (0, 30, "listening 127.0.0.1:7070\nworke"),
-];
 
 // What a client sends once so many bytes were written to the client with this number, from 0.
 type Sent = (usize, u64, &'static str);
@@ -91,70 +79,6 @@ fn plain(alloc: Global, short: &str) -> Result<String, AllocError> {
     quoted.as_str().replace(alloc, '@', IDENTIFIER)
 }
 
-// The words as they are handed in.
-fn owned(alloc: Global, words: &[&str]) -> Result<Vec<String>, AllocError> {
-    let mut owned = Vec::new(alloc);
-    for word in words {
-        owned.push(String::from_str(alloc, word)?)?;
-    }
-    Ok(owned)
-}
-
-// The station.
-fn folders(alloc: Global) -> Result<MemoryFolders, Fail> {
-    let files = station_files(alloc, "base", "station", Change::of(&[]))?;
-    match MemoryFolders::new(files, Vec::new(alloc)) {
-        Ok(folders) => Ok(folders),
-        Err(_) => Err(Fail::new("no folders")),
-    }
-}
-
-// Doors through which come clients that say nothing.
-fn silent_doors(alloc: Global) -> Result<MemoryDoors, Fail>
-    ensures { IfOk result (λ doors. doors_ready doors ≡ false) }
-{
-    match MemoryDoors::new(alloc, Vec::new(alloc), Vec::new(alloc), Vec::new(alloc)) {
-        Ok(doors) => Ok(doors),
-        Err(_) => Err(Fail::new("no doors")),
-    }
-}
-
-fn console(alloc: Global, room: usize, write: u64) -> Result<MemoryStream, Fail> {
-    let writes = vec![in alloc; write]?;
-    match MemoryStream::new(
-        alloc,
-        Vec::new(alloc),
-        Vec::new(alloc),
-        room,
-        Vec::new(alloc),
-        writes,
-    ) {
-        Ok(console) => Ok(console),
-        Err(_) => Err(Fail::new("no console")),
-    }
-}
-
-// The words end with this over silent doors.
-fn judge_words<R: Abort + Threads + Wait + Sync>(
-    rt: &R,
-    alloc: Global,
-    words: &[&str],
-    write: u64,
-    room: usize,
-    text: &str,
-    status: u8,
-) -> Result<(), Fail> {
-    let words = owned(alloc, words)?;
-    let folders = folders(alloc)?;
-    let doors = silent_doors(alloc)?;
-    let mut console = console(alloc, room, write)?;
-    let ended = run(rt, alloc, words.as_slice(), folders, doors, &mut console);
-    assert_eq!(rt; str::from_utf8(console.written()), Ok(text));
-    assert_eq!(rt; ended.status.code(), status, "at {text}");
-    assert_eq!(rt; ended.doors.fault_count(), 0, "at {text}");
-    Ok(())
-}
-
 fn part(alloc: Global, sent: &Sent) -> Result<Part, AllocError> {
     let (client, written, text) = sent;
     Ok(Part {
@@ -198,10 +122,11 @@ fn judge<R: Abort + Threads + Wait + Sync>(
         alloc,
         &["serve", "base", "station", ADDRESS, workers, connections],
     )?;
-    let folders = folders(alloc)?;
+    let files = station_files(alloc, "base", "station", Change::of(&[]))?;
+    let folders = folders(alloc, files, 0)?;
     let clients = clients(alloc, table)?;
     let doors = Talks::new(clients.as_slice());
-    let mut console = console(alloc, 400, 0)?;
+    let mut console = stream(alloc, Vec::new(alloc), 0, 400, [0, 0])?;
     let Outcome { status, doors, .. } = run(
         rt,
         alloc,
@@ -217,27 +142,6 @@ fn judge<R: Abort + Threads + Wait + Sync>(
     assert_eq!(rt; status.code(), 0);
     assert_eq!(rt; doors.accepted(), clients.len() as u64);
     assert_eq!(rt; doors.fault_count(), 0);
-    Ok(())
-}
-
-// Any text of at most 256 bytes is an address, of which the doors judge.
-#[test]
-fn an_address_of_256_bytes(rt: HostRuntime) -> Result<(), Fail> {
-    let alloc = rt.alloc();
-    let address = "a".repeat(alloc, 256)?;
-    let words = ["serve", "base", "station", address.as_str(), "16", "1"];
-    let text = format!(in alloc;
-        "listening {address}\nworkers 16 sessions 1 versions 1 changes 0\n"
-    )?;
-    judge_words(&rt, alloc, &words, 0, 400, text.as_str(), 0)
-}
-
-#[test]
-fn services_that_are_stopped(rt: HostRuntime) -> Result<(), Fail> {
-    for (write, room, text) in &STOPS {
-        let words = ["serve", "base", "station", ADDRESS, "1", "1"];
-        judge_words(&rt, rt.alloc(), &words, *write, *room, text, 3)?;
-    }
     Ok(())
 }
 

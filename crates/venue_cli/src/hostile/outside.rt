@@ -46,7 +46,7 @@ pub(super) fn file(
 }
 
 /// Folders of which the read with this number fails, counted from 1.
-pub(super) fn folders(
+pub(crate) fn folders(
     alloc: Global,
     files: Vec<MemoryFile>,
     failing: u64,
@@ -59,7 +59,7 @@ pub(super) fn folders(
 
 /// A stream with room for so many bytes, of which the read and the write with these numbers fail, counted from 1. Its input comes
 /// in pieces of this size; whole, where that is 0.
-pub(super) fn stream(
+pub(crate) fn stream(
     alloc: Global,
     input: Vec<u8>,
     piece: usize,
@@ -94,6 +94,15 @@ pub(super) fn doors(
     }
 }
 
+/// The words as they are handed in.
+pub(crate) fn owned(alloc: Global, words: &[&str]) -> Result<Vec<String>, AllocError> {
+    let mut owned = Vec::new(alloc);
+    for word in words {
+        owned.push(String::from_str(alloc, word)?)?;
+    }
+    Ok(owned)
+}
+
 /// Runs the program.
 pub(super) fn run_over<D: Doors + Send + Drop, R: Threads + Wait + Sync>(
     rt: &R,
@@ -105,12 +114,9 @@ pub(super) fn run_over<D: Doors + Send + Drop, R: Threads + Wait + Sync>(
 ) -> Result<Ended, Fail>
     requires { D.ready doors ≡ false }
 {
-    let mut owned = Vec::new(alloc);
-    for word in words {
-        owned.push(String::from_str(alloc, word)?)?;
-    }
+    let words = owned(alloc, words)?;
     let mut console = console;
-    let outcome = run(rt, alloc, owned.as_slice(), folders, doors, &mut console);
+    let outcome = run(rt, alloc, words.as_slice(), folders, doors, &mut console);
     Ok(Ended {
         status: outcome.status.code(),
         text: Vec::from_slice(alloc, console.written())?,
