@@ -20,8 +20,14 @@ ROWS = os.path.join(TOP, "checks", "rows")
 PROGRAM = os.path.abspath(os.environ.get("VENUE_PROGRAM") or os.path.join(TOP, "crates", "venue_cli", "out", "venue_cli"))
 FOLDERS = ("station", "tall", "nolift")
 IDENTIFIER = "00000000-0000-4000-8000-00000000"
+# What may stand in a row or a step, in an edit, in what is sent and written, and in a rule of what is printed.
+ROW = set("name base files words edits height sends pieces prints writes status steps keep".split())
+EDIT = set("in behind this becomes piece times from gone".split())
+TOLD_BY = set("begins and lines starting line has first then times".split())
+SENT = set("staff body bytes piece times".split())
+WRITTEN = set("reply more body bytes".split())
 # The longest that a run takes, in seconds.
-LIMIT = 300
+LIMIT = 120
 # How much of a text is told where it is another than it should be.
 TOLD = 300
 
@@ -34,6 +40,14 @@ def plain(short):
     """Writes out a text of a row."""
     text = short.replace("'", '"').replace("@", IDENTIFIER)
     return re.sub(r"\((\d+),(\d+)\)", lambda place: f"[10.{place[1]:0>5},50.{place[2]:0>5}]", text)
+
+
+def known(item, keys):
+    """Stops at a key that says nothing, which may be one that is spelled wrong."""
+    for key in item:
+        if key not in keys:
+            raise Fault(f"{key} says nothing")
+    return item
 
 
 def filled(text, item):
@@ -65,7 +79,7 @@ def request(item, names):
     item = named(item, names)
     if isinstance(item, str):
         return f"{plain(item)} HTTP/1.1\r\nhost: a\r\n\r\n"
-    if "bytes" in item:
+    if "bytes" in known(item, SENT):
         return filled(plain(item["bytes"]), item) * (1 if "piece" in item else item.get("times", 1))
     body = plain(item["body"])
     return f"{item['staff']} HTTP/1.1\r\nhost: a\r\nx-staff-key: desk-key-1\r\ncontent-length: {len(body)}\r\n\r\n{body}"
@@ -74,7 +88,7 @@ def request(item, names):
 def reply(item, names):
     """Returns the bytes of a reply."""
     item = named(item, names)
-    if "bytes" in item:
+    if "bytes" in known(item, WRITTEN):
         return plain(item["bytes"])
     body = plain(named(item["body"], names))
     more = "".join(line + "\r\n" for line in item.get("more", []))
@@ -122,7 +136,7 @@ def write(path, text):
 
 def apply(base, edits):
     for edit in edits:
-        if "gone" in edit:
+        if "gone" in known(edit, EDIT):
             name = edit["gone"]
             gone = [place(name)] if name != "*" else [f"station/{it}" for it in os.listdir(f"{base}/station")]
             for it in gone:
@@ -237,7 +251,7 @@ def wanted(row, names):
         return "".join(reply(item, names) for item in row["writes"])
     prints = named(row["prints"], names)
     if isinstance(prints, dict):
-        if "then" not in prints:
+        if "then" not in known(prints, TOLD_BY):
             return None
         return lines(prints["first"], names) + "".join(prints["then"].replace("%", str(k)) + "\n" for k in range(prints["times"]))
     return lines(prints, names)
@@ -245,6 +259,8 @@ def wanted(row, names):
 
 def judge(folder, row, names, piece):
     """Runs the program once."""
+    if not {"prints", "writes", "keep"} & set(known(row, ROW)):
+        raise Fault("nothing says what is printed")
     data = "".join(request(item, names) for item in row.get("sends", [])).encode()
     status, out, err = run(folder, words_of(row["words"]), data, piece)
     want = wanted(row, names) if "prints" in row or "writes" in row else None
@@ -258,7 +274,7 @@ def judge(folder, row, names, piece):
 
 
 def judge_row(folder, row, names, station):
-    at = lay_out(folder, row, names, station)
+    at = lay_out(folder, known(row, ROW), names, station)
     for piece in row.get("pieces", [0]):
         try:
             for step in row.get("steps", [row]):
@@ -282,6 +298,11 @@ def try_row(work, number, file, row, names, station):
         shutil.rmtree(folder, ignore_errors=True)
 
 
+def size(row):
+    """Returns how many bytes the row's edits put in."""
+    return sum(len(edit.get("piece", "")) * edit.get("times", 1) for edit in row.get("edits", []))
+
+
 def load(file):
     """Returns the rows of a file, each with what the file says for all, and the names."""
     with open(os.path.join(ROWS, file + ".json"), encoding="utf-8") as it:
@@ -297,7 +318,8 @@ def main():
         sys.exit(f"rows: there is no program {PROGRAM}; ./venue builds it")
     files = [name.removesuffix(".json") for name in sys.argv[1:]]
     files = files or sorted(name[:-5] for name in os.listdir(ROWS) if name.endswith(".json"))
-    rows = [row for file in files for row in load(file)]
+    # The longest runs are begun first.
+    rows = sorted((row for file in files for row in load(file)), key=lambda row: -size(row[1]))
     failed = 0
     with tempfile.TemporaryDirectory(prefix="rows-") as work:
         station = Station(f"{work}/station")

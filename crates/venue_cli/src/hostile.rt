@@ -19,7 +19,7 @@ mod messages;
 pub(crate) mod outside;
 mod seats;
 mod services;
-mod texts;
+pub(crate) mod texts;
 
 use std::test::Fail;
 

@@ -4,6 +4,7 @@
 mod talks;
 
 use crate::hostile::outside::{folders, owned, stream};
+use crate::hostile::texts::{CLOSURE, FIRST, LIFT_CLOSED, VERSION};
 use crate::{Outcome, run};
 use station_folder::{Change, station_files};
 use std::alloc::{AllocError, Global};
@@ -24,19 +25,6 @@ type Sent = (usize, u64, &'static str);
 // What a client sends, and what must be written to it.
 type Spoken = (&'static [Sent], &'static [&'static str]);
 
-const VERSION: &str = "GET /v1/version HTTP/1.1\r\nhost: a\r\n\r\n";
-
-// 107 bytes.
-const FIRST: &str =
-    "HTTP/1.1 200 OK\r\ncontent-type: application/json\r\ncontent-length: 36\r\n\r\n{'closed':0,'places':33,'version':1}";
-
-const CLOSE_LIFT: &str =
-    "POST /v1/closures HTTP/1.1\r\nhost: a\r\nx-staff-key: desk-key-1\r\ncontent-length: 64\r\n\r\n{'feature':'@0301','closed':true}";
-
-// 162 bytes.
-const LIFT_CLOSED: &str =
-    "HTTP/1.1 200 OK\r\ncontent-type: application/json\r\ncontent-length: 91\r\n\r\n{'changed':true,'closed':true,'feature':'@0301','version':2}";
-
 const ROUTE: &str =
     "GET /v1/route?from=@0051&to=@0052&profile=wheelchair HTTP/1.1\r\nhost: a\r\n\r\n";
 
@@ -48,7 +36,7 @@ const ROUTE_SINCE: &str =
 const BY_RAMP: &str =
     "HTTP/1.1 200 OK\r\ncontent-type: application/json\r\ncontent-length: 683\r\n\r\n{'cost':14023,'from':'@0051','profile':'wheelchair','result':'route','start':'@0041','steps':[{'cost':633,'kind':'floor','to':'@0105','via':'@0305'},{'cost':6004,'kind':'floor','to':'@0104','via':'@0300'},{'cost':2000,'kind':'ramp','to':'@0204','via':'@0024'},{'cost':5386,'kind':'floor','to':'@0042','via':'@0400'}],'to':'@0052','version':2}";
 
-// Two clients who ask for the version twice.
+// Two clients who ask for the version twice. The reply to that has 107 bytes, and that to a closure 162.
 static ASKING: [Spoken; 2] = [
     (&[(0, 0, VERSION), (0, 0, VERSION)], &[FIRST, FIRST]),
     (&[(0, 0, VERSION), (0, 0, VERSION)], &[FIRST, FIRST]),
@@ -64,12 +52,12 @@ static LATER: [Spoken; 3] = [
 // The first holds back the last byte of its request until the second, which closes the lift, has its reply.
 static AT_ONCE: [Spoken; 2] = [
     (&[(0, 0, ROUTE_SINCE), (1, 162, "\n")], &[BY_RAMP]),
-    (&[(1, 0, CLOSE_LIFT)], &[LIFT_CLOSED]),
+    (&[(1, 0, CLOSURE)], &[LIFT_CLOSED]),
 ];
 
 // The second asks for the version, then the first closes the lift, then the second asks for the way, and then the first ends.
 static FRESH: [Spoken; 2] = [
-    (&[(1, 107, CLOSE_LIFT), (1, 862, "")], &[LIFT_CLOSED]),
+    (&[(1, 107, CLOSURE), (1, 862, "")], &[LIFT_CLOSED]),
     (&[(1, 0, VERSION), (0, 162, ROUTE)], &[FIRST, BY_RAMP]),
 ];
 
