@@ -1,36 +1,36 @@
 //! Two copies of the board under one rule: readers that wait for nobody, and a writer that changes one copy while they read the other.
 #![tactic(auto)]
 
-mod absorbing;
-mod counting;
-mod crossing;
+mod intake;
+mod counter;
+mod thread_bounds;
 mod ends;
-mod entering;
+mod next_held;
 mod found;
 mod held;
 mod keeper;
-mod making;
-mod opening;
-mod reading;
+mod copies;
+mod first_board;
+mod reader_side;
 mod roll;
 mod rule;
-mod showing;
+mod writer_side;
 mod stamp;
 #[cfg(test)]
 mod tests;
 mod view;
-mod waiting;
+mod endless_wait;
 
-pub use counting::{Counting, Tried};
+pub use counter::{Counting, Tried};
 pub use ends::{Reads, Writes};
 pub use found::Found;
 pub use held::{Held, Ready, Side};
 pub use keeper::{Keep, Keeper};
-pub use making::{make_reader, make_writer};
-pub use reading::{meet, meet_in, read, read_in};
+pub use copies::{make_reader, make_writer};
+pub use reader_side::{meet, meet_in, read, read_in};
 pub use roll::Roll;
 pub use rule::{Law, Notes, Publishing, Seeing, SideReader, SideWriter};
-pub use showing::{publish, queue, settle, show};
+pub use writer_side::{publish, queue, settle, show};
 pub use stamp::Stamp;
 pub use view::View;
-pub use waiting::wait_for_ever;
+pub use endless_wait::wait_for_ever;

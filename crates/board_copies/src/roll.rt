@@ -3,7 +3,7 @@
 ghost use Rattle.std.specs.Prelude.{◌≡◌, ◌≢◌, ◌≤◌, ◌^◌, ◌⊎◌, length, IfNone, IfSome};
 ghost use Rattle.board_copies.specs.Lists.{head_of};
 
-use crate::counting::{Adding, Counting, Nothing, Tried};
+use crate::counter::{Adding, Counting, Nothing, Tried};
 use crate::stamp::Stamp;
 use logbook::{Offer, Plain, Seen, Start, Word};
 use venue_history::Entry;

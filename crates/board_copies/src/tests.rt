@@ -10,7 +10,7 @@ use crate::{
     Held, Keep, Keeper, Roll, SideReader, make_reader, make_writer, publish, read_in, settle,
 };
 use core::mem::replace_with;
-use station_folder::{Change, slots_of, station_settings};
+use test_station::{Change, slots_of, station_settings};
 use std::alloc::Global;
 use std::sync::{Arc, Wait};
 use std::test::Fail;

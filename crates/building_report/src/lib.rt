@@ -1,14 +1,14 @@
 //! A building that is made by arithmetic, checked like any folder, and asked for ways before and after its lowest lift is closed.
 #![tactic(auto)]
 
-mod acting;
-mod closing;
-mod counting;
+mod summary_text;
+mod closure;
+mod sizes;
 mod hall;
 mod settings;
-mod telling;
+mod report;
 #[cfg(test)]
 mod tests;
 mod ways;
 
-pub use telling::{Told, tell_building};
+pub use report::{Told, tell_building};

@@ -1,14 +1,14 @@
 //! The rules on what holds what: a level its units and openings, a unit its anchors and amenities.
 #![tactic(auto)]
 
-mod banding;
+mod shape_trees;
 mod holders;
-mod holding;
-mod leaving;
+mod hold_findings;
+mod outside_positions;
 mod rows;
 mod rules;
 #[cfg(test)]
 mod tests;
 
-pub use holding::add_hold_findings;
+pub use hold_findings::add_hold_findings;
 pub use rules::HoldRule;

@@ -6,7 +6,7 @@ ghost use Rattle.contain_rules.specs.declared.rules.HoldRule.{HoldRule};
 ghost use Rattle.contain_rules.specs.Judging.{CanJudge, UnitHolds, OneHolds};
 
 use crate::holders::Holders;
-use crate::leaving::{figure_leaves, is_held, some_leaves};
+use crate::outside_positions::{figure_leaves, is_held, some_leaves};
 use crate::rules::HoldRule;
 use feature_rows::{amenity_point_law, anchor_point_law, opening_point_law, unit_vertex_law};
 use venue_types::{AmenityRow, AnchorRow, FeatureId, Features, List, OpeningRow, UnitRow};

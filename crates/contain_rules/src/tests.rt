@@ -4,10 +4,10 @@ ghost use Rattle.std.specs.Prelude.{All};
 ghost use Rattle.plane_exact.specs.Testing.{IsInBox};
 ghost use Rattle.plane_exact.specs.Figure.{vertices};
 
-use crate::leaving::figure_leaves;
+use crate::outside_positions::figure_leaves;
 use crate::rules::HoldRule;
-use boxed_figures::polygon;
-use plane_bands::Bands;
+use test_figures::polygon;
+use plane_trees::Bands;
 use std::alloc::{AllocError, Global};
 use std::test::Fail;
 use venue_types::{Finding, OutOfMemory, Shape};

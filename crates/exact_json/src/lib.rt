@@ -6,7 +6,7 @@ mod fault;
 mod kinds;
 pub mod laws;
 mod number;
-mod reading;
+mod values;
 mod scan;
 #[cfg(test)]
 mod tests;

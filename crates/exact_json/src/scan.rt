@@ -9,7 +9,7 @@ ghost use Rattle.exact_json.specs.Scanning.{Scanning, Enters, Leaves, IsShorter,
 use crate::fault::JsonFault;
 use crate::kinds::{Kind, Kinds};
 use crate::number::{after, byte_at};
-use crate::reading::{read_token, skip_spaces};
+use crate::values::{read_token, skip_spaces};
 use crate::text::pass_text;
 use std::alloc::Global;
 

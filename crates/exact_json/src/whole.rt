@@ -11,7 +11,7 @@ ghost use Rattle.exact_json.specs.Scanning.{Reads};
 use crate::arena::Arena;
 use crate::fault::JsonFault;
 use crate::number::after;
-use crate::reading::{read_value, skip_spaces};
+use crate::values::{read_value, skip_spaces};
 use crate::scan::scan;
 use crate::tree::Tree;
 use crate::unclosed::Unclosed;

@@ -17,7 +17,7 @@ use Rattle.imdf_schema.specs.Contents.{IsContent, content_items}
 use Rattle.imdf_read.specs.declared.items.Taken.{Taken}
 use Rattle.imdf_read.specs.declared.progress.Progress.{Progress}
 use Rattle.imdf_read.specs.Counts.{collected, file_positions, total_positions}
-use Rattle.report_laws.specs.Passes.{Adds}
+use Rattle.rule_reports.specs.Passes.{Adds}
 use Rattle.imdf_read.specs.Gathering.{FindsInSlot, FindsInFile, NotesInFile}
 use Rattle.imdf_read.specs.Progress.{FindsAt, FoundUpTo, NotedUpTo, CountsUpTo, IsUpTo, HasRows}
 use Rattle.imdf_read.specs.Taking.{Takes}

@@ -9,11 +9,11 @@ use Rattle.imdf_schema.specs.Items.{is_feature}
 use Rattle.imdf_read.specs.declared.rules.ReadingNote.{ReadingNote}
 use Rattle.imdf_read.specs.declared.rules.ReadingNote.TheVariants.{N1, N2, N5}
 use Rattle.imdf_read.specs.Noted.{ItemNotes}
-use Rattle.report_laws.specs.Passes.{Adds}
+use Rattle.rule_reports.specs.Passes.{Adds}
 use Rattle.imdf_schema.specs.Places.{note_at}
 use Rattle.imdf_read.specs.Rules.{note_of}
 use Rattle.imdf_read.specs.Gathering.{NotesBy, NotesInItem}
-use Rattle.report_laws.proofs.Adding.{Adds-same, Adds-none, Among}
+use Rattle.rule_reports.proofs.Adding.{Adds-same, Adds-none, Among}
 
 -- a note of this kind is due
 abbrev pub Due : File → ℕ → Json → ReadingNote → Note → Type 0

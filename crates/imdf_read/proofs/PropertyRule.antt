@@ -10,11 +10,11 @@ use Rattle.imdf_schema.specs.Properties.{property_number}
 use Rattle.imdf_schema.specs.Forms.{Fits, items_of, item_fits}
 use Rattle.imdf_schema.specs.Items.{property}
 use Rattle.imdf_read.specs.declared.rules.ReadingRule.TheVariants.{C6}
-use Rattle.report_laws.specs.Passes.{Adds}
+use Rattle.rule_reports.specs.Passes.{Adds}
 use Rattle.imdf_schema.specs.Places.{finding_at}
 use Rattle.imdf_read.specs.Rules.{rule_of}
 use Rattle.imdf_read.specs.Gathering.{FindsBadItem, FindsMisformed, FindsMisformedOf}
-use Rattle.report_laws.proofs.Adding.{Adds-same, Adds-then, Among, Adds-none}
+use Rattle.rule_reports.proofs.Adding.{Adds-same, Adds-then, Among, Adds-none}
 
 -- an item of the list at this place in it isn't of its form
 abbrev pub BadItem : PropertyRow → File → ℕ → ℕ → Json → Finding → Type 0

@@ -6,7 +6,7 @@ ghost use Rattle.exact_json.specs.View.{tree_view};
 ghost use Rattle.venue_types.specs.declared.files.Slot.{Slot as ASlot};
 ghost use Rattle.venue_types.specs.declared.files.Slot.TheVariants.{Absent};
 ghost use Rattle.imdf_schema.specs.Files.{geometry_of};
-ghost use Rattle.report_laws.specs.Passes.{Adds};
+ghost use Rattle.rule_reports.specs.Passes.{Adds};
 ghost use Rattle.imdf_schema.specs.Places.{finding_at};
 ghost use Rattle.imdf_read.specs.Rules.{rule_of};
 ghost use Rattle.imdf_read.specs.Gathering.{FindsInFile, FindsInItems, NotesInFile, NotesInItems, IsShort};
@@ -17,7 +17,7 @@ use crate::rules::ReadingRule;
 use exact_json::{Arena, JsonFault, Tree, read};
 use imdf_rows::FeatureRow;
 use imdf_schema::{File, Place, is_collection, items};
-use report_laws::add;
+use rule_reports::add;
 use std::alloc::Global;
 use venue_types::{Finding, OutOfMemory, Slot};
 

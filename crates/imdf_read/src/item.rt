@@ -3,7 +3,7 @@
 ghost use Rattle.std.specs.Prelude.{◌≡◌, OnOk, IfOk, true, nat_lt};
 ghost use Rattle.exact_json.specs.View.{tree_view};
 ghost use Rattle.imdf_schema.specs.Items.{is_feature as feature_is};
-ghost use Rattle.report_laws.specs.Passes.{Adds};
+ghost use Rattle.rule_reports.specs.Passes.{Adds};
 ghost use Rattle.imdf_read.specs.Gathering.{FindsRule, FindsInGeometry, FindsInItem, IsShort};
 ghost use Rattle.imdf_read.specs.Judging.{IsJudged};
 
@@ -12,7 +12,7 @@ use crate::plain_rules::judge_plain;
 use crate::property_rule::judge_properties;
 use exact_json::Tree;
 use imdf_schema::{Place, Rule, is_feature};
-use report_laws::add;
+use rule_reports::add;
 use std::alloc::Global;
 use venue_types::{Finding, OutOfMemory};
 

@@ -7,7 +7,7 @@ ghost use Rattle.exact_json.specs.View.{tree_view};
 ghost use Rattle.venue_types.specs.declared.finding.Finding.{Finding as AFinding};
 ghost use Rattle.imdf_schema.specs.Files.{geometry_of};
 ghost use Rattle.imdf_read.specs.Counts.{item_positions};
-ghost use Rattle.report_laws.specs.Passes.{Adds};
+ghost use Rattle.rule_reports.specs.Passes.{Adds};
 ghost use Rattle.imdf_read.specs.Gathering.{FindsInItem, FindsInItems, NotesInItem, NotesInItems, IsShort};
 ghost use Rattle.imdf_read.specs.Taking.{Serves, AreShort, AreTexts, TakesItems};
 

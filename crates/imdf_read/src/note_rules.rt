@@ -6,14 +6,14 @@ ghost use Rattle.exact_json.specs.View.{tree_view};
 ghost use Rattle.imdf_access.specs.Categories.{is_known_unit, passage_of};
 ghost use Rattle.imdf_schema.specs.Values.{seen};
 ghost use Rattle.imdf_read.specs.Noted.{ItemNotes};
-ghost use Rattle.report_laws.specs.Passes.{Adds};
+ghost use Rattle.rule_reports.specs.Passes.{Adds};
 ghost use Rattle.imdf_read.specs.Gathering.{NotesBy, NotesInItem};
 
 use crate::rules::ReadingNote;
 use exact_json::Tree;
 use imdf_access::{known_unit, passage};
 use imdf_schema::{File, Place, Property, is_feature, property, text};
-use report_laws::add;
+use rule_reports::add;
 use venue_types::{Note, OutOfMemory};
 
 static KINDS: [ReadingNote; 3] = [ReadingNote::N1, ReadingNote::N2, ReadingNote::N5];

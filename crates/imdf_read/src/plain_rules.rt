@@ -8,7 +8,7 @@ ghost use Rattle.imdf_schema.specs.Values.{seen, is_word as word_is};
 ghost use Rattle.imdf_rows.specs.Fields.{IsOrdinal};
 ghost use Rattle.imdf_read.specs.Counts.{one_unless_null as one_of, elements as elements_of};
 ghost use Rattle.imdf_read.specs.Broken.{ItemBreaks};
-ghost use Rattle.report_laws.specs.Passes.{Adds};
+ghost use Rattle.rule_reports.specs.Passes.{Adds};
 ghost use Rattle.imdf_read.specs.Gathering.{FindsBy, IsShort, is_plain, plain_rules};
 
 use crate::rules::ReadingRule;
@@ -18,7 +18,7 @@ use imdf_schema::{
     File, Place, Property, fits_geometry, geometry, is_id, is_null, is_word, list, member,
     property, unlisted_property,
 };
-use report_laws::add;
+use rule_reports::add;
 use venue_types::{Finding, OutOfMemory};
 
 const MAX_ELEMENTS: usize = 65;

@@ -3,12 +3,12 @@
 ghost use Rattle.std.specs.Prelude.{◌≡◌, ◌≤◌, ◌^◌, OnOk, map, length};
 ghost use Rattle.exact_json.specs.View.{tree_view};
 ghost use Rattle.imdf_schema.specs.Properties.{properties};
-ghost use Rattle.report_laws.specs.Passes.{Adds};
+ghost use Rattle.rule_reports.specs.Passes.{Adds};
 ghost use Rattle.imdf_read.specs.Gathering.{FindsBadItem, FindsMisformed, FindsMisformedOf, IsShort};
 
 use exact_json::Tree;
 use imdf_schema::{Place, PropertyRow, Rule, fits, item_fits, list_of, properties, property};
-use report_laws::add;
+use rule_reports::add;
 use std::alloc::Global;
 use venue_types::{Finding, OutOfMemory};
 

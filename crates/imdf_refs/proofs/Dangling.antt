@@ -5,8 +5,8 @@ use Rattle.venue_types.specs.declared.feature_id.FeatureId.{FeatureId}
 use Rattle.venue_types.specs.declared.features.Features.{Features}
 use Rattle.venue_types.specs.declared.finding.Finding.{Finding}
 use Rattle.imdf_schema.specs.declared.table.PropertyRow.{PropertyRow}
-use Rattle.report_laws.specs.Passes.{Adds, found}
-use Rattle.report_laws.proofs.Adding.{Adds-same, Adds-found, Adds-then, Among}
+use Rattle.rule_reports.specs.Passes.{Adds, found}
+use Rattle.rule_reports.proofs.Adding.{Adds-same, Adds-found, Adds-then, Among}
 use Rattle.imdf_refs.specs.declared.known.Known.{Known}
 use Rattle.imdf_schema.specs.declared.place.Place.{Place}
 use Rattle.imdf_schema.specs.declared.rules.Rule.TheVariants.{X1, X2}

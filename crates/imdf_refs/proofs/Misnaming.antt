@@ -11,7 +11,7 @@ use Rattle.imdf_schema.specs.Files.{file_number}
 use Rattle.imdf_schema.specs.Rules.{rule_number}
 use Rattle.imdf_schema.specs.Properties.{property_number, properties}
 use Rattle.feature_rows.specs.Rows.{IsFeature}
-use Rattle.report_laws.specs.Passes.{Adds}
+use Rattle.rule_reports.specs.Passes.{Adds}
 use Rattle.imdf_refs.specs.declared.known.Known.{Known}
 use Rattle.imdf_refs.specs.declared.rules.ReferenceRule.{ReferenceRule}
 use Rattle.imdf_refs.specs.declared.rules.ReferenceRule.TheVariants.{C7, X1, X2}

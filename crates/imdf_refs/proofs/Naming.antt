@@ -7,8 +7,8 @@ use Rattle.venue_types.specs.declared.finding.Finding.{Finding}
 use Rattle.imdf_schema.specs.declared.files.File.{File}
 use Rattle.imdf_schema.specs.Files.{file_number, feature_files}
 use Rattle.feature_rows.specs.Rows.{ids_of, IsFeature}
-use Rattle.report_laws.specs.Passes.{Adds}
-use Rattle.report_laws.proofs.Adding.{Adds-same, Among}
+use Rattle.rule_reports.specs.Passes.{Adds}
+use Rattle.rule_reports.proofs.Adding.{Adds-same, Among}
 use Rattle.imdf_refs.specs.declared.known.Known.{Known}
 use Rattle.imdf_schema.specs.declared.rules.Rule.TheVariants as rule
 use Rattle.imdf_schema.specs.Places.{finding_at}

@@ -1,7 +1,7 @@
 //! The rule on identifiers: each stands for one feature.
 
 ghost use Rattle.std.specs.Prelude.{◌≡◌, ◌+◌, ◌≤◌, IfOk, OnOk, map};
-ghost use Rattle.report_laws.specs.Passes.{Adds};
+ghost use Rattle.rule_reports.specs.Passes.{Adds};
 ghost use Rattle.feature_rows.specs.Rows.{ids_of as ids_in, feature_count};
 ghost use Rattle.imdf_schema.specs.Files.{file_number};
 ghost use Rattle.imdf_refs.specs.Index.{HasBefore, HasAll};
@@ -10,7 +10,7 @@ ghost use Rattle.imdf_refs.specs.Gathering.{RepeatsIn, Repeats};
 use crate::known::Known;
 use crate::row::HasReferences;
 use imdf_schema::{File, Place, Rule, feature_files};
-use report_laws::add;
+use rule_reports::add;
 use std::alloc::Global;
 use venue_types::{FeatureId, Features, Finding, OutOfMemory};
 

@@ -2,7 +2,7 @@
 #![tactic(auto)]
 
 mod identifiers;
-mod judging;
+mod rule_checks;
 mod known;
 mod laws;
 mod place;

@@ -4,7 +4,7 @@ ghost use Rattle.std.specs.Prelude.{◌≤◌, IsTrue};
 ghost use Rattle.feature_rows.specs.Rows.{feature_count};
 
 use crate::references::gather;
-use report_laws::in_order;
+use rule_reports::in_order;
 use std::alloc::Global;
 use std::test::Fail;
 use venue_types::{

@@ -17,7 +17,7 @@ use Rattle.venue_types.specs.declared.settings.Settings.{Settings}
 use Rattle.imdf_schema.specs.declared.table.Property.{Property}
 use Rattle.imdf_schema.specs.declared.table.Property.TheVariants as property
 use Rattle.feature_rows.specs.Sound.{element_count}
-use Rattle.report_laws.proofs.Members.{Contains-first, Contains-later}
+use Rattle.rule_reports.proofs.Members.{Contains-first, Contains-later}
 use Rattle.venue_nodes.specs.Nodes.{nodes, place_of}
 use Rattle.venue_nodes.specs.Unplaced.{Element, element_at, elements, one_or_none}
 use Rattle.venue_nodes.proofs.Items.{given_more}

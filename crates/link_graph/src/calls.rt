@@ -15,7 +15,7 @@ ghost use Rattle.link_graph.specs.Lower.{lower_of};
 ghost use Rattle.link_graph.specs.Marking.{AreMarksOf, marked};
 
 use crate::graph::Graph;
-use crate::making::core_of;
+use crate::graph_core::core_of;
 use crate::marks::Marks;
 use crate::stretches::Stretch;
 use crate::{asking, leading, listing, outlook};

@@ -2,24 +2,24 @@
 #![tactic(auto)]
 
 mod areas;
-mod asking;
-mod building;
+mod link_facts;
+mod from_features;
 mod calls;
 mod crossings;
 mod doors;
 mod faults;
-mod finding;
+mod leads;
 mod graph;
 mod laws;
-mod leading;
-mod leaving;
-mod listing;
-mod making;
+mod out_links;
+mod way_starts;
+mod link_list;
+mod graph_core;
 mod marks;
 mod network_laws;
 mod outlook;
 mod parts;
-mod seating;
+mod seats;
 mod stretches;
 mod trails;
 mod ways;

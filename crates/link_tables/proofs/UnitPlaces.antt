@@ -12,7 +12,7 @@ use Rattle.link_graph.specs.Graphs.{network}
 use Rattle.link_graph.specs.Links.{are_joined}
 use Rattle.link_graph.specs.Networks.{Network, link_facts}
 use Rattle.link_graph.proofs.Items.{from_flat_map}
-use Rattle.report_laws.proofs.Members.{Contains-nil, Contains-first, Contains-later, Contains-cons_cases}
+use Rattle.rule_reports.proofs.Members.{Contains-nil, Contains-first, Contains-later, Contains-cons_cases}
 use Rattle.route_certificate.specs.declared.table.TableLink.{TableLink}
 use Rattle.link_tables.specs.Adding.{pair_row, rows_from}
 use Rattle.link_tables.specs.Passing.{passes_by, passes_node, passes_link, link_row, rows_of}

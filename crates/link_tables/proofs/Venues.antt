@@ -8,7 +8,7 @@ use Rattle.venue_types.specs.declared.link.LinkFacts.{LinkFacts}
 use Rattle.venue_types.specs.declared.settings.Profile.{Profile}
 use Rattle.venue_types.specs.declared.settings.Settings.{Settings}
 use Rattle.imdf_access.specs.Access.{is_allowed}
-use Rattle.report_laws.proofs.Members.{Contains-first, Contains-later}
+use Rattle.rule_reports.proofs.Members.{Contains-first, Contains-later}
 use Rattle.link_graph.specs.Facts.{facts_at}
 use Rattle.link_graph.specs.Links.{links}
 use Rattle.link_graph.specs.Networks.{Network, IsNetworkOf}

@@ -7,7 +7,7 @@ ghost use Rattle.link_graph.specs.Areas.{area_links, areas};
 ghost use Rattle.link_graph.specs.Graphs.{network};
 ghost use Rattle.link_tables.specs.Passing.{passes_link, passes_node, rows_of};
 
-use crate::passing::{may_cross, may_pass, may_use};
+use crate::passes::{may_cross, may_pass, may_use};
 use link_graph::{Graph, network_parts_law};
 use venue_types::{Link, Profile};
 

@@ -7,7 +7,7 @@ ghost use Rattle.link_graph.specs.Graphs.{network};
 ghost use Rattle.link_tables.specs.declared.firsts.RowKey.{RowKey as AKey};
 ghost use Rattle.link_tables.specs.Placing.{KnowsFirsts, key_cmp, key_of, noted, same_key};
 
-use crate::passing::may_use;
+use crate::passes::may_use;
 use link_graph::Graph;
 use std::alloc::Global;
 use std::collections::BTreeMap;

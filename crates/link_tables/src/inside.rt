@@ -10,7 +10,7 @@ ghost use Rattle.link_tables.specs.Passing.{passes_node};
 ghost use Rattle.link_tables.specs.Placing.{StandsFirst};
 
 use crate::counts::passing_count;
-use crate::passing::may_pass;
+use crate::passes::may_pass;
 use link_graph::{Graph, network_parts_law};
 use venue_types::{Link, Profile};
 

@@ -5,7 +5,7 @@ mod counts;
 mod firsts;
 mod ids;
 mod inside;
-mod passing;
+mod passes;
 mod places;
 mod rows;
 mod starts;

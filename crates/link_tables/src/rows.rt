@@ -10,7 +10,7 @@ ghost use Rattle.link_tables.specs.Passing.{id_at, link_row, rows_of};
 ghost use Rattle.route_certificate.specs.Forms.{FitsId};
 
 use crate::ids::way_id;
-use crate::passing::{may_cross, may_use, passing};
+use crate::passes::{may_cross, may_use, passing};
 use link_graph::{Area, Graph, network_parts_law};
 use route_certificate::TableLink;
 use std::alloc::Global;

@@ -11,7 +11,7 @@ ghost use Rattle.opening_match.specs.Matches.{AreCloseTo, AreBeside, RunsAlong, 
 use crate::entries::Entry;
 use crate::frame::{Frame, frame_of};
 use crate::stretches::stretch_of;
-use plane_bands::{Bands, near_line_law};
+use plane_trees::{Bands, near_line_law};
 use std::alloc::Global;
 use venue_types::{OpeningRow, OutOfMemory, Point, UnitRow};
 

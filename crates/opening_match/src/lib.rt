@@ -4,10 +4,10 @@
 mod candidates;
 mod entries;
 mod frame;
-mod matching;
+mod touch_rows;
 mod rows;
 mod stretches;
 #[cfg(test)]
 mod tests;
 
-pub use matching::touches;
+pub use touch_rows::touches;

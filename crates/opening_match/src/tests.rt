@@ -6,8 +6,8 @@ ghost use Rattle.plane_exact.specs.Figure.{vertices, IsNear};
 ghost use Rattle.opening_match.specs.Matches.{AreCloseTo};
 ghost use Rattle.opening_match.specs.Testing.{IsBoxedOpening, IsBoxedUnit};
 
-use crate::matching::rows_of;
-use boxed_figures::{at, polygon};
+use crate::touch_rows::rows_of;
+use test_figures::{at, polygon};
 use plane_exact::near;
 use std::alloc::{AllocError, Global};
 use std::process::Abort;

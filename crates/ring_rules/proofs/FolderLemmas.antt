@@ -10,8 +10,8 @@ use Rattle.venue_types.specs.declared.point.Shape.{Shape}
 use Rattle.imdf_schema.specs.declared.files.File.{File}
 use Rattle.imdf_schema.specs.declared.files.File.TheVariants as file
 use Rattle.imdf_schema.specs.Files.{file_number, feature_files}
-use Rattle.report_laws.specs.Passes.{Adds}
-use Rattle.report_laws.proofs.Adding.{Adds-same, Adds-then}
+use Rattle.rule_reports.specs.Passes.{Adds}
+use Rattle.rule_reports.proofs.Adding.{Adds-same, Adds-then}
 use Rattle.plane_exact.specs.Figure.{AllClose, rings, vertices}
 use Rattle.feature_rows.specs.Figures.{shapes_of, positions_of, positions, judged_positions, display_of}
 use Rattle.feature_rows.specs.Sound.{AreSound, IsOnEarth, IsSoundRing, IsSoundShape}

@@ -1,10 +1,10 @@
 //! The answer to the question for a way through a venue, over the table of the links that a profile may use.
 #![tactic(auto)]
 
-mod answering;
-mod claiming;
-mod finding;
+mod answers;
+mod claims;
+mod search;
 #[cfg(test)]
 mod trials;
 
-pub use answering::route_answer;
+pub use answers::route_answer;

@@ -6,7 +6,7 @@ mod graphs;
 mod search_rows;
 mod searches;
 
-use station_folder::{Change, Edit, slots_of, station_settings};
+use test_station::{Change, Edit, slots_of, station_settings};
 use std::alloc::Global;
 use std::test::Fail;
 use venue_build::{Built, Venue, build};

@@ -2,21 +2,21 @@
 #![tactic(auto)]
 
 mod answers;
-mod beginning;
+mod start;
 mod families;
 mod found;
 mod frontier;
-mod growing;
+mod growth;
 mod labels;
-mod lowering;
-mod passing;
+mod relaxation;
+mod passed_links;
 mod queue;
 mod quiet;
-mod scanning;
-mod searching;
+mod node_scan;
+mod search;
 mod state;
 mod trails;
 mod ways;
 
 pub use found::Found;
-pub use searching::least;
+pub use search::least;

@@ -8,7 +8,7 @@ ghost use Rattle.board_copies.specs.Stamps.{entries_of};
 ghost use Rattle.version_board.specs.OneThread.{opening_history};
 ghost use Rattle.shared_hall.specs.Entries.{HaveSettings};
 
-use crate::following::{first_law, following_law};
+use crate::entry_laws::{first_law, following_law};
 use board_copies::{Held, Roll};
 use std::alloc::Global;
 use std::sync::Arc;

@@ -2,9 +2,9 @@
 #![tactic(auto)]
 
 mod copies;
-mod crossing;
+mod thread_bounds;
 mod entries;
-mod following;
+mod entry_laws;
 mod name;
 mod office;
 mod seat;
@@ -13,7 +13,7 @@ mod tests;
 
 pub use copies::Copies;
 pub use entries::opening_entries;
-pub use following::{first_law, following_law};
+pub use entry_laws::{first_law, following_law};
 pub use name::HallName;
 pub use office::{Closed, Office, OfficeOf, Opened, Pass, PassOf, close_hall, open_hall};
 pub use seat::{Seat, SeatIn};

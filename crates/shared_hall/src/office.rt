@@ -12,15 +12,15 @@ ghost use Rattle.version_board.specs.Facts.{IsAnswered};
 ghost use Rattle.version_board.specs.Making.{CountsFault};
 ghost use Rattle.shared_hall.specs.Offices.{faulted};
 
-mod closing;
-mod opening;
-mod publishing;
+mod close;
+mod start;
+mod publication;
 
 use crate::name::HallName;
 use board_copies::{Keeper, Reads, Roll, SideReader, Writes, meet_in, read_in, wait_for_ever};
-pub use closing::{Closed, close_hall};
-pub use opening::{Opened, open_hall};
-use publishing::publish_entry;
+pub use close::{Closed, close_hall};
+pub use start::{Opened, open_hall};
+use publication::publish_entry;
 use std::alloc::Global;
 use std::marker::Model;
 use std::sync::ledger::{Book, Share};

@@ -16,7 +16,7 @@ use crate::{
     open_hall, opening_entries,
 };
 use folders::folders;
-use station_folder::{Change as Edits, slots_of, station_settings};
+use test_station::{Change as Edits, slots_of, station_settings};
 use std::alloc::{AllocError, Global};
 use std::marker::Brand;
 use std::process::Abort;

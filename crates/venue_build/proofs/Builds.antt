@@ -7,7 +7,7 @@ use Rattle.venue_types.specs.declared.settings.Settings.{Settings}
 use Rattle.venue_types.specs.declared.finding.Finding.{Finding}
 use Rattle.venue_types.specs.declared.finding.Note.{Note}
 use Rattle.venue_types.specs.declared.finding.Report.{Report}
-use Rattle.report_laws.specs.Reports.{IsReport, IsNoteList}
+use Rattle.rule_reports.specs.Reports.{IsReport, IsNoteList}
 use Rattle.feature_rows.specs.Sound.{AreSound}
 use Rattle.imdf_rows.specs.Folder.{AreFeatures}
 use Rattle.imdf_read.specs.Broken.{IsBroken}

@@ -15,7 +15,7 @@ use Rattle.venue_nodes.specs.Identity.{is_same}
 use Rattle.venue_nodes.proofs.Places.{places_few}
 use Rattle.venue_nodes.proofs.Finding.{position_within}
 use Rattle.venue_build.specs.Places.{places}
-use Rattle.venue_build.specs.declared.placing.Places.{Places}
+use Rattle.venue_build.specs.declared.place_table.Places.{Places}
 use Rattle.venue_build.specs.Placing.{ArePlaces, can_walk, place_id}
 use Rattle.venue_build.proofs.PlaceRanges.{places_long, as_many}
 

@@ -5,7 +5,7 @@ use Rattle.venue_types.specs.declared.features.Features.{Features}
 use Rattle.venue_types.specs.declared.settings.Settings.{Settings}
 use Rattle.venue_types.specs.declared.finding.Finding.{Finding}
 use Rattle.venue_types.specs.declared.finding.Note.{Note}
-use Rattle.report_laws.specs.Reports.{First}
+use Rattle.rule_reports.specs.Reports.{First}
 use Rattle.feature_rows.specs.Sound.{AreSound}
 use Rattle.imdf_read.specs.Broken.{IsBroken}
 use Rattle.imdf_read.specs.Noted.{IsNoted}

@@ -1,14 +1,14 @@
 //! The two phases on the plane.
 
 ghost use Rattle.std.specs.Prelude.{IfOk};
-ghost use Rattle.report_laws.specs.Reports.{IsReport};
+ghost use Rattle.rule_reports.specs.Reports.{IsReport};
 ghost use Rattle.feature_rows.specs.Rows.{HaveOwnIds};
 ghost use Rattle.feature_rows.specs.Sound.{AreSound};
 ghost use Rattle.venue_build.specs.Phases.{IsPlaneBroken};
 
 use contain_rules::add_hold_findings;
 use imdf_schema::{File, Place, Rule};
-use report_laws::in_order;
+use rule_reports::in_order;
 use ring_rules::{add_ring_findings, is_spread};
 use std::alloc::Global;
 use venue_types::{Features, Finding, List, OutOfMemory, Settings};

@@ -8,7 +8,7 @@ ghost use Rattle.venue_cli.specs.Doors.{doors_between};
 ghost use Rattle.venue_cli.specs.Exits.{ExitsAfter, KeepsAfter, LeavesAfter};
 
 use crate::outcome::Outcome;
-use crate::running::run;
+use crate::program::run;
 use std::alloc::Global;
 use std::io::ErrorKind;
 use std::process::ExitCode;

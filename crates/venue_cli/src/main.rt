@@ -6,14 +6,14 @@ mod exit;
 mod hostile;
 mod outcome;
 mod ready;
-mod running;
-mod serving;
+mod program;
+mod serve_command;
 #[cfg(test)]
 mod tests;
 
 pub use exit::{Exit, WordsFault, exit_after, words_fault};
 pub use outcome::Outcome;
-pub use running::run;
+pub use program::run;
 use std::env;
 use std::process::ExitCode;
 use venue_commands::Status;

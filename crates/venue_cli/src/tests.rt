@@ -7,7 +7,7 @@ ghost use Rattle.venue_ports.specs.Doors.{doors_ready};
 mod talks;
 
 use crate::{Outcome, run};
-use station_folder::{Change, TALL, folder_files, station_files};
+use test_station::{Change, TALL, folder_files, station_files};
 use std::alloc::{AllocError, Global};
 use std::process::Abort;
 use std::sync::Wait;

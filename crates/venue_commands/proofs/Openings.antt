@@ -6,11 +6,11 @@ use Rattle.venue_build.specs.Venues.{SeenVenue as Venue}
 use Rattle.venue_ports.specs.Files.{StoredFile}
 use Rattle.venue_ports.specs.declared.folders.ReadFault.{ReadFault}
 use Rattle.venue_commands.specs.declared.answer.Answer.{Answer}
-use Rattle.venue_commands.specs.declared.making.Made.{Made}
-use Rattle.venue_commands.specs.declared.making.Made.TheVariants as made
-use Rattle.venue_commands.specs.declared.opening.Opening.{Opening}
-use Rattle.venue_commands.specs.declared.reaching.Reached.{Reached}
-use Rattle.venue_commands.specs.declared.reaching.Reached.TheVariants as reached
+use Rattle.venue_commands.specs.declared.base_venue.Made.{Made}
+use Rattle.venue_commands.specs.declared.base_venue.Made.TheVariants as made
+use Rattle.venue_commands.specs.declared.start.Opening.{Opening}
+use Rattle.venue_commands.specs.declared.reached.Reached.{Reached}
+use Rattle.venue_commands.specs.declared.reached.Reached.TheVariants as reached
 use Rattle.venue_commands.specs.Checked.{HasVenue}
 use Rattle.venue_commands.specs.Commands.{Session, IsBase, IsFolder, words_of}
 use Rattle.venue_commands.specs.Openings.{IsFolderReached, IsReached}

@@ -11,8 +11,8 @@ use Rattle.venue_build.specs.Venues.{SeenVenue as Venue}
 use Rattle.venue_ports.specs.Files.{StoredFile}
 use Rattle.venue_ports.specs.declared.folders.ReadFault.{ReadFault}
 use Rattle.venue_commands.specs.declared.answer.Answer.{Answer}
-use Rattle.venue_commands.specs.declared.making.Made.{Made}
-use Rattle.venue_commands.specs.declared.making.Made.TheVariants as made
+use Rattle.venue_commands.specs.declared.base_venue.Made.{Made}
+use Rattle.venue_commands.specs.declared.base_venue.Made.TheVariants as made
 use Rattle.venue_commands.specs.declared.status.Status.TheVariants.{Wrong}
 use Rattle.venue_commands.specs.Steps.{IsMade, IsRoutedTo, IsRoutedFrom, IsRoutedFor, IsRouted}
 use Rattle.venue_commands.specs.Checked.{HasVenue}

@@ -9,7 +9,7 @@ use Rattle.version_board.specs.OneThread.{one_thread, opening_history}
 use Rattle.venue_build.specs.Venues.{SeenVenue as Venue}
 use Rattle.venue_session.specs.Sessions.{IsSession, HasServed}
 use Rattle.venue_session.specs.declared.ends.End.{End}
-use Rattle.venue_commands.specs.declared.opening.Opening.{Opening}
+use Rattle.venue_commands.specs.declared.start.Opening.{Opening}
 use Rattle.venue_commands.specs.declared.status.Status.{Status}
 use Rattle.venue_commands.specs.declared.status.Status.TheVariants.{Done, Negative, Wrong, Fault, Memory}
 use Rattle.venue_commands.specs.Ends.{Ends}

@@ -11,8 +11,8 @@ use Rattle.venue_ports.specs.declared.folders.ReadFault.{ReadFault}
 use Rattle.venue_ports.specs.declared.folders.ReadFault.TheVariants.{OutOfMemory}
 use Rattle.venue_folder.specs.Shelves.{folder_path, folder_files}
 use Rattle.venue_commands.specs.declared.answer.Answer.{Answer}
-use Rattle.venue_commands.specs.declared.making.Made.{Made}
-use Rattle.venue_commands.specs.declared.making.Made.TheVariants as made
+use Rattle.venue_commands.specs.declared.base_venue.Made.{Made}
+use Rattle.venue_commands.specs.declared.base_venue.Made.TheVariants as made
 use Rattle.venue_commands.specs.declared.status.Status.{Status}
 use Rattle.venue_commands.specs.declared.status.Status.TheVariants.{Negative, Wrong}
 use Rattle.venue_commands.specs.Files.{Reads}

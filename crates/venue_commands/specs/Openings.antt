@@ -2,9 +2,9 @@
 use Rattle.std.specs.Prelude.{◌≡◌, ℕ, List, Option, IfSome}
 use Rattle.std.specs.Arc.{arc_value}
 use Rattle.venue_ports.specs.Files.{StoredFile}
-use Rattle.venue_commands.specs.declared.opening.Opening.{Opening}
-use Rattle.venue_commands.specs.declared.reaching.Reached.{Reached}
-use Rattle.venue_commands.specs.declared.reaching.Reached.TheVariants as reached
+use Rattle.venue_commands.specs.declared.start.Opening.{Opening}
+use Rattle.venue_commands.specs.declared.reached.Reached.{Reached}
+use Rattle.venue_commands.specs.declared.reached.Reached.TheVariants as reached
 use Rattle.venue_commands.specs.Checked.{NoVenue, HasVenue}
 use Rattle.venue_commands.specs.Commands.{Session, IsAsked, words_of}
 use Rattle.venue_commands.specs.Output.{Output}

@@ -21,8 +21,8 @@ use Rattle.check_text.specs.Text.{rejected_text}
 use Rattle.venue_commands.specs.declared.load.Loaded.{Loaded}
 use Rattle.venue_commands.specs.declared.load.Loaded.TheVariants as loaded
 use Rattle.venue_commands.specs.declared.answer.Answer.{Answer}
-use Rattle.venue_commands.specs.declared.making.Made.{Made}
-use Rattle.venue_commands.specs.declared.making.Made.TheVariants as made
+use Rattle.venue_commands.specs.declared.base_venue.Made.{Made}
+use Rattle.venue_commands.specs.declared.base_venue.Made.TheVariants as made
 use Rattle.venue_commands.specs.declared.status.Status.{Status}
 use Rattle.venue_commands.specs.declared.status.Status.TheVariants.{Done, Negative, Wrong, Fault, Memory}
 use Rattle.venue_commands.specs.declared.load.Cause.{Cause}

@@ -8,13 +8,13 @@ ghost use Rattle.venue_commands.specs.Output.{priced_text, priced_status, PriceO
 ghost use Rattle.venue_commands.specs.Steps.{IsPrinted};
 
 use crate::base::{table_of, walk_of};
-use crate::building::building_answer;
-use crate::checking::check_answer;
-use crate::linking::links_answer;
+use crate::gen_command::building_answer;
+use crate::check_command::check_answer;
+use crate::links_command::links_answer;
 use crate::load::Cause;
-use crate::routing::routing_answer;
+use crate::route_command::routing_answer;
 use crate::status::Status;
-use crate::verifying::verify_answer;
+use crate::verify_command::verify_answer;
 use crate::words::{base_of, folder_of, levels_of, links_of, route_of};
 use route_certificate::{Priced, price};
 use std::alloc::{AllocError, Global};

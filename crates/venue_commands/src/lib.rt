@@ -3,18 +3,18 @@
 
 mod answer;
 mod base;
-mod building;
-mod checking;
+mod gen_command;
+mod check_command;
 mod laws;
-mod linking;
+mod links_command;
 mod load;
-mod making;
-mod opening;
-mod printing;
-mod reaching;
+mod base_venue;
+mod start;
+mod console_text;
+mod reached;
 mod route_law;
-mod routing;
-mod running;
+mod route_command;
+mod commands;
 mod serving_console;
 mod settings;
 mod status;
@@ -22,15 +22,15 @@ mod status;
 mod tests;
 #[cfg(test)]
 mod trials;
-mod verifying;
+mod verify_command;
 mod words;
 
 pub use answer::Answer;
 pub use laws::{run_complete_law, run_headline_law};
-pub use opening::Opening;
-pub use printing::write_all;
-pub use reaching::{Reached, reach_folder};
+pub use start::Opening;
+pub use console_text::write_all;
+pub use reached::{Reached, reach_folder};
 pub use route_law::route_is_proved;
-pub use running::{print, print_fault, run_alone};
+pub use commands::{print, print_fault, run_alone};
 pub use status::Status;
 pub use words::service_of;

@@ -7,7 +7,7 @@ ghost use Rattle.venue_commands.specs.Openings.{IsOpening};
 ghost use Rattle.venue_commands.specs.Runs.{run_between};
 ghost use Rattle.venue_commands.specs.Served.{end_status};
 
-use crate::opening::Opening;
+use crate::start::Opening;
 use crate::status::Status;
 use std::alloc::Global;
 use venue_ports::{Folders, Stream};

@@ -31,7 +31,7 @@ use program::ending;
 use property_rows::{REFERENCE_FORMS, VALUE_FORMS};
 use reference_rows::{IDENTIFIERS, REFERENCES, Reference};
 use ring_rows::RINGS;
-use station_folder::{Change, Edit, station_files};
+use test_station::{Change, Edit, station_files};
 use std::alloc::{AllocError, Global};
 use std::process::Abort;
 use std::test::Fail;

@@ -1,8 +1,8 @@
 //! The folders that are served: the seventeen files of each, by the folder's name below a base.
 #![tactic(auto)]
 
-mod reading;
+mod folder_files;
 #[cfg(test)]
 mod tests;
 
-pub use reading::files_of;
+pub use folder_files::files_of;

@@ -15,7 +15,7 @@ use Rattle.venue_types.specs.declared.finding.Finding.{Finding}
 use Rattle.imdf_access.specs.Categories.{is_walkable}
 use Rattle.imdf_schema.specs.declared.files.File.TheVariants as file
 use Rattle.imdf_schema.specs.Files.{file_number}
-use Rattle.report_laws.specs.Reports.{IsReport}
+use Rattle.rule_reports.specs.Reports.{IsReport}
 use Rattle.venue_nodes.specs.declared.limits.Crowding.{Crowding}
 use Rattle.venue_nodes.specs.declared.limits.Crowding.TheVariants.{Members, Squares}
 use Rattle.venue_nodes.specs.declared.rules.LimitRule.{LimitRule}

@@ -3,7 +3,7 @@
 ghost use Rattle.std.specs.Prelude.{◌≡◌, ◌↔◌, ◌<◌, ◌≤◌, ◌*◌, ℕ, List, All, IfOk, IsTrue, MatchOption, sum_by, length};
 ghost use Rattle.std.specs.Option.{option_map, option_to_list};
 ghost use Rattle.venue_types.specs.declared.features.Features.{Features};
-ghost use Rattle.report_laws.specs.Reports.{IsReport};
+ghost use Rattle.rule_reports.specs.Reports.{IsReport};
 ghost use Rattle.venue_nodes.specs.Crowds.{Crowds, IsFirstFull, IsRoomy, limit_finding, square_of};
 ghost use Rattle.venue_nodes.specs.Limits.{BreaksLimit};
 ghost use Rattle.venue_nodes.specs.Rows.{AreRowsOf, row_list};

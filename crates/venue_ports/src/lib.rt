@@ -23,7 +23,7 @@ mod tcp;
 mod tcp_link;
 #[cfg(test)]
 mod tests;
-mod waiting;
+mod waits;
 
 pub use doors::Doors;
 pub use folders::{Folders, ReadFault};

@@ -8,7 +8,7 @@ ghost use Rattle.venue_ports.specs.Waits.{LimitsRead, LimitsWrite, no_waits};
 use crate::limits::Limits;
 use crate::sockets::{linger, now, read_again, since, write_again};
 use crate::stream::{Failed, Stream};
-use crate::waiting::Waiting;
+use crate::waits::Waiting;
 use std::net::TcpStream;
 use std::time::{Clock, Duration};
 

@@ -4,7 +4,7 @@ ghost use Rattle.std.specs.Prelude.{◌≡◌, true};
 ghost use Rattle.venue_ports.specs.Doors.{doors_ready};
 
 use crate::reports::{file_path, read_count, read_fault, write_count};
-use crate::waiting::Waiting;
+use crate::waits::Waiting;
 use crate::{
     Console, DirFolders, Doors, Failed, Folders, MemoryDoors, MemoryFile, MemoryFolders,
     MemoryStream, QuietDoors, ReadFault, Stream, same_files_law,

@@ -5,13 +5,13 @@ mod desk;
 mod guest;
 #[cfg(test)]
 mod seat_tests;
-mod seating;
+mod seats;
 mod service;
 #[cfg(test)]
 mod tests;
-mod working;
+mod worker;
 
 pub use desk::{DoorDesk, Next};
 pub use guest::Guest;
 pub use service::{Counts, Service, serve_hall};
-pub use working::work;
+pub use worker::work;

@@ -6,7 +6,7 @@ ghost use Rattle.version_board.specs.Making.{shelf_of};
 ghost use Rattle.shared_hall.specs.Copied.{entries_in, book_in};
 
 use shared_hall::{Copies, HallName, Opened, Seat, open_hall, opening_entries};
-use station_folder::{Change, folder_files, slots_of, station_settings};
+use test_station::{Change, folder_files, slots_of, station_settings};
 use std::alloc::Global;
 use std::marker::Brand;
 use std::process::Abort;

@@ -10,7 +10,7 @@ ghost use Rattle.venue_service.specs.Desks.{raised};
 ghost use Rattle.venue_service.specs.Services.{AreCounts};
 
 use crate::desk::DoorDesk;
-use crate::seating::{leave_all, sit_all, work_all};
+use crate::seats::{leave_all, sit_all, work_all};
 use shared_hall::{Closed, Copies, HallName, Office, Opened, Pass, Seat, close_hall, open_hall};
 use std::alloc::Global;
 use std::sync::ledger::Blank;

@@ -9,7 +9,7 @@ ghost use Rattle.shared_hall.specs.Copied.{entries_in, book_in};
 
 use crate::{DoorDesk, Next};
 use shared_hall::{Copies, HallName, Opened, Seat, open_hall, opening_entries};
-use station_folder::{Change, slots_of, station_settings};
+use test_station::{Change, slots_of, station_settings};
 use std::alloc::Global;
 use std::marker::Brand;
 use std::process::Abort;

@@ -8,8 +8,8 @@ use Rattle.venue_session.specs.Acting.{Acted, AreOpen, Acts}
 use Rattle.venue_session.specs.Ends.{Measured}
 use Rattle.venue_session.specs.Sessions.{IsSession}
 use Rattle.venue_session.specs.declared.ends.End.{End}
-use Rattle.venue_session.specs.declared.reading.Heard.{Heard}
-use Rattle.venue_session.specs.declared.running.Stop.{Stop}
+use Rattle.venue_session.specs.declared.heard.Heard.{Heard}
+use Rattle.venue_session.specs.declared.step_runs.Stop.{Stop}
 
 -- what is seen of the hall and of the link at one moment
 pub record Moment : Type 0 where

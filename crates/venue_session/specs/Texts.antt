@@ -6,8 +6,8 @@ use Rattle.wire_replies.specs.declared.answer.Answer.{Answer}
 use Rattle.wire_replies.specs.Replies.{reply_text}
 use Rattle.venue_session.specs.declared.texts.Text.{Text}
 use Rattle.venue_session.specs.declared.texts.Text.TheVariants.{Made, Fixed}
-use Rattle.venue_session.specs.declared.answering.Step.{Step}
-use Rattle.venue_session.specs.declared.answering.Step.TheVariants.{Replied, Untold}
+use Rattle.venue_session.specs.declared.steps.Step.{Step}
+use Rattle.venue_session.specs.declared.steps.Step.TheVariants.{Replied, Untold}
 use Rattle.venue_session.specs.Steps.{told_by, IsStep}
 
 -- the bytes of a text

@@ -1,21 +1,21 @@
 //! One session over one stream: what it may be and how it is served, whatever hall answers and in whatever pieces the bytes come.
 #![tactic(auto)]
 
-mod answering;
+mod steps;
 mod ends;
 mod input;
 mod laws;
-mod reading;
-mod refusing;
-mod running;
-mod serving;
+mod heard;
+mod refused_heads;
+mod step_runs;
+mod whole_session;
 #[cfg(test)]
 mod session_tests;
 #[cfg(test)]
 mod tests;
 mod texts;
-mod writing;
+mod writer;
 
 pub use ends::End;
 pub use laws::{acts_close_law, acts_hall_law, acts_more_law, acts_push_law, acts_then_law};
-pub use serving::serve_session;
+pub use whole_session::serve_session;

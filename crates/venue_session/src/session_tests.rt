@@ -4,7 +4,7 @@ ghost use Rattle.std.specs.Prelude.{◌≡◌, IfOk};
 ghost use Rattle.std.specs.Arc.{arc_value};
 
 use crate::{End, serve_session};
-use station_folder::{Change, slots_of, station_settings};
+use test_station::{Change, slots_of, station_settings};
 use std::alloc::Global;
 use std::process::Abort;
 use std::sync::Arc;

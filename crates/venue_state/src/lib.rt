@@ -1,15 +1,15 @@
 //! One version of a venue that can be asked, and changes that are made ready beside it.
 #![tactic(auto)]
 
-mod asking;
+mod questions;
 mod board;
-mod closing;
-mod following;
-mod judging;
-mod naming;
+mod closures;
+mod board_after;
+mod act_checks;
+mod names;
 mod prepared;
-mod preparing;
-mod routing;
+mod preparation;
+mod trips;
 mod stand;
 mod tally;
 #[cfg(test)]

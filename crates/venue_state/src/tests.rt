@@ -5,7 +5,7 @@ ghost use Rattle.std.specs.Arc.{arc_value};
 ghost use Rattle.venue_state.specs.Preparing.{HasSettings};
 
 use crate::{Board, Unready};
-use station_folder::{Change, Edit, NO_LIFT, slots_of, station_settings};
+use test_station::{Change, Edit, NO_LIFT, slots_of, station_settings};
 use std::alloc::Global;
 use std::process::Abort;
 use std::sync::Arc;

@@ -1,16 +1,16 @@
 //! A framed message as a question or a change: paths, methods, staff keys, queries and bodies.
 #![tactic(auto)]
 
-mod asking;
+mod query_values;
 mod bodies;
 mod calls;
-mod finding;
+mod query_pairs;
 mod forms;
 mod front;
 mod laws;
 mod messages;
 mod paths;
-mod taking;
+mod next_message;
 #[cfg(test)]
 mod tests;
 
@@ -20,4 +20,4 @@ pub use laws::{
 };
 pub use messages::{Message, Taken};
 pub use paths::Path;
-pub use taking::take;
+pub use next_message::take;

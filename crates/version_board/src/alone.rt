@@ -14,7 +14,7 @@ ghost use Rattle.version_board.specs.OneThread.{one_thread, opening_history};
 ghost use Rattle.version_board.specs.Making.{shelf_of, CountsFault};
 
 use crate::hall::{Asks, Hall};
-use crate::making::{Outcome, ready_change};
+use crate::changes::{Outcome, ready_change};
 use crate::reader::Reader;
 use board_copies::{Held, Roll};
 use std::alloc::Global;

@@ -4,7 +4,7 @@
 mod alone;
 mod hall;
 mod laws;
-mod making;
+mod changes;
 mod reader;
 #[cfg(test)]
 mod tests;
@@ -12,5 +12,5 @@ mod tests;
 pub use alone::{Alone, Unopened};
 pub use hall::{Asks, Hall};
 pub use laws::{answered_law, changed_law};
-pub use making::{Outcome, ready_change};
+pub use changes::{Outcome, ready_change};
 pub use reader::Reader;

@@ -4,7 +4,7 @@ ghost use Rattle.std.specs.Prelude.{◌≡◌, IfOk};
 ghost use Rattle.std.specs.Arc.{arc_value};
 
 use crate::{Alone, Asks, Hall, Unopened, answered_law, changed_law};
-use station_folder::{
+use test_station::{
     Change as Edits, Edit, NO_LIFT, TALL, folder_files, slots_of, station_settings,
 };
 use std::alloc::Global;

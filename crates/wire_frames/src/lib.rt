@@ -2,7 +2,7 @@
 #![tactic(auto)]
 
 mod fields;
-mod framing;
+mod frames;
 mod heads;
 mod laws;
 mod parts;
@@ -11,7 +11,7 @@ mod refusals;
 mod tests;
 
 pub use fields::Named;
-pub use framing::{Framed, Framing, frame};
+pub use frames::{Framed, Framing, frame};
 pub use heads::{Extent, find_head};
 pub use laws::{front_more_law, head_extent_law, one_front_law, short_law};
 pub use refusals::{Methods, Refusal};

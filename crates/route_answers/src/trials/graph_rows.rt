@@ -1,6 +1,6 @@
 //! What is changed in the station, and what its graph then is.
 
-use station_folder::{AMENITY, Edit, OPENING, RELATIONSHIP, UNIT};
+use test_station::{AMENITY, Edit, OPENING, RELATIONSHIP, UNIT};
 use venue_types::Kind;
 
 /// A link by a relationship: where it starts and ends, what it goes by, its cost and its kind.

@@ -1,6 +1,6 @@
 //! The station, and two folders beside it, in memory.
 
-use station_folder::{Change as Edits, Edit, NO_LIFT, TALL, folder_files};
+use test_station::{Change as Edits, Edit, NO_LIFT, TALL, folder_files};
 use std::alloc::Global;
 use std::test::Fail;
 use venue_ports::{MemoryFile, MemoryFolders};

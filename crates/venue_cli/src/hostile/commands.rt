@@ -2,7 +2,7 @@
 
 use super::outside::{Ended, file, joined, run_without_doors};
 use super::texts::{FIRST, FOLDER_FAULT, NEW_FOLDER, PUBLICATION, PUBLISHED, VERSION};
-use station_folder::{Change, station_files};
+use test_station::{Change, station_files};
 use std::alloc::Global;
 use std::process::Abort;
 use std::sync::Wait;

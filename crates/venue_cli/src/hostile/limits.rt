@@ -1,7 +1,7 @@
 //! `check` over folders about the limits.
 
 use super::outside::{file, run_without_doors};
-use station_folder::{ANCHOR, Change, Edit, RELATIONSHIP, UNIT, station_files};
+use test_station::{ANCHOR, Change, Edit, RELATIONSHIP, UNIT, station_files};
 use std::alloc::{AllocError, Global};
 use std::process::Abort;
 use std::sync::Wait;

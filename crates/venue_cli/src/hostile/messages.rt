@@ -5,7 +5,7 @@ ghost use Rattle.std.specs.Arc.{arc_value};
 
 use super::outside::{base, folders, joined, stream, venue_of};
 use super::texts::{CLOSED_LIFT, CLOSURE, FIRST, VERSION};
-use station_folder::station_settings;
+use test_station::station_settings;
 use std::alloc::Global;
 use std::process::Abort;
 use std::sync::Arc;

@@ -5,7 +5,7 @@ ghost use Rattle.std.specs.Arc.{arc_value};
 ghost use Rattle.venue_ports.specs.Doors.{doors_ready};
 
 use crate::run;
-use station_folder::{Change, slots_of};
+use test_station::{Change, slots_of};
 use std::alloc::{AllocError, Global};
 use std::sync::{Arc, Wait};
 use std::test::Fail;

@@ -10,7 +10,7 @@ use super::texts::{
     CLOSED_LIFT, CLOSURE, FIRST, FOLDER_FAULT, NEW_FOLDER, PUBLICATION, PUBLISHED, VERSION,
 };
 use shared_hall::{Copies, HallName, Opened, Seat, close_hall, open_hall, opening_entries};
-use station_folder::{Change as Edits, folder_files, station_settings};
+use test_station::{Change as Edits, folder_files, station_settings};
 use std::alloc::Global;
 use std::marker::Brand;
 use std::process::Abort;

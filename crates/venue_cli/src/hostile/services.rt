@@ -6,7 +6,7 @@ ghost use Rattle.venue_ports.specs.InMemory.{stream_left, stream_written, stream
 
 use super::outside::{doors, folders, joined, run_over, stream};
 use super::texts::{FIRST, VERSION};
-use station_folder::{Change, station_files};
+use test_station::{Change, station_files};
 use std::alloc::Global;
 use std::process::Abort;
 use std::sync::{Mutex, Wait};

@@ -1,7 +1,7 @@
 //! Folders that are accepted, and their notes.
 
 use super::Row;
-use station_folder::{
+use test_station::{
     ADDRESS, AMENITY, ANCHOR, DETAIL, GONE, KIOSK, LEVEL, MANIFEST, OPENING, RELATIONSHIP, UNIT,
 };
 

@@ -1,6 +1,6 @@
 //! Folders near the limits, and reports that are longer than what is printed of them.
 
-use station_folder::{
+use test_station::{
     ADDRESS, ANCHOR, Edit, MANIFEST, OPENING, RELATIONSHIP, SECTION, SETTINGS, UNIT, VENUE,
 };
 

@@ -1,7 +1,7 @@
 //! Broken folders: rules on positions and on the form of geometries.
 
 use super::Row;
-use station_folder::{AMENITY, ANCHOR, FIXTURE, FOOTPRINT, LEVEL, OPENING, UNIT, VENUE};
+use test_station::{AMENITY, ANCHOR, FIXTURE, FOOTPRINT, LEVEL, OPENING, UNIT, VENUE};
 
 // The ring of the column.
 const RING: &str = "[(60,20),(62,20),(62,22),(60,22),(60,20)]";

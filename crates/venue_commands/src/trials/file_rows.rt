@@ -1,7 +1,7 @@
 //! Broken folders: rules on files, on the manifest and on collections.
 
 use super::Row;
-use station_folder::{ADDRESS, EVERY, GONE, MANIFEST, SECTION, UNIT, VENUE};
+use test_station::{ADDRESS, EVERY, GONE, MANIFEST, SECTION, UNIT, VENUE};
 
 pub(super) static FILES: [Row; 31] = [
     (

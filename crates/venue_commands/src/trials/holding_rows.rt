@@ -1,7 +1,7 @@
 //! Broken folders: what does not lie in what holds it.
 
 use super::Row;
-use station_folder::{AMENITY, ANCHOR, FOOTPRINT, LEVEL, OPENING, SETTINGS, UNIT, VENUE};
+use test_station::{AMENITY, ANCHOR, FOOTPRINT, LEVEL, OPENING, SETTINGS, UNIT, VENUE};
 
 // The corners of the column, the ring of the walkway, that of a level.
 const COLUMN: &str = "(60,20),(62,20),(62,22),(60,22),(60,20)";

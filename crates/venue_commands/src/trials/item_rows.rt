@@ -1,7 +1,7 @@
 //! Broken folders: rules on features.
 
 use super::Row;
-use station_folder::{
+use test_station::{
     ADDRESS, AMENITY, ANCHOR, BUILDING, FIXTURE, FOOTPRINT, LEVEL, OCCUPANT, OPENING, RELATIONSHIP,
     UNIT, VENUE,
 };

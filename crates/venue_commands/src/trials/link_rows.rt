@@ -1,6 +1,6 @@
 //! The links that a profile may use, in the changed station.
 
-use station_folder::{Edit, GONE, MANIFEST, OPENING, SETTINGS, UNIT};
+use test_station::{Edit, GONE, MANIFEST, OPENING, SETTINGS, UNIT};
 
 /// A line of a table: its number, counted from 0, what stands before the identifier, and the identifier's last digits.
 pub(super) type Line = (usize, &'static str, &'static str);

@@ -3,7 +3,7 @@
 use super::link_rows::{LINK_STOPS, LINKS, Line, LinkRow};
 use super::program::ending;
 use super::status_of;
-use station_folder::{Change, station_files};
+use test_station::{Change, station_files};
 use std::alloc::Global;
 use std::process::Abort;
 use std::test::Fail;

@@ -2,7 +2,7 @@
 
 use super::Row;
 use super::bulk_rows::BulkRow;
-use station_folder::{AMENITY, OPENING, RELATIONSHIP, SETTINGS, UNIT};
+use test_station::{AMENITY, OPENING, RELATIONSHIP, SETTINGS, UNIT};
 
 pub(super) static PLACES: [Row; 8] = [
     (

@@ -1,7 +1,7 @@
 //! Broken folders: properties that are not of their form.
 
 use super::Row;
-use station_folder::{
+use test_station::{
     AMENITY, ANCHOR, BUILDING, DETAIL, FIXTURE, FOOTPRINT, KIOSK, LEVEL, OCCUPANT, OPENING,
     RELATIONSHIP, UNIT, VENUE,
 };

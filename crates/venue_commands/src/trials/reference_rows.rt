@@ -1,7 +1,7 @@
 //! Identifiers that stand twice, and references.
 
 use super::Row;
-use station_folder::{
+use test_station::{
     ADDRESS, AMENITY, ANCHOR, BUILDING, DETAIL, Edit, FIXTURE, FOOTPRINT, KIOSK, LEVEL, MANIFEST,
     OCCUPANT, OPENING, RELATIONSHIP, UNIT, VENUE,
 };

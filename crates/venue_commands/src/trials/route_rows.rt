@@ -1,6 +1,6 @@
 //! Ways through the changed station.
 
-use station_folder::{Edit, GONE, MANIFEST, RELATIONSHIP, SETTINGS, UNIT};
+use test_station::{Edit, GONE, MANIFEST, RELATIONSHIP, SETTINGS, UNIT};
 
 /// Edits, the profile, the places by the last four digits of their identifiers or as a whole text, the status, what is printed
 /// first, and some of the lines behind it.

@@ -4,7 +4,7 @@ use super::linking::base_file;
 use super::program::{Output, ending};
 use super::route_rows::{PLACE_STOPS, ROUTE_STOPS, ROUTES, RouteRow, RouteStop};
 use super::status_of;
-use station_folder::{Change, Edit, station_files};
+use test_station::{Change, Edit, station_files};
 use std::alloc::{AllocError, Global};
 use std::process::Abort;
 use std::test::Fail;

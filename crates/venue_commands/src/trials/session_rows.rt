@@ -1,7 +1,7 @@
 //! What is asked of a session over the station, and what is written for it, worked out by hand. `'` stands for a quotation mark,
 //! `@0301` for the identifier that ends in 0301, `*` for as many letters as a row says.
 
-use station_folder::{BUILDING, Edit, GONE, MANIFEST, SETTINGS};
+use test_station::{BUILDING, Edit, GONE, MANIFEST, SETTINGS};
 
 /// A method with its target, and the body that staff send; without a body what a visitor asks. Without a target these bytes.
 pub(super) type Request = (&'static str, &'static str);

@@ -7,7 +7,7 @@ use super::session_rows::{
     WAYS,
 };
 use crate::{Status, run_alone, service_of};
-use station_folder::{Change, Edit, NO_LIFT, SETTINGS, TALL, folder_files, station_files};
+use test_station::{Change, Edit, NO_LIFT, SETTINGS, TALL, folder_files, station_files};
 use std::alloc::{AllocError, Global};
 use std::process::Abort;
 use std::test::Fail;

@@ -1,6 +1,6 @@
 //! What stops the command: settings, files of the base, reads that fail, words.
 
-use station_folder::{Edit, GONE, MANIFEST, SETTINGS};
+use test_station::{Edit, GONE, MANIFEST, SETTINGS};
 
 /// A name, edits, the number of the read that fails, counted from 1 (0: none), and what is printed.
 pub(super) type StopRow = (&'static str, &'static [Edit], u64, &'static str);

@@ -4,7 +4,7 @@ use Rattle.venue_types.specs.declared.files.Slot.TheVariants.{Absent}
 use Rattle.imdf_schema.specs.contracts.files.File.{the_type}
 use Rattle.imdf_schema.specs.declared.files.File.TheVariants as file
 use Rattle.imdf_read.specs.declared.rules.ReadingRule.TheVariants.{V1}
-use Rattle.report_laws.proofs.Adding.{Adds-found}
+use Rattle.rule_reports.proofs.Adding.{Adds-found}
 use Rattle.imdf_read.proofs.Slots.{no_value_adds, adds_whole, absent_rules}
 use Rattle.imdf_read.proofs.file.take_absent.Goals as goal
 

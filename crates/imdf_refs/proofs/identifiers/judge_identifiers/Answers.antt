@@ -3,7 +3,7 @@ use Rattle.std.specs.Prelude.{slice_get}
 use Rattle.std.proofs.lemmas.Option.{slice_get-get_or}
 use Rattle.imdf_schema.specs.declared.files.File.{File}
 use Rattle.imdf_schema.specs.Files.{feature_files}
-use Rattle.report_laws.proofs.Adding.{Adds-start, Adds-step, Adds-end}
+use Rattle.rule_reports.proofs.Adding.{Adds-start, Adds-step, Adds-end}
 use Rattle.imdf_refs.specs.Index.{HasBefore}
 use Rattle.imdf_refs.specs.Gathering.{RepeatsIn}
 use Rattle.imdf_schema.proofs.FileNumbers.{nth_number}
