@@ -33,7 +33,7 @@ use imdf_read::{ReadOut, read_folder};
 use imdf_refs::{own_ids_law, reference_findings};
 use link_graph::Graph;
 use opening_match::touches;
-use reading_laws::sound_reading_law;
+use imdf_read::sound_reading_law;
 use ring_rules::is_spread;
 use test_station::station_settings;
 use std::alloc::Global;

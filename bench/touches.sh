@@ -27,7 +27,7 @@ ghost use Rattle.plane_exact.specs.Figure.{AllClose};
 
 use imdf_read::{ReadOut, read_folder};
 use opening_match::touches;
-use reading_laws::sound_reading_law;
+use imdf_read::sound_reading_law;
 use ring_rules::is_spread;
 use test_station::station_settings;
 use std::env;

@@ -24,7 +24,7 @@ use std::io::{self, BufWriter, Error, Write};
 use std::marker::Brand;
 use std::sync::ledger::{Blank, Ledger};
 use std::time::Instant;
-use step_count::Steps;
+use walk_laws::Steps;
 use venue_build::{Built, Venue, build};
 use venue_folder::files_of;
 use venue_ports::DirFolders;

@@ -6,7 +6,7 @@ mod counter;
 mod thread_bounds;
 mod ends;
 mod next_held;
-mod found;
+mod seen;
 mod held;
 mod keeper;
 mod copies;
@@ -23,7 +23,7 @@ mod endless_wait;
 
 pub use counter::{Counting, Tried};
 pub use ends::{Reads, Writes};
-pub use found::Found;
+pub use seen::Seen;
 pub use held::{Held, Ready, Side};
 pub use keeper::{Keep, Keeper};
 pub use copies::{make_reader, make_writer};

@@ -3,11 +3,11 @@
 ghost use Rattle.std.specs.Prelude.{◌≡◌, length, IfSome, IfNone, IsTrue, true};
 ghost use mathlib.Core.List.{IsPrefix};
 ghost use Rattle.left_right.specs.Sides.{view};
-ghost use Rattle.board_copies.specs.Reading.{IsFound};
+ghost use Rattle.board_copies.specs.Reading.{IsSeen};
 ghost use Rattle.board_copies.specs.Rules.{known, StaysBound};
 ghost use Rattle.board_copies.specs.Stamps.{entries_of};
 
-use crate::found::Found;
+use crate::seen::Seen;
 use crate::held::Held;
 use crate::rule::{Seeing, SideReader};
 use core::mem::replace_with;
@@ -16,11 +16,11 @@ use venue_history::number_law;
 use venue_types::Query;
 
 // The number of a board, and its answer.
-fn answer(held: &Held, alloc: Global, query: &Query) -> Found
-    ensures { IsFound (entries_of held.now.stamp) query.now result }
+fn answer(held: &Held, alloc: Global, query: &Query) -> Seen
+    ensures { IsSeen (entries_of held.now.stamp) query.now result }
 {
     number_law();
-    Found {
+    Seen {
         number: held.board.number(),
         reply: held.board.ask(alloc, query),
     }
@@ -29,10 +29,10 @@ fn answer(held: &Held, alloc: Global, query: &Query) -> Found
 #[tactic(auto, using(crate::proofs::Steps::sees))]
 /// Enters, answers at the copy that is published, and leaves. None where the copies are gone, which callers answer as want of memory;
 /// then nothing more was seen.
-pub fn read(reader: SideReader, alloc: Global, query: &Query) -> (SideReader, Option<Found>)
+pub fn read(reader: SideReader, alloc: Global, query: &Query) -> (SideReader, Option<Seen>)
     ensures bound { StaysBound (view reader.place) (view result.0.place) }
     ensures grows { IsPrefix (view reader.place).seen (view result.0.place).seen }
-    ensures found { IfSome result.1 (IsFound (view result.0.place).seen query.now) }
+    ensures found { IfSome result.1 (IsSeen (view result.0.place).seen query.now) }
     ensures gone { IfNone result.1 (view result.0.place ≡ view reader.place) }
 {
     match reader.enter_as::<Seeing>() {
@@ -45,10 +45,10 @@ pub fn read(reader: SideReader, alloc: Global, query: &Query) -> (SideReader, Op
 }
 
 /// The same in place.
-pub fn read_in(reader: &mut SideReader, alloc: Global, query: &Query) -> Option<Found>
+pub fn read_in(reader: &mut SideReader, alloc: Global, query: &Query) -> Option<Seen>
     ensures bound { StaysBound (view reader.old.place) (view reader.new.place) }
     ensures grows { IsPrefix (view reader.old.place).seen (view reader.new.place).seen }
-    ensures found { IfSome result (IsFound (view reader.new.place).seen query.now) }
+    ensures found { IfSome result (IsSeen (view reader.new.place).seen query.now) }
     ensures gone { IfNone result (view reader.new.place ≡ view reader.old.place) }
 {
     replace_with(

@@ -3,7 +3,7 @@
 ghost use Rattle.std.specs.Prelude.{◌≡◌, ◌≤◌, IfOk, length};
 ghost use Rattle.std.specs.Arc.{arc_value};
 ghost use Rattle.venue_history.specs.Changes.{Changes};
-ghost use Rattle.version_board.specs.Facts.{IsAnswered};
+ghost use Rattle.venue_hall.specs.Facts.{IsAnswered};
 ghost use Rattle.version_board.specs.Halls.{facts_of};
 ghost use Rattle.version_board.specs.OneThread.{opening_history};
 

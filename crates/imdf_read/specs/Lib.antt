@@ -7,3 +7,4 @@ pub mod Judging
 pub mod Taking
 pub mod Progress
 pub mod Out
+pub mod Ordinals

@@ -16,7 +16,7 @@ use crate::items::{Gathered, Taken, take_items};
 use crate::rules::ReadingRule;
 use exact_json::{Arena, JsonFault, Tree, read};
 use imdf_rows::FeatureRow;
-use imdf_schema::{File, Place, is_collection, items};
+use imdf_schema::{File, FeatureAt, is_collection, items};
 use rule_reports::add;
 use std::alloc::Global;
 use venue_types::{Finding, OutOfMemory, Slot};
@@ -27,7 +27,7 @@ pub(crate) const MAX_BYTES: usize = 33_554_432;
 pub(crate) fn whole(rule: ReadingRule, file: File) -> Finding
     ensures { result ≡ finding_at (rule_of rule) file 0 0 }
 {
-    Place { file, index: 0 }.finding(rule.rule(), 0)
+    FeatureAt { file, index: 0 }.finding(rule.rule(), 0)
 }
 
 impl<R: FeatureRow> Taken<R> {

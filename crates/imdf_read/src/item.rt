@@ -11,7 +11,7 @@ use crate::figures::{Judged, judged_geometry};
 use crate::plain_rules::judge_plain;
 use crate::property_rule::judge_properties;
 use exact_json::Tree;
-use imdf_schema::{Place, Rule, is_feature};
+use imdf_schema::{FeatureAt, Rule, is_feature};
 use rule_reports::add;
 use std::alloc::Global;
 use venue_types::{Finding, OutOfMemory};
@@ -21,7 +21,7 @@ const MAX_RING: u64 = 20_000;
 // The rules on a geometry.
 fn judge_figure(
     findings: &mut Vec<Finding>,
-    place: Place,
+    place: FeatureAt,
     item: &Tree,
     judged: &Judged,
 ) -> Result<(), OutOfMemory>
@@ -42,7 +42,7 @@ fn judge_figure(
 fn judge_feature(
     alloc: Global,
     findings: &mut Vec<Finding>,
-    place: Place,
+    place: FeatureAt,
     item: &Tree,
 ) -> Result<Judged, OutOfMemory>
     requires feature { feature_is (tree_view item.now) ≡ true }
@@ -61,7 +61,7 @@ fn judge_feature(
 pub(crate) fn judge_item(
     alloc: Global,
     findings: &mut Vec<Finding>,
-    place: Place,
+    place: FeatureAt,
     item: &Tree,
 ) -> Result<Judged, OutOfMemory>
     requires { IsShort (tree_view item.now) }

@@ -16,7 +16,7 @@ use crate::item::judge_item;
 use crate::note_rules::judge_notes;
 use exact_json::Tree;
 use imdf_rows::{FeatureRow, push_row};
-use imdf_schema::{File, Place};
+use imdf_schema::{File, FeatureAt};
 use std::alloc::Global;
 use venue_types::{Finding, Note, OutOfMemory};
 
@@ -32,7 +32,7 @@ fn take_item<R: FeatureRow>(
     alloc: Global,
     gathered: &mut Gathered,
     rows: &mut Vec<R>,
-    place: Place,
+    place: FeatureAt,
     item: &Tree,
 ) -> Result<u64, OutOfMemory>
     requires short { IsShort (tree_view item.now) }
@@ -84,7 +84,7 @@ pub(crate) fn take_items<R: FeatureRow>(
     let mut rows = Vec::new(alloc);
     let mut positions = 0u64;
     for (k, item) in items.iter().enumerate() {
-        let place = Place {
+        let place = FeatureAt {
             file,
             index: k as u32,
         };

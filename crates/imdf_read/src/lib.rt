@@ -6,6 +6,7 @@ mod file;
 mod folder;
 mod item;
 mod items;
+mod laws;
 mod manifest;
 mod note_rules;
 mod plain_rules;
@@ -18,5 +19,6 @@ mod rules;
 mod tests;
 
 pub use folder::read_folder;
+pub use laws::{one_reading_law, ordinals_law, sound_reading_law};
 pub use read_out::ReadOut;
 pub use rules::{ReadingNote, ReadingRule};

@@ -12,7 +12,7 @@ ghost use Rattle.imdf_read.specs.Gathering.{NotesBy, NotesInItem};
 use crate::rules::ReadingNote;
 use exact_json::Tree;
 use imdf_access::{known_unit, passage};
-use imdf_schema::{File, Place, Property, is_feature, property, text};
+use imdf_schema::{File, FeatureAt, Property, is_feature, property, text};
 use rule_reports::add;
 use venue_types::{Note, OutOfMemory};
 
@@ -63,7 +63,7 @@ fn is_due(kind: ReadingNote, file: File, item: &Tree) -> bool
 // Each note of a feature.
 fn judge_kinds(
     notes: &mut Vec<Note>,
-    place: Place,
+    place: FeatureAt,
     item: &Tree,
     kinds: &[ReadingNote],
 ) -> Result<(), OutOfMemory>
@@ -79,7 +79,7 @@ fn judge_kinds(
 // The notes on an item.
 pub(crate) fn judge_notes(
     notes: &mut Vec<Note>,
-    place: Place,
+    place: FeatureAt,
     item: &Tree,
 ) -> Result<(), OutOfMemory>
     ensures { OnOk result (Adds (NotesInItem place.file place.index (tree_view item.now)) notes.old.items notes.new.items) }

@@ -15,7 +15,7 @@ use crate::rules::ReadingRule;
 use exact_json::Tree;
 use imdf_rows::ordinal;
 use imdf_schema::{
-    File, Place, Property, fits_geometry, geometry, is_id, is_null, is_word, list, member,
+    File, FeatureAt, Property, fits_geometry, geometry, is_id, is_null, is_word, list, member,
     property, unlisted_property,
 };
 use rule_reports::add;
@@ -123,7 +123,7 @@ fn breaks(rule: ReadingRule, file: File, item: &Tree) -> bool
 // Each of these rules.
 fn judge_rules(
     findings: &mut Vec<Finding>,
-    place: Place,
+    place: FeatureAt,
     item: &Tree,
     rules: &[ReadingRule],
 ) -> Result<(), OutOfMemory>
@@ -142,7 +142,7 @@ fn judge_rules(
 // Each rule that takes one test of a feature.
 pub(crate) fn judge_plain(
     findings: &mut Vec<Finding>,
-    place: Place,
+    place: FeatureAt,
     item: &Tree,
 ) -> Result<(), OutOfMemory>
     requires feature { is_feature (tree_view item.now) ≡ true }

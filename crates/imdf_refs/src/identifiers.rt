@@ -9,7 +9,7 @@ ghost use Rattle.imdf_refs.specs.Gathering.{RepeatsIn, Repeats};
 
 use crate::known::Known;
 use crate::row::HasReferences;
-use imdf_schema::{File, Place, Rule, feature_files};
+use imdf_schema::{File, FeatureAt, Rule, feature_files};
 use rule_reports::add;
 use std::alloc::Global;
 use venue_types::{FeatureId, Features, Finding, OutOfMemory};
@@ -66,7 +66,7 @@ fn judge_file(
     let ids = ids_of(alloc, features, file)?;
     for (k, id) in ids.iter().enumerate() {
         let fresh = known.insert(*id, file.number())?;
-        let place = Place {
+        let place = FeatureAt {
             file,
             index: k as u32,
         };

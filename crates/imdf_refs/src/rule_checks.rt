@@ -10,7 +10,7 @@ ghost use Rattle.imdf_refs.specs.Gathering.{reference, reference_list, Dangles, 
 use crate::known::Known;
 use crate::place::member_of;
 use crate::row::{HasReferences, References};
-use imdf_schema::{File, Place, PropertyRow, ReferenceTarget, Rule};
+use imdf_schema::{File, FeatureAt, PropertyRow, ReferenceTarget, Rule};
 use rule_reports::add;
 use venue_types::{FeatureId, Features, Finding, OutOfMemory, Ref};
 
@@ -33,7 +33,7 @@ fn named_file(names: ReferenceTarget, told: Option<u8>) -> Option<u8>
 fn judge(
     findings: &mut Vec<Finding>,
     known: &Known,
-    place: Place,
+    place: FeatureAt,
     member: u32,
     id: FeatureId,
     file: Option<u8>,
@@ -57,7 +57,7 @@ fn judge_ids(
     ensures { OnOk result (Adds (DanglesAmong known.now row.now index (map by_id ids.now)) findings.old.items findings.new.items) }
 {
     let file = named_file(row.names, None);
-    let place = Place {
+    let place = FeatureAt {
         file: row.file,
         index,
     };
@@ -78,7 +78,7 @@ fn judge_objects(
 ) -> Result<(), OutOfMemory>
     ensures { OnOk result (Adds (DanglesAmong known.now row.now index (map by_object objects.now)) findings.old.items findings.new.items) }
 {
-    let place = Place {
+    let place = FeatureAt {
         file: row.file,
         index,
     };

@@ -5,7 +5,7 @@
 mod features;
 mod files;
 mod forms;
-mod place;
+mod feature_at;
 mod rules;
 mod table;
 #[cfg(test)]
@@ -18,7 +18,7 @@ pub use features::{
 };
 pub use files::{ALL_FILES, File, Geometry, feature_files, file_numbers_law, file_of_type};
 pub use forms::{Form, fits, is_reference, item_fits, list_of, type_of};
-pub use place::Place;
+pub use feature_at::FeatureAt;
 pub use rules::{NoteKind, Rule, rule_numbers_law};
 pub use table::{Property, PropertyRow, ReferenceTarget, properties};
 pub use values::{

@@ -22,7 +22,7 @@ use crate::{asking, leading, listing, outlook};
 use imdf_access::EndFacts;
 use std::alloc::Global;
 use std::sync::ledger::Ledger;
-use step_count::Steps;
+use walk_laws::Steps;
 use venue_nodes::{Nodes, Rows};
 use venue_types::{FeatureId, Features, Link, LinkFacts, List, Node, OutOfMemory, Settings};
 

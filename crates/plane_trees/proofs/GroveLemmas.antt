@@ -7,11 +7,11 @@ use Rattle.std.proofs.lemmas.List.Elements.{All-nil, All-cons, All-head, All-tai
 use Rattle.venue_types.specs.declared.point.Point.{Point}
 use Rattle.venue_types.specs.declared.point.Ring.{Ring}
 use Rattle.plane_trees.specs.declared.octagons.Octagon.{Octagon}
-use Rattle.plane_trees.specs.declared.octagons.Place.{Place}
+use Rattle.plane_trees.specs.declared.octagons.Offset.{Offset}
 use Rattle.plane_exact.specs.Segment.{IsNearEdge}
 use Rattle.plane_exact.specs.Figure.{Edge, AllClose, edges, edges_from, meets_ray, crossings, IsNearSome, ring_points, ring_edges}
 use Rattle.plane_trees.specs.Line.{Direction, Longitude, Rising, Falling, slant, stretch}
-use Rattle.plane_trees.specs.Octagons.{offset, kept, IsPlace, band, IsInBand, IsAtBand, IsRound, IsMissed, IsBefore, before_x, before_sum, before_difference}
+use Rattle.plane_trees.specs.Octagons.{offset, kept, IsOffset, band, IsInBand, IsAtBand, IsRound, IsMissed, IsBefore, before_x, before_sum, before_difference}
 use Rattle.plane_trees.specs.Trees.{IsClosedRing, IsGrove, AddsGrove, octagons_of}
 use Rattle.plane_exact.proofs.ListLemmas.{any_of_append}
 use Rattle.plane_exact.proofs.CloseLemmas.{AllClose-left, AllClose-right}
@@ -57,11 +57,11 @@ closed_back whole front back e h = All-right IsClosedRing front back (subst (λ 
 
 -- ---- what an octagon round rings tells
 
-missed_ring : (octagon : Octagon) (place : Place) (origin p : Point) (points : List Point) → IsPlace place origin p → IsRound octagon origin points → IsMissed octagon place → crossings p (edges points) ≡ 0
+missed_ring : (octagon : Octagon) (place : Offset) (origin p : Point) (points : List Point) → IsOffset place origin p → IsRound octagon origin points → IsMissed octagon place → crossings p (edges points) ≡ 0
 missed_ring octagon place origin p [] at round h = refl
 missed_ring octagon place origin p (a ∷ rest) at round h = missed_seen octagon place origin p a rest at round h
 
-pub missed_rings : (octagon : Octagon) (place : Place) (origin p : Point) (list : List Ring) → IsPlace place origin p → IsRound octagon origin (ring_points list) → IsMissed octagon place → crossings p (ring_edges list) ≡ 0
+pub missed_rings : (octagon : Octagon) (place : Offset) (origin p : Point) (list : List Ring) → IsOffset place origin p → IsRound octagon origin (ring_points list) → IsMissed octagon place → crossings p (ring_edges list) ≡ 0
 missed_rings octagon place origin p [] at round h = refl
 missed_rings octagon place origin p (ring ∷ list) at round h =
     sum_by-append (λ (edge : Edge). cond (meets_ray p edge) 1 0) (edges ring.points) (ring_edges list)
@@ -77,16 +77,16 @@ closed_rings k p (ring ∷ list) closed all =
     ap (λ n. n % 2) (sum_by-append (λ (edge : Edge). cond (meets_ray p edge) 1 0) (edges ring.points) (ring_edges list))
     ∙ even_sum (crossings p (edges ring.points)) (crossings p (ring_edges list)) (ray_closed k p ring.points (All-head IsClosedRing ring list closed) (All-left P ring.points (ring_points list) all)) (closed_rings k p list (All-tail IsClosedRing ring list closed) (All-right P ring.points (ring_points list) all))
 
-pub even_before : (octagon : Octagon) (place : Place) (origin p : Point) (list : List Ring) → IsPlace place origin p → IsRound octagon origin (ring_points list) → IsBefore octagon place → All IsClosedRing list → crossings p (ring_edges list) % 2 ≡ 0
+pub even_before : (octagon : Octagon) (place : Offset) (origin p : Point) (list : List Ring) → IsOffset place origin p → IsRound octagon origin (ring_points list) → IsBefore octagon place → All IsClosedRing list → crossings p (ring_edges list) % 2 ≡ 0
 even_before octagon place origin p list at round (before_x h) closed = closed_rings (pos 0) p list closed (all_before Longitude (pos 0) slant_x octagon place origin p (ring_points list) at round h)
 even_before octagon place origin p list at round (before_sum h) closed = closed_rings (negsuc 0) p list closed (all_before Rising (negsuc 0) slant_sum octagon place origin p (ring_points list) at round h)
 even_before octagon place origin p list at round (before_difference h) closed = closed_rings (pos 1) p list closed (all_before Falling (pos 1) slant_difference octagon place origin p (ring_points list) at round h)
 
-near_ring_at : (octagon : Octagon) (place : Place) (origin p : Point) (points : List Point) (t : ℕ) → IsPlace place origin p → IsRound octagon origin points → IsNearSome p t (edges points) → (way : Direction) → IsAtBand (band way octagon) (kept way place) (stretch way * t)
+near_ring_at : (octagon : Octagon) (place : Offset) (origin p : Point) (points : List Point) (t : ℕ) → IsOffset place origin p → IsRound octagon origin points → IsNearSome p t (edges points) → (way : Direction) → IsAtBand (band way octagon) (kept way place) (stretch way * t)
 near_ring_at octagon place origin p [] t at round (k, edge, within, is, near) way = absurd (omega (arith, within))
 near_ring_at octagon place origin p (a ∷ rest) t at round near way = near_at_band octagon place origin p a rest t at round near way
 
-pub near_rings_at : (octagon : Octagon) (place : Place) (origin p : Point) (list : List Ring) (t : ℕ) → IsPlace place origin p → IsRound octagon origin (ring_points list) → IsNearSome p t (ring_edges list) → (way : Direction) → IsAtBand (band way octagon) (kept way place) (stretch way * t)
+pub near_rings_at : (octagon : Octagon) (place : Offset) (origin p : Point) (list : List Ring) (t : ℕ) → IsOffset place origin p → IsRound octagon origin (ring_points list) → IsNearSome p t (ring_edges list) → (way : Direction) → IsAtBand (band way octagon) (kept way place) (stretch way * t)
 near_rings_at octagon place origin p [] t at round (k, edge, within, is, near) way = absurd (omega (arith, within))
 near_rings_at octagon place origin p (ring ∷ list) t at round near way = elim (any_of_append (λ (edge : Edge). IsNearEdge p edge.from edge.to t) (edges ring.points) (ring_edges list) near) [
   | inl here ↦ near_ring_at octagon place origin p ring.points t at (round_left octagon origin ring.points (ring_points list) round) here way

@@ -6,11 +6,11 @@ use Rattle.std.proofs.lemmas.List.Elements.{All-weaker}
 use Rattle.venue_types.specs.declared.point.Point.{Point}
 use Rattle.plane_trees.specs.declared.octagons.Band.{Band}
 use Rattle.plane_trees.specs.declared.octagons.Octagon.{Octagon}
-use Rattle.plane_trees.specs.declared.octagons.Place.{Place}
+use Rattle.plane_trees.specs.declared.octagons.Offset.{Offset}
 use Rattle.plane_exact.specs.Segment.{Crosses}
 use Rattle.plane_exact.specs.Figure.{Edge, edges_from, IsNearSome, HaveCrossing}
 use Rattle.plane_trees.specs.Line.{Direction, coordinate, stretch}
-use Rattle.plane_trees.specs.Octagons.{offset, kept, IsPlace, band, IsInBand, IsAtBand, IsRound, AreApart}
+use Rattle.plane_trees.specs.Octagons.{offset, kept, IsOffset, band, IsInBand, IsAtBand, IsRound, AreApart}
 use Rattle.plane_trees.specs.Trees.{CrossesSome, CrossEachOther}
 use Rattle.plane_exact.proofs.ListLemmas.{drop_at, any_here, any_later, any_past, any_left, any_right, any_of_cons, any_of_append, any_past_all}
 use Rattle.plane_exact.proofs.SegmentLemmas.{iff_along}
@@ -49,7 +49,7 @@ greatest_moved range n o h = omega (arith, ints)
 at_moved : (range : Band) (c o m : ℤ) (s : ℕ) → m ≡ c -ℤ o → (range.least +ℤ o) ≤ℤ (c +ℤ pos s) → c ≤ℤ ((range.greatest +ℤ o) +ℤ pos s) → IsAtBand range m s
 at_moved range c o m s e h k = record { least = omega (arith, ints); greatest = omega (arith, ints) }
 
-pub near_at_band : (octagon : Octagon) (place : Place) (origin p start : Point) (rest : List Point) (t : ℕ) → IsPlace place origin p → IsRound octagon origin (start ∷ rest) → IsNearSome p t (edges_from start rest) → (way : Direction) → IsAtBand (band way octagon) (kept way place) (stretch way * t)
+pub near_at_band : (octagon : Octagon) (place : Offset) (origin p start : Point) (rest : List Point) (t : ℕ) → IsOffset place origin p → IsRound octagon origin (start ∷ rest) → IsNearSome p t (edges_from start rest) → (way : Direction) → IsAtBand (band way octagon) (kept way place) (stretch way * t)
 near_at_band octagon place origin p start rest t at round near way =
     let P : Point → Type 0 = λ q. IsInBand (band way octagon) (offset way origin q) in
     let low = line_at_least way ((band way octagon).least +ℤ coordinate way origin) p start rest t (All-weaker P (λ q. ((band way octagon).least +ℤ coordinate way origin) ≤ℤ coordinate way q) (λ q h. least_moved (band way octagon) (coordinate way q) (coordinate way origin) h) (start ∷ rest) (round way)) near in

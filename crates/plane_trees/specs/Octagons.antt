@@ -3,7 +3,7 @@ use Rattle.std.specs.Prelude.{◌≡◌, ℕ, ◌*◌, ℤ, pos, ◌+ℤ◌, ◌
 use Rattle.venue_types.specs.declared.point.Point.{Point}
 use Rattle.plane_trees.specs.declared.octagons.Band.{Band}
 use Rattle.plane_trees.specs.declared.octagons.Octagon.{Octagon}
-use Rattle.plane_trees.specs.declared.octagons.Place.{Place}
+use Rattle.plane_trees.specs.declared.octagons.Offset.{Offset}
 use Rattle.plane_trees.specs.declared.octagons.Sight.{Sight}
 use Rattle.plane_trees.specs.declared.octagons.Sight.TheVariants.{Missed, Before, Among}
 use Rattle.plane_trees.specs.Line.{Direction, Longitude, Latitude, Rising, Falling, coordinate, stretch}
@@ -13,15 +13,15 @@ abbrev pub offset : Direction → Point → Point → ℤ
 offset way origin q = coordinate way q -ℤ coordinate way origin
 
 -- the coordinate that is kept for a direction
-abbrev pub kept : Direction → Place → ℤ
+abbrev pub kept : Direction → Offset → ℤ
 kept Longitude place = place.x
 kept Latitude place = place.y
 kept Rising place = place.sum
 kept Falling place = place.difference
 
 -- the place is that of q
-abbrev pub IsPlace : Place → Point → Point → Type 0
-IsPlace place origin q = (way : Direction) → kept way place ≡ offset way origin q
+abbrev pub IsOffset : Offset → Point → Point → Type 0
+IsOffset place origin q = (way : Direction) → kept way place ≡ offset way origin q
 
 -- the band of a direction
 abbrev pub band : Direction → Octagon → Band
@@ -49,7 +49,7 @@ abbrev pub IsRound : Octagon → Point → List Point → Type 0
 IsRound octagon origin points = (way : Direction) → All (λ q. IsInBand (band way octagon) (offset way origin q)) points
 
 -- the ray from the place runs below the octagon, over it or away from it
-pub data IsMissed (octagon : Octagon) (place : Place) : Type 0 where
+pub data IsMissed (octagon : Octagon) (place : Offset) : Type 0 where
   below : place.y <ℤ octagon.y.least → IsMissed octagon place
   over : octagon.y.greatest ≤ℤ place.y → IsMissed octagon place
   past_x : octagon.x.greatest <ℤ place.x → IsMissed octagon place
@@ -57,13 +57,13 @@ pub data IsMissed (octagon : Octagon) (place : Place) : Type 0 where
   past_difference : octagon.difference.greatest <ℤ place.difference → IsMissed octagon place
 
 -- the octagon lies to the east of the place
-pub data IsBefore (octagon : Octagon) (place : Place) : Type 0 where
+pub data IsBefore (octagon : Octagon) (place : Offset) : Type 0 where
   before_x : place.x <ℤ octagon.x.least → IsBefore octagon place
   before_sum : place.sum <ℤ octagon.sum.least → IsBefore octagon place
   before_difference : place.difference <ℤ octagon.difference.least → IsBefore octagon place
 
 -- what is known of the octagon as seen from the place
-abbrev pub IsSeen : Octagon → Place → Sight → Type 0
+abbrev pub IsSeen : Octagon → Offset → Sight → Type 0
 IsSeen octagon place Missed = IsMissed octagon place
 IsSeen octagon place Before = IsBefore octagon place
 IsSeen octagon place Among = Unit {0}

@@ -11,7 +11,7 @@ use Rattle.plane_exact.specs.Plane.{IsWithin}
 use Rattle.plane_exact.specs.Segment.{Crosses}
 use Rattle.plane_exact.specs.Figure.{Edge, edges_from, crossings, ring_points}
 use Rattle.plane_trees.specs.Line.{Direction, last_from, IsBetween, IsClosed}
-use Rattle.plane_trees.specs.Octagons.{IsPlace, IsRound, kept}
+use Rattle.plane_trees.specs.Octagons.{IsOffset, IsRound, kept}
 
 -- the first octagon lies round the line, those of the first half of the others round the first half of its edges, and so on
 unfoldable pub IsTree : ℕ → Point → List Octagon → Point → List Point → Type 0
@@ -51,7 +51,7 @@ IsSound origin run = IsTree run.depth origin run.octagons.now run.start run.rest
 
 -- the place that is asked about is that of the position, and close to the origin
 pub record IsMeasured (asked : Asked) : Type 0 where
-  pub place : IsPlace asked.place asked.origin asked.position
+  pub place : IsOffset asked.place asked.origin asked.position
   pub range : (way : Direction) → IsWithin 400000000 (kept way asked.place) (pos 0)
 
 -- the two runs make up the run

@@ -5,13 +5,13 @@ ghost use Rattle.venue_types.specs.declared.point.Point.{Point};
 ghost use Rattle.plane_exact.specs.Plane.{IsWithin, IsClose};
 ghost use Rattle.plane_exact.specs.Figure.{AllClose};
 ghost use Rattle.plane_trees.specs.Line.{Direction, stretch};
-ghost use Rattle.plane_trees.specs.Octagons.{IsPlace, kept, band, IsInBand, IsAtBand, AreApart, IsRound, IsSeen};
+ghost use Rattle.plane_trees.specs.Octagons.{IsOffset, kept, band, IsInBand, IsAtBand, AreApart, IsRound, IsSeen};
 
 use venue_types::Point;
 
 /// The four coordinates of a position.
 #[derive(Clone, Copy)]
-pub struct Place {
+pub struct Offset {
     pub x: i64,
     pub y: i64,
     pub sum: i64,
@@ -58,14 +58,14 @@ pub enum Sight {
 }
 
 /// The place of `q`, counted from the origin.
-pub fn place_of(origin: Point, q: Point) -> Place
+pub fn offset_of(origin: Point, q: Point) -> Offset
     requires { IsClose origin q }
-    ensures value { IsPlace result origin q }
+    ensures value { IsOffset result origin q }
     ensures range { (way : Direction) → IsWithin 400000000 (kept way result) (pos 0) }
 {
     let x = q.x - origin.x;
     let y = q.y - origin.y;
-    Place {
+    Offset {
         x,
         y,
         sum: x + y,
@@ -115,7 +115,7 @@ impl Band {
 
 impl Octagon {
     /// The octagon of one place.
-    pub fn at(place: Place) -> Octagon
+    pub fn at(place: Offset) -> Octagon
         ensures { (way : Direction) → IsInBand (band way result) (kept way place) }
     {
         Octagon {
@@ -140,7 +140,7 @@ impl Octagon {
     }
 
     /// Where the octagon lies as seen from the place.
-    pub fn sight(&self, place: &Place) -> Sight
+    pub fn sight(&self, place: &Offset) -> Sight
         ensures { IsSeen self.now place.now result }
     {
         if place.y < self.y.least {
@@ -171,7 +171,7 @@ impl Octagon {
     }
 
     /// Whether a position in the octagon may be within `t` of the place.
-    pub fn is_at(&self, place: &Place, t: u32) -> bool
+    pub fn is_at(&self, place: &Offset, t: u32) -> bool
         requires place { (way : Direction) → IsWithin 400000000 (kept way place.now) (pos 0) }
         requires tolerance { t ≤ 1000000 }
         ensures { ((way : Direction) → IsAtBand (band way self.now) (kept way place.now) (stretch way * t)) → IsTrue result }
@@ -204,9 +204,9 @@ pub fn octagon_of(origin: Point, start: Point, rest: &[Point]) -> Octagon
     requires { AllClose (origin ∷ start ∷ rest.now) }
     ensures { IsRound result origin (start ∷ rest.now) }
 {
-    let mut octagon = Octagon::at(place_of(origin, start));
+    let mut octagon = Octagon::at(offset_of(origin, start));
     for q in rest {
-        octagon = octagon.with(Octagon::at(place_of(origin, *q)));
+        octagon = octagon.with(Octagon::at(offset_of(origin, *q)));
     }
     octagon
 }

@@ -6,7 +6,7 @@ ghost use Rattle.plane_exact.specs.Plane.{IsClose};
 ghost use Rattle.plane_trees.specs.Line.{last_from};
 ghost use Rattle.plane_trees.specs.Trees.{IsMeasured, AreHalves};
 
-use crate::octagons::{Octagon, Place, place_of};
+use crate::octagons::{Octagon, Offset, offset_of};
 use venue_types::Point;
 
 /// The edges from `start` through `rest`. Of the octagons, the first lies round them all, the first half of the others belongs
@@ -24,7 +24,7 @@ pub struct Run<'a> {
 pub struct Asked {
     pub position: Point,
     pub origin: Point,
-    pub place: Place,
+    pub place: Offset,
 }
 
 impl Asked {
@@ -37,7 +37,7 @@ impl Asked {
         Asked {
             position,
             origin,
-            place: place_of(origin, position),
+            place: offset_of(origin, position),
         }
     }
 }

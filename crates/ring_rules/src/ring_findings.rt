@@ -12,7 +12,7 @@ ghost use Rattle.ring_rules.specs.Rules.{BreaksInRing};
 
 use crate::shape_findings::add_shape;
 use feature_rows::HasShape;
-use imdf_schema::{File, Place};
+use imdf_schema::{File, FeatureAt};
 use std::alloc::Global;
 use venue_types::{Features, Finding, List, OutOfMemory};
 
@@ -31,7 +31,7 @@ pub(crate) fn add_rows<R: HasShape>(
 {
     for k in 0..rows.len() {
         let index = k as u32;
-        add_shape(alloc, findings, Place { file, index }, rows[k].shape())?;
+        add_shape(alloc, findings, FeatureAt { file, index }, rows[k].shape())?;
     }
     Ok(())
 }

@@ -11,7 +11,7 @@ ghost use Rattle.ring_rules.specs.Findings.{FindsInRing, FindsFrom, alone};
 use crate::area::has_no_area;
 use crate::crossings::crosses_itself;
 use crate::holes::leaves_border;
-use imdf_schema::{Place, Rule};
+use imdf_schema::{FeatureAt, Rule};
 use plane_trees::RingBands;
 use rule_reports::add;
 use std::alloc::Global;
@@ -32,7 +32,7 @@ fn next(number: u32) -> Result<u32, OutOfMemory>
 fn add_ring(
     alloc: Global,
     findings: &mut Vec<Finding>,
-    place: Place,
+    place: FeatureAt,
     number: u32,
     ring: &Ring,
 ) -> Result<(), OutOfMemory>
@@ -51,7 +51,7 @@ fn add_ring(
 fn add_hole(
     alloc: Global,
     findings: &mut Vec<Finding>,
-    place: Place,
+    place: FeatureAt,
     number: u32,
     hole: &Ring,
     border: &RingBands,
@@ -70,7 +70,7 @@ fn add_hole(
 fn add_holes(
     alloc: Global,
     findings: &mut Vec<Finding>,
-    place: Place,
+    place: FeatureAt,
     first: u32,
     holes: &[Ring],
     border: &RingBands,
@@ -92,7 +92,7 @@ fn add_holes(
 fn add_holes_of(
     alloc: Global,
     findings: &mut Vec<Finding>,
-    place: Place,
+    place: FeatureAt,
     first: u32,
     part: &Part,
 ) -> Result<u32, OutOfMemory>
@@ -120,7 +120,7 @@ fn add_holes_of(
 fn add_part(
     alloc: Global,
     findings: &mut Vec<Finding>,
-    place: Place,
+    place: FeatureAt,
     first: u32,
     part: &Part,
 ) -> Result<u32, OutOfMemory>
@@ -139,7 +139,7 @@ fn add_part(
 fn add_parts(
     alloc: Global,
     findings: &mut Vec<Finding>,
-    place: Place,
+    place: FeatureAt,
     parts: &[Part],
 ) -> Result<(), OutOfMemory>
     requires { AreFit (flat_map rings_of parts.now) }
@@ -157,7 +157,7 @@ fn add_parts(
 pub(crate) fn add_shape(
     alloc: Global,
     findings: &mut Vec<Finding>,
-    place: Place,
+    place: FeatureAt,
     shape: &Shape,
 ) -> Result<(), OutOfMemory>
     requires { AreFit (rings shape.now) }

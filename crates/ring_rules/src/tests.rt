@@ -7,7 +7,7 @@ ghost use Rattle.ring_rules.specs.Testing.{IsInTown, IsSmall};
 
 use crate::is_spread;
 use crate::shape_findings::add_shape;
-use imdf_schema::{File, Place};
+use imdf_schema::{File, FeatureAt};
 use std::alloc::Global;
 use std::test::Fail;
 use venue_types::{
@@ -107,7 +107,7 @@ fn a_ring_has_its_findings(rt: HostRuntime) -> Result<(), Fail> {
         );
         let shape = shape(vec![in alloc; first, second]?);
         let mut findings = Vec::new(alloc);
-        let place = Place {
+        let place = FeatureAt {
             file: File::Unit,
             index: 7,
         };

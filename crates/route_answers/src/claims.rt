@@ -7,12 +7,12 @@ ghost use Rattle.link_graph.specs.Graphs.{network};
 ghost use Rattle.link_graph.specs.Networks.{IsNetworkOf};
 ghost use Rattle.route_certificate.specs.Answers.{HasFewSteps};
 ghost use Rattle.route_search.specs.Answers.{IsSmall};
-ghost use Rattle.link_tables.specs.Places.{AreFirstPlaces};
-ghost use Rattle.link_tables.specs.Tables.{row_of, table_of};
+ghost use Rattle.route_answers.specs.Places.{AreFirstPlaces};
+ghost use Rattle.route_answers.specs.Tables.{row_of, table_of};
 ghost use Rattle.route_answers.specs.Claims.{AreAllowed, IsOverAllowed, IsTold};
 
 use link_graph::Graph;
-use link_tables::row_places;
+use route_answers::row_places;
 use route_certificate::Claim;
 use route_search::Found;
 use std::alloc::Global;

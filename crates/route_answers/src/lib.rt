@@ -1,10 +1,21 @@
-//! The answer to the question for a way through a venue, over the table of the links that a profile may use.
+//! The table of the links of a venue that a profile may use, and the answer to the question for a way over that table.
 #![tactic(auto)]
 
 mod answers;
 mod claims;
+mod counts;
+mod firsts;
+mod ids;
+mod inside;
+mod passes;
+mod places;
+mod rows;
 mod search;
+mod starts;
+mod tables;
 #[cfg(test)]
 mod trials;
 
 pub use answers::route_answer;
+pub use places::row_places;
+pub use tables::allowed_table;

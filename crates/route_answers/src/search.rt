@@ -10,7 +10,7 @@ use route_search::{Found, least};
 use std::alloc::Global;
 use std::marker::Brand;
 use std::sync::ledger::{Blank, Ledger};
-use step_count::Steps;
+use walk_laws::Steps;
 use venue_types::{OutOfMemory, Profile};
 
 // The search with nothing closed, and with a counter that nobody reads.

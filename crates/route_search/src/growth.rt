@@ -8,7 +8,7 @@ use crate::node_scan::scan;
 use crate::state::State;
 use crate::ways::Ways;
 use std::sync::ledger::Ledger;
-use step_count::Steps;
+use walk_laws::Steps;
 use venue_types::OutOfMemory;
 
 // Whether a node that waited at this cost is to be settled now: where its cost fell since, it waits at that or leads nowhere else.

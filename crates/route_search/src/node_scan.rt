@@ -12,7 +12,7 @@ use crate::state::State;
 use crate::ways::Ways;
 use link_graph::Stretch;
 use std::sync::ledger::Ledger;
-use step_count::Steps;
+use walk_laws::Steps;
 use venue_types::{Link, OutOfMemory};
 
 // Where the link can be passed, its end is known by it from now on.

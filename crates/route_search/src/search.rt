@@ -15,7 +15,7 @@ use crate::ways::Ways;
 use link_graph::{Graph, Marks};
 use std::alloc::Global;
 use std::sync::ledger::Ledger;
-use step_count::Steps;
+use walk_laws::Steps;
 use venue_types::{OutOfMemory, Profile};
 
 /// A walk from node to node over links that the profile allows and nothing closes, which costs least, with potentials by which anyone

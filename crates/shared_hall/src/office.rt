@@ -8,7 +8,7 @@ ghost use Rattle.venue_history.specs.Histories.{IsLegal, Replays};
 ghost use Rattle.venue_history.specs.Replies.{told};
 ghost use Rattle.venue_history.specs.Versions.{MayFollow, after};
 ghost use Rattle.venue_ports.specs.Causes.{one_more};
-ghost use Rattle.version_board.specs.Facts.{IsAnswered};
+ghost use Rattle.venue_hall.specs.Facts.{IsAnswered};
 ghost use Rattle.version_board.specs.Making.{CountsFault};
 ghost use Rattle.shared_hall.specs.Offices.{faulted};
 
@@ -29,7 +29,7 @@ use venue_history::{legal_law, number_law, version_law};
 use venue_ports::Folders;
 use venue_state::Prepared;
 use venue_types::{Change, OutOfMemory, Query, Reply, Settings};
-use version_board::{Outcome, Reader, ready_change};
+use version_board::{BaseFolders, Outcome, ready_change};
 
 /// What a worker has seen, and its part of the hall's changes.
 #[derive(Drop)]
@@ -49,7 +49,7 @@ impl<N: HallName, Q: Reads> Model for PassOf<N, Q> {
     ghost use Rattle.std.specs.Prelude.{◌≡◌, ◌<◌, ◌≤◌, length, true};
     ghost use Rattle.venue_history.specs.Histories.{IsLegal};
     ghost use Rattle.board_copies.specs.Rules.{known};
-    ghost use Rattle.version_board.specs.Facts.{Facts};
+    ghost use Rattle.venue_hall.specs.Facts.{Facts};
 
     ghost Value = { Facts };
 
@@ -109,7 +109,7 @@ pub struct OfficeOf<N: HallName, F: Folders, W: Writes> {
     keeper: W,
     roll: Roll,
     book: Book<N>,
-    reader: Reader<F>,
+    reader: BaseFolders<F>,
     settings: Arc<Settings>,
     start: u32,
 }

@@ -21,7 +21,7 @@ use crate::Venue;
 use imdf_refs::{
     amenity_unit_law, anchor_unit_law, occupant_anchor_law, opening_level_law, unit_level_law,
 };
-use reading_laws::one_reading_law;
+use imdf_read::one_reading_law;
 use ring_rules::no_spread_law;
 
 /// The rows of a venue are sound, and under its settings no phase finds anything in them: each identifier stands for one

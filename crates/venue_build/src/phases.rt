@@ -17,7 +17,7 @@ use crate::{Built, Venue};
 use imdf_read::{ReadOut, read_folder};
 use imdf_refs::{own_ids_law, reference_findings};
 use link_graph::Graph;
-use reading_laws::sound_reading_law;
+use imdf_read::sound_reading_law;
 use rule_reports::{notes_in_order, shortened};
 use ring_rules::no_spread_law;
 use std::alloc::Global;

@@ -7,14 +7,14 @@ ghost use Rattle.feature_rows.specs.Sound.{AreSound};
 ghost use Rattle.venue_build.specs.Phases.{IsPlaneBroken};
 
 use contain_rules::add_hold_findings;
-use imdf_schema::{File, Place, Rule};
+use imdf_schema::{File, FeatureAt, Rule};
 use rule_reports::in_order;
 use ring_rules::{add_ring_findings, is_spread};
 use std::alloc::Global;
 use venue_types::{Features, Finding, List, OutOfMemory, Settings};
 
 // The positions of a folder lie too far apart, which is told of the folder, and so of its first file.
-const FOLDER: Place = Place {
+const FOLDER: FeatureAt = FeatureAt {
     file: File::Manifest,
     index: 0,
 };

@@ -19,7 +19,7 @@ use Rattle.route_certificate.specs.declared.answer.Verdict.TheVariants.{Proved}
 use Rattle.route_certificate.specs.Forms.{IsTable, FitsTable, table_text}
 use Rattle.route_certificate.specs.Answers.{IsAnswerText, FitsAnswer, answer_text}
 use Rattle.route_certificate.specs.Verdicts.{IsProvedClaim, IsProved, IsClaimJudged, IsJudged, IsTrueAnswer}
-use Rattle.link_tables.specs.Tables.{table_of}
+use Rattle.route_answers.specs.Tables.{table_of}
 use Rattle.route_answers.specs.RouteAnswers.{IsRouteAnswer}
 use Rattle.venue_build.specs.Venues.{SeenVenue as Venue}
 use Rattle.venue_commands.specs.declared.load.Cause.{Cause}

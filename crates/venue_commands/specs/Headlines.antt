@@ -7,7 +7,7 @@ use Rattle.venue_ports.specs.Files.{StoredFile}
 use Rattle.venue_build.specs.Venues.{SeenVenue as Venue}
 use Rattle.version_board.specs.Making.{shelf_of}
 use Rattle.version_board.specs.OneThread.{opening_history}
-use Rattle.session_headline.specs.Headline.{Headline}
+use Rattle.venue_session.specs.Headline.{Headline}
 use Rattle.venue_commands.specs.declared.status.Status.{Status}
 use Rattle.venue_commands.specs.declared.status.Status.TheVariants.{Done, Negative}
 use Rattle.venue_commands.specs.Checked.{NoVenue, HasVenue}

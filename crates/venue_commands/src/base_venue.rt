@@ -5,7 +5,7 @@ ghost use Rattle.venue_ports.specs.Files.{HasReadCause};
 ghost use Rattle.venue_ports.specs.declared.folders.ReadFault.TheVariants.{OutOfMemory as NoMemory};
 ghost use Rattle.venue_commands.specs.Steps.{IsMade, IsMadeOf, IsPlain};
 
-use crate::answer::{Answer, printed};
+use crate::printout::{Printout, printed};
 use crate::settings::settings_of;
 use crate::status::Status;
 use check_text::rejected_text;
@@ -19,7 +19,7 @@ use venue_types::{Files, OutOfMemory, Settings};
 #[derive(Drop)]
 pub(crate) enum Made {
     /// There is no venue, and this is printed.
-    Stopped(Answer),
+    Stopped(Printout),
     Venue(Venue),
 }
 

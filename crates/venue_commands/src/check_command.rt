@@ -8,7 +8,7 @@ ghost use Rattle.check_text.specs.Text.{accepted_text};
 ghost use Rattle.venue_commands.specs.Checked.{CheckOutput};
 ghost use Rattle.venue_commands.specs.Steps.{IsPrinted};
 
-use crate::answer::{Answer, printed};
+use crate::printout::{Printout, printed};
 use crate::base_venue::{Made, venue_of};
 use crate::status::Status;
 use check_text::accepted_text;
@@ -18,7 +18,7 @@ use venue_build::{Venue, every_venue};
 use venue_ports::{Folders, ReadFault};
 
 // The answer where the folder makes this venue.
-fn accepted(alloc: Global, venue: &Venue) -> Result<Answer, ReadFault>
+fn accepted(alloc: Global, venue: &Venue) -> Result<Printout, ReadFault>
     ensures text { IfOk result (λ answer. answer.text ≡ accepted_text (feature_count venue.now.features) venue.now.notes) }
     ensures status { IfOk result (λ answer. answer.status ≡ Status.Done) }
     ensures memory { IfErr result (λ why. why ≡ NoMemory) }
@@ -35,7 +35,7 @@ pub(crate) fn check_answer<F: Folders>(
     base: &str,
     folder: &str,
     folders: &mut F,
-) -> Result<Answer, ReadFault>
+) -> Result<Printout, ReadFault>
     ensures told { IfOk result (λ answer. IfSome (F.files folders.old) (λ files. CheckOutput files base.now folder.now answer.text answer.status)) }
     ensures plain { IfOk result (λ answer. IsPrinted answer.status) }
     ensures same { F.files folders.new ≡ F.files folders.old }

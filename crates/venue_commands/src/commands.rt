@@ -10,17 +10,17 @@ ghost use Rattle.venue_commands.specs.Output.{Output};
 ghost use Rattle.venue_commands.specs.Runs.{run_between};
 ghost use Rattle.venue_commands.specs.Steps.{IsPrinted};
 
-use crate::answer::Answer;
+use crate::printout::Printout;
 use crate::laws::run_headline_law;
 use crate::console_text::write_all;
 use crate::reached::{Reached, reach};
-use crate::serving_console::{Closed, serve_console};
+use crate::serving_console::{SessionEnd, serve_console};
 use crate::status::Status;
 use std::alloc::Global;
 use venue_ports::{Folders, ReadFault, Stream};
 
 /// Prints an answer, over folders whose count stays.
-pub fn print<C: Stream>(console: &mut C, answer: &Answer) -> Status
+pub fn print<C: Stream>(console: &mut C, answer: &Printout) -> Status
     ensures ends { (words : List (List ℕ)) (files : Option (List StoredFile)) (before now : ℕ) → IsPrinted answer.now.status
         → IfSome files (λ fs. Output words fs answer.now.text answer.now.status) → now ≡ before
         → Ends words files (run_between C.Stream console.old console.new before now) result }
@@ -50,7 +50,7 @@ fn command<F: Folders, C: Stream>(
     words: &[String],
     folders: F,
     console: &mut C,
-) -> Closed<F>
+) -> SessionEnd<F>
     requires { IsNoService (map string_bytes words.now) }
     ensures ends { Ends (map string_bytes words.now) (F.files folders)
         (run_between C.Stream console.old console.new (F.faults folders) (F.faults result.folders)) result.status }
@@ -64,13 +64,13 @@ fn command<F: Folders, C: Stream>(
         Ok(Reached::Opened(opening)) => serve_console(alloc, opening, folders, console),
         Ok(Reached::Printed(answer)) => {
             let status = print(console, &answer);
-            Closed { status, folders }
+            SessionEnd { status, folders }
         }
         Err(ReadFault::Failed) => {
             let status = print_fault(console);
-            Closed { status, folders }
+            SessionEnd { status, folders }
         }
-        Err(ReadFault::OutOfMemory) => Closed {
+        Err(ReadFault::OutOfMemory) => SessionEnd {
             status: Status::Memory,
             folders,
         },
@@ -95,6 +95,6 @@ pub fn run_alone<F: Folders, C: Stream>(
     ensures console_later { C.faults console.old ≤ C.faults console.new }
 {
     run_headline_law();
-    let Closed { status, folders } = command(alloc, words, folders, console);
+    let SessionEnd { status, folders } = command(alloc, words, folders, console);
     (status, folders)
 }

@@ -4,7 +4,7 @@ ghost use Rattle.std.specs.Prelude.{◌≡◌, ◌≤◌, IfOk, IfErr};
 ghost use Rattle.venue_commands.specs.Generated.{told_status, GenOutput};
 ghost use Rattle.venue_commands.specs.Steps.{IsPrinted};
 
-use crate::answer::{Answer, printed};
+use crate::printout::{Printout, printed};
 use crate::status::Status;
 use building_report::tell_building;
 use std::alloc::Global;
@@ -23,7 +23,7 @@ fn status_of(accepted: bool) -> Status
 }
 
 /// The answer that tells of a building of 1 to 200 levels.
-pub(crate) fn building_answer(alloc: Global, levels: u8) -> Result<Answer, ReadFault>
+pub(crate) fn building_answer(alloc: Global, levels: u8) -> Result<Printout, ReadFault>
     requires some { 1 ≤ levels }
     requires few { levels ≤ 200 }
     ensures told { IfOk result (λ answer. GenOutput levels answer.text answer.status) }

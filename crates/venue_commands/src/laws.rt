@@ -12,7 +12,7 @@ ghost use Rattle.venue_commands.specs.Ends.{Ends};
 ghost use Rattle.venue_commands.specs.Headlines.{SaysHeadline};
 ghost use Rattle.venue_commands.specs.Runs.{Run};
 
-use session_headline::headline_law;
+use venue_session::headline_law;
 use venue_build::one_outcome;
 
 /// However a run ends, the headline holds of it.

@@ -1,7 +1,7 @@
 //! What the words of a command line ask for, answered over folders and a console: all commands but the service at doors.
 #![tactic(auto)]
 
-mod answer;
+mod printout;
 mod base;
 mod gen_command;
 mod check_command;
@@ -25,9 +25,9 @@ mod trials;
 mod verify_command;
 mod words;
 
-pub use answer::Answer;
+pub use printout::Printout;
 pub use laws::{run_complete_law, run_headline_law};
-pub use start::Opening;
+pub use start::Start;
 pub use console_text::write_all;
 pub use reached::{Reached, reach_folder};
 pub use route_law::route_is_proved;

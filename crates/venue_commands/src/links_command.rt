@@ -7,14 +7,14 @@ ghost use Rattle.std.specs.Str.{bytes_eq};
 ghost use Rattle.venue_ports.specs.Files.{HasReadCause};
 ghost use Rattle.venue_ports.specs.declared.folders.ReadFault.TheVariants.{OutOfMemory as NoMemory};
 ghost use Rattle.route_certificate.specs.Forms.{table_text, FitsTable};
-ghost use Rattle.link_tables.specs.Tables.{table_of};
+ghost use Rattle.route_answers.specs.Tables.{table_of};
 ghost use Rattle.venue_commands.specs.Linked.{LinksOutput};
 ghost use Rattle.venue_commands.specs.Steps.{IsLinked, IsPrinted};
 
-use crate::answer::{Answer, printed};
+use crate::printout::{Printout, printed};
 use crate::base_venue::{Made, venue_of};
 use crate::status::Status;
-use link_tables::allowed_table;
+use route_answers::allowed_table;
 use route_certificate::write_table;
 use std::alloc::Global;
 use venue_build::Venue;
@@ -42,7 +42,7 @@ fn links_text(alloc: Global, venue: &Venue, profile: &Profile) -> Result<Bytes, 
 }
 
 // The answer over a venue, for the name of a profile.
-fn linked(alloc: Global, venue: &Venue, name: &str) -> Result<Answer, ReadFault>
+fn linked(alloc: Global, venue: &Venue, name: &str) -> Result<Printout, ReadFault>
     ensures told { IfOk result (IsLinked venue.now name.now) }
     ensures plain { IfOk result (λ answer. IsPrinted answer.status) }
     ensures memory { IfErr result (λ why. why ≡ NoMemory) }
@@ -51,7 +51,7 @@ fn linked(alloc: Global, venue: &Venue, name: &str) -> Result<Answer, ReadFault>
         return Ok(printed(Status::Wrong, String::from_str(alloc, "profile\n")?));
     };
     match links_text(alloc, venue, profile) {
-        Ok(text) => Ok(Answer {
+        Ok(text) => Ok(Printout {
             status: Status::Done,
             text,
         }),
@@ -66,7 +66,7 @@ pub(crate) fn links_answer<F: Folders>(
     folder: &str,
     profile: &str,
     folders: &mut F,
-) -> Result<Answer, ReadFault>
+) -> Result<Printout, ReadFault>
     ensures told { IfOk result (λ answer. IfSome (F.files folders.old) (λ files. LinksOutput files base.now folder.now profile.now answer.text answer.status)) }
     ensures plain { IfOk result (λ answer. IsPrinted answer.status) }
     ensures same { F.files folders.new ≡ F.files folders.old }

@@ -5,9 +5,9 @@ ghost use Rattle.venue_ports.specs.Files.{HasReadCause};
 ghost use Rattle.venue_commands.specs.Commands.{AskFor, IsNoService};
 ghost use Rattle.venue_commands.specs.Openings.{IsFolderReached, IsReached, IsPlainText};
 
-use crate::answer::{Answer, answer_to};
+use crate::printout::{Printout, answer_to};
 use crate::base_venue::{Made, venue_of};
-use crate::start::{Opening, opening_of};
+use crate::start::{Start, opening_of};
 use crate::words::folder_of;
 use std::alloc::Global;
 use venue_ports::{Folders, ReadFault};
@@ -17,9 +17,9 @@ use venue_types::OutOfMemory;
 #[derive(Drop)]
 pub enum Reached {
     /// This is printed.
-    Printed(Answer),
+    Printed(Printout),
     /// A hall is opened.
-    Opened(Opening),
+    Opened(Start),
 }
 
 /// What a session or a service of a folder of the base comes to.

@@ -7,7 +7,7 @@ ghost use Rattle.venue_ports.specs.declared.folders.ReadFault.TheVariants.{OutOf
 ghost use Rattle.venue_commands.specs.Routed.{RouteOutput, claim_status};
 ghost use Rattle.venue_commands.specs.Steps.{IsAnswered, IsPrinted, IsRouted, IsRoutedFrom};
 
-use crate::answer::{Answer, printed};
+use crate::printout::{Printout, printed};
 use crate::links_command::profile_named;
 use crate::base_venue::{Made, venue_of};
 use crate::status::Status;
@@ -46,7 +46,7 @@ fn answered(
     profile: &Profile,
     a: u32,
     b: u32,
-) -> Result<Answer, OutOfMemory>
+) -> Result<Printout, OutOfMemory>
     requires a_node { a < length (nodes venue.now.features) }
     requires b_node { b < length (nodes venue.now.features) }
     ensures told { IfOk result (IsAnswered venue.now profile.now a b) }
@@ -57,7 +57,7 @@ fn answered(
     graph.range_law();
     let answer = route_answer(alloc, graph, profile, a, b)?;
     let text = write_answer(alloc, &answer)?;
-    Ok(Answer {
+    Ok(Printout {
         status: status_of(&answer.claim),
         text,
     })
@@ -70,7 +70,7 @@ fn answered_between(
     profile: &Profile,
     from: FeatureId,
     to: FeatureId,
-) -> Result<Answer, ReadFault>
+) -> Result<Printout, ReadFault>
     ensures told { IfOk result (λ answer. IsRoutedFrom venue.now profile.now to answer (place_of venue.now.features from)) }
     ensures plain { IfOk result (λ answer. IsPrinted answer.status) }
     ensures memory { IfErr result (λ why. why ≡ NoMemory) }
@@ -94,7 +94,7 @@ fn routed(
     name: &str,
     from: FeatureId,
     to: FeatureId,
-) -> Result<Answer, ReadFault>
+) -> Result<Printout, ReadFault>
     ensures told { IfOk result (IsRouted venue.now name.now from to) }
     ensures plain { IfOk result (λ answer. IsPrinted answer.status) }
     ensures memory { IfErr result (λ why. why ≡ NoMemory) }
@@ -114,7 +114,7 @@ pub(crate) fn routing_answer<F: Folders>(
     from: FeatureId,
     to: FeatureId,
     folders: &mut F,
-) -> Result<Answer, ReadFault>
+) -> Result<Printout, ReadFault>
     ensures told { IfOk result (λ answer. IfSome (F.files folders.old) (λ files. RouteOutput files base.now folder.now profile.now from to answer.text answer.status)) }
     ensures plain { IfOk result (λ answer. IsPrinted answer.status) }
     ensures same { F.files folders.new ≡ F.files folders.old }

@@ -11,7 +11,7 @@ use venue_wire::Front;
 
 /// A venue of a base with its settings, and what judges the messages of its sessions.
 #[derive(Drop)]
-pub struct Opening {
+pub struct Start {
     pub base: Text,
     pub venue: Arc<Venue>,
     pub settings: Arc<Settings>,
@@ -20,15 +20,15 @@ pub struct Opening {
     pub ghost keys: { front ≡ (arc_value venue).settings.staff_keys },
 }
 
-impl Opening {
+impl Start {
     // What a hall is opened with, of its parts.
-    fn of(base: Text, venue: Arc<Venue>, settings: Arc<Settings>, front: Front) -> Opening
+    fn of(base: Text, venue: Arc<Venue>, settings: Arc<Settings>, front: Front) -> Start
         requires settings { (arc_value venue).settings ≡ arc_value settings }
         requires keys { front ≡ (arc_value venue).settings.staff_keys }
         ensures base { result.base ≡ base }
         ensures venue { arc_value result.venue ≡ arc_value venue }
     {
-        Opening {
+        Start {
             base,
             venue,
             settings,
@@ -77,17 +77,17 @@ fn opening_with(
     base: Text,
     venue: Arc<Venue>,
     settings: Arc<Settings>,
-) -> Result<Opening, OutOfMemory>
+) -> Result<Start, OutOfMemory>
     requires { (arc_value venue).settings ≡ arc_value settings }
     ensures base { IfOk result (λ opening. opening.base ≡ base) }
     ensures venue { IfOk result (λ opening. arc_value opening.venue ≡ arc_value venue) }
 {
     let front = front_of(alloc, &settings)?;
-    Ok(Opening::of(base, venue, settings, front))
+    Ok(Start::of(base, venue, settings, front))
 }
 
 // What a hall is opened with, of a venue that others may share.
-fn opening_at(alloc: Global, base: Text, venue: Arc<Venue>) -> Result<Opening, OutOfMemory>
+fn opening_at(alloc: Global, base: Text, venue: Arc<Venue>) -> Result<Start, OutOfMemory>
     ensures base { IfOk result (λ opening. opening.base ≡ base) }
     ensures venue { IfOk result (λ opening. arc_value opening.venue ≡ arc_value venue) }
 {
@@ -96,7 +96,7 @@ fn opening_at(alloc: Global, base: Text, venue: Arc<Venue>) -> Result<Opening, O
 }
 
 /// What a hall is opened with, of a venue of the base.
-pub(crate) fn opening_of(alloc: Global, base: &str, venue: Venue) -> Result<Opening, OutOfMemory>
+pub(crate) fn opening_of(alloc: Global, base: &str, venue: Venue) -> Result<Start, OutOfMemory>
     ensures base { IfOk result (λ opening. opening.base ≡ base.now) }
     ensures venue { IfOk result (λ opening. arc_value opening.venue ≡ venue) }
 {

@@ -5,7 +5,7 @@ ghost use Rattle.venue_ports.specs.Files.{HasReadCause};
 ghost use Rattle.venue_commands.specs.Verified.{clause_text, verdict_text, verdict_status, VerifyOutput};
 ghost use Rattle.venue_commands.specs.Steps.{IsPrinted};
 
-use crate::answer::{Answer, printed, stopped};
+use crate::printout::{Printout, printed, stopped};
 use crate::base::{answer_of, table_of};
 use crate::status::Status;
 use route_certificate::{FailedClause, Verdict, verify};
@@ -27,7 +27,7 @@ fn fails(alloc: Global, clause: FailedClause) -> Result<String, AllocError>
 }
 
 // The answer where the answer of the base is judged.
-fn judged(alloc: Global, verdict: Verdict) -> Result<Answer, AllocError>
+fn judged(alloc: Global, verdict: Verdict) -> Result<Printout, AllocError>
     ensures text { IfOk result (λ answer. answer.text ≡ verdict_text verdict) }
     ensures status { IfOk result (λ answer. answer.status ≡ verdict_status verdict) }
 {
@@ -45,7 +45,7 @@ pub(crate) fn verify_answer<F: Folders>(
     alloc: Global,
     base: &str,
     folders: &mut F,
-) -> Result<Answer, ReadFault>
+) -> Result<Printout, ReadFault>
     ensures told { IfOk result (λ answer. IfSome (F.files folders.old) (λ files. VerifyOutput files base.now answer.text answer.status)) }
     ensures plain { IfOk result (λ answer. IsPrinted answer.status) }
     ensures same { F.files folders.new ≡ F.files folders.old }

@@ -10,7 +10,7 @@ ghost use Rattle.venue_nodes.specs.Rows.{AreRowsOf, row_list};
 
 use crate::members::Rows;
 use crate::rules::LimitRule;
-use imdf_schema::{File, Place};
+use imdf_schema::{File, FeatureAt};
 use std::alloc::Global;
 use venue_types::{Finding, List, OutOfMemory};
 
@@ -36,7 +36,7 @@ impl Crowding {
             Crowding::Members(k) => (LimitRule::S5, k),
             Crowding::Squares => (LimitRule::S6, 0),
         };
-        let place = Place {
+        let place = FeatureAt {
             file: File::Unit,
             index,
         };

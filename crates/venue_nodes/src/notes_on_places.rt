@@ -12,7 +12,7 @@ ghost use Rattle.venue_nodes.specs.Views.{AreNodes, find_place};
 
 use crate::nodes::Nodes;
 use crate::notes::PlaceNote;
-use imdf_schema::{Place, Property};
+use imdf_schema::{FeatureAt, Property};
 use rule_reports::add;
 use venue_types::{Features, List, Note, OutOfMemory, Ref, RelationshipRow, Touches};
 
@@ -20,7 +20,7 @@ use venue_types::{Features, List, Note, OutOfMemory, Ref, RelationshipRow, Touch
 fn note_at(note: PlaceNote, index: u32, member: u32) -> Note
     ensures { result ≡ place_note note index member }
 {
-    let place = Place {
+    let place = FeatureAt {
         file: note.file(),
         index,
     };

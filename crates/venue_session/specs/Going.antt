@@ -2,7 +2,7 @@
 use Rattle.std.specs.Prelude.{◌≡◌, ◌<◌, ◌≤◌, ◌+◌, ℕ, List, ◌++◌, length, Option, Some, None}
 use Rattle.std.specs.Io.KnownBytes.{Appends, Consumes}
 use Rattle.venue_history.specs.Histories.{IsLegal}
-use Rattle.version_board.specs.Facts.{Facts}
+use Rattle.venue_hall.specs.Facts.{Facts}
 use Rattle.wire_frames.specs.Frames.{IsShort}
 use Rattle.venue_session.specs.Acting.{Acted, AreOpen, Acts}
 use Rattle.venue_session.specs.Ends.{Measured}

@@ -4,3 +4,5 @@ pub mod Ends
 pub mod Sessions
 pub mod Texts
 pub mod Going
+pub mod Headline
+pub mod Complete

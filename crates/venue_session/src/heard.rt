@@ -2,7 +2,7 @@
 
 ghost use Rattle.std.specs.Prelude.{ℕ, ◌<◌, List, Option, length};
 ghost use Rattle.std.specs.Io.KnownBytes.{IsAtEnd};
-ghost use Rattle.version_board.specs.Facts.{Facts};
+ghost use Rattle.venue_hall.specs.Facts.{Facts};
 ghost use Rattle.wire_frames.specs.Frames.{IsShort};
 ghost use Rattle.venue_session.specs.Going.{Moment, moment, Awaits, IsGoing, HasEnded, HeardOrEnded};
 

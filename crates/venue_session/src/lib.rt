@@ -5,6 +5,7 @@ mod steps;
 mod ends;
 mod input;
 mod laws;
+mod headline_laws;
 mod heard;
 mod refused_heads;
 mod step_runs;
@@ -17,5 +18,6 @@ mod texts;
 mod writer;
 
 pub use ends::End;
+pub use headline_laws::{complete_law, headline_law};
 pub use laws::{acts_close_law, acts_hall_law, acts_more_law, acts_push_law, acts_then_law};
 pub use whole_session::serve_session;

@@ -1,19 +1,19 @@
 //! The end of a session by a head that is refused.
 
 ghost use Rattle.std.specs.Prelude.{◌≡◌, ℕ, List, IfOk};
-ghost use Rattle.version_board.specs.Facts.{Facts};
+ghost use Rattle.venue_hall.specs.Facts.{Facts};
 ghost use Rattle.wire_frames.specs.Frames.{IsRefused};
 ghost use Rattle.wire_replies.specs.Heads.{refusal_status};
 ghost use Rattle.venue_session.specs.Ends.{refused_text};
 ghost use Rattle.venue_session.specs.Going.{Moment, moment, IsGoing, HasEnded};
 
 use crate::ends::End;
-use crate::writer::write_whole;
+use crate::writer::write_all;
 use std::alloc::Global;
 use venue_ports::Stream;
 use venue_types::{Bytes, OutOfMemory};
 use wire_frames::Refusal;
-use wire_replies::{Answer, reply_bytes};
+use wire_replies::{Response, reply_bytes};
 
 // The status of a refusal.
 fn status_of(refusal: Refusal) -> u16
@@ -35,7 +35,7 @@ fn status_of(refusal: Refusal) -> u16
 fn refusal_text(alloc: Global, refusal: Refusal) -> Result<Bytes, OutOfMemory>
     ensures { IfOk result (λ bytes. bytes ≡ refused_text refusal) }
 {
-    reply_bytes(alloc, &Answer::No(refusal), true)
+    reply_bytes(alloc, &Response::No(refusal), true)
 }
 
 /// Writes why the head that waits is refused, and tells how the session ends by it.
@@ -46,7 +46,7 @@ pub(crate) fn refuse<L: Stream>(alloc: Global, link: &mut L, refusal: Refusal) -
         → HasEnded keys first (moment facts (L.left link.new) (L.written link.new) (L.faults link.new)) result }
 {
     match refusal_text(alloc, refusal) {
-        Ok(text) => match write_whole(link, text.as_slice()) {
+        Ok(text) => match write_all(link, text.as_slice()) {
             Ok(()) => End::Refused(status_of(refusal)),
             Err(_failed) => End::LinkFault,
         },

@@ -1,7 +1,7 @@
 //! A run of steps over the bytes that wait.
 
 ghost use Rattle.std.specs.Prelude.{◌≡◌, ◌<◌, ◌≤◌, ℕ, List, drop, length, IsNone};
-ghost use Rattle.version_board.specs.Facts.{Facts};
+ghost use Rattle.venue_hall.specs.Facts.{Facts};
 ghost use Rattle.venue_wire.specs.Messages.{At};
 ghost use Rattle.venue_wire.specs.declared.messages.Message.{Message};
 ghost use Rattle.venue_session.specs.Going.{Moment, moment, IsGoing, GoesOrEnded, WaitsOrEnded, GoesOrStops};
@@ -11,11 +11,11 @@ use crate::steps::{Step, answer_message};
 use crate::ends::End;
 use crate::input::Input;
 use crate::refused_heads::refuse;
-use crate::writer::write_whole;
+use crate::writer::write_all;
 use std::alloc::Global;
 use venue_ports::Stream;
 use venue_wire::{Front, Message, Taken, message_length_law, take};
-use version_board::Hall;
+use venue_hall::Hall;
 
 /// How a run of steps stops.
 pub(crate) enum Stop {
@@ -36,7 +36,7 @@ fn write_step<L: Stream>(link: &mut L, step: &Step, close: bool) -> Option<End>
 {
     match step {
         Step::Untold => Some(End::OutOfMemory),
-        Step::Replied(text) => match write_whole(link, text.as_slice()) {
+        Step::Replied(text) => match write_all(link, text.as_slice()) {
             Ok(()) if close => Some(End::Done),
             Ok(()) => None,
             Err(_failed) => Some(End::LinkFault),

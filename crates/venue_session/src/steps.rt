@@ -2,8 +2,8 @@
 
 ghost use Rattle.std.specs.Prelude.{◌≡◌, if◌then◌else◌};
 ghost use Rattle.venue_wire.specs.declared.messages.Message.{Message as AMessage};
-ghost use Rattle.version_board.specs.Facts.{Facts};
-ghost use Rattle.wire_replies.specs.declared.answer.Answer.TheVariants.{Of, No};
+ghost use Rattle.venue_hall.specs.Facts.{Facts};
+ghost use Rattle.wire_replies.specs.declared.response.Response.TheVariants.{Of, No};
 ghost use Rattle.venue_session.specs.Steps.{IsStep, told_by};
 ghost use Rattle.venue_session.specs.Texts.{Stepped};
 
@@ -11,9 +11,9 @@ use crate::texts::Text;
 use std::alloc::Global;
 use venue_types::{Change, Query, Reply};
 use venue_wire::Message;
-use version_board::Hall;
+use venue_hall::Hall;
 use wire_frames::Refusal;
-use wire_replies::{Answer, reply_bytes, want_of_memory};
+use wire_replies::{Response, reply_bytes, want_of_memory};
 
 /// What comes of a message.
 #[derive(Drop)]
@@ -49,38 +49,38 @@ fn change<H: Hall>(hall: &mut H, asked: &Change) -> Reply
 }
 
 // A message that is refused by itself leaves the hall as it is.
-fn refuse<H: Hall>(hall: &H, refusal: Refusal) -> Answer
+fn refuse<H: Hall>(hall: &H, refusal: Refusal) -> Response
     ensures { IsStep (H.facts hall.now) (AMessage.Refused refusal) result (H.facts hall.now) }
 {
     // By its number what the hall has seen is a legal history.
     let _number = hall.number();
-    Answer::No(refusal)
+    Response::No(refusal)
 }
 
-fn answer<H: Hall>(hall: &mut H, message: &Message) -> Answer
+fn answer<H: Hall>(hall: &mut H, message: &Message) -> Response
     ensures { IsStep (H.facts hall.old) message.now result (H.facts hall.new) }
 {
     match message {
-        Message::Ask(query) => Answer::Of(ask(hall, query)),
-        Message::Do(asked) => Answer::Of(change(hall, asked)),
+        Message::Ask(query) => Response::Of(ask(hall, query)),
+        Message::Do(asked) => Response::Of(change(hall, asked)),
         Message::Refused(refusal) => refuse(hall, *refusal),
     }
 }
 
 // Whether an answer tells that a change was accepted.
-fn tells_change(answer: &Answer) -> bool
+fn tells_change(answer: &Response) -> bool
     ensures { told_by answer.now ≡ (if result then 1 else 0) }
 {
     match answer {
-        Answer::Of(Reply::ClosureDone { changed, .. }) => *changed,
-        Answer::Of(Reply::Published { .. }) => true,
-        Answer::Of(_) => false,
-        Answer::No(_) => false,
+        Response::Of(Reply::ClosureDone { changed, .. }) => *changed,
+        Response::Of(Reply::Published { .. }) => true,
+        Response::Of(_) => false,
+        Response::No(_) => false,
     }
 }
 
 // What is written where there is no memory for an answer's text.
-fn step_without_memory(answer: &Answer, close: bool) -> Step
+fn step_without_memory(answer: &Response, close: bool) -> Step
     ensures { (old new : Facts) (message : AMessage) → IsStep old message answer.now new → Stepped old message close result new }
 {
     if tells_change(answer) {
@@ -90,7 +90,7 @@ fn step_without_memory(answer: &Answer, close: bool) -> Step
     }
 }
 
-fn make_step(alloc: Global, answer: &Answer, close: bool) -> Step
+fn make_step(alloc: Global, answer: &Response, close: bool) -> Step
     ensures { (old new : Facts) (message : AMessage) → IsStep old message answer.now new → Stepped old message close result new }
 {
     match reply_bytes(alloc, answer, close) {

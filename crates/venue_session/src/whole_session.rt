@@ -13,7 +13,7 @@ use crate::step_runs::{Stop, run_steps};
 use std::alloc::Global;
 use venue_ports::Stream;
 use venue_wire::{Front, more_is_short_law};
-use version_board::Hall;
+use venue_hall::Hall;
 
 // Behind so many bytes a session ends by itself, once all the messages in them are answered.
 const MOST: u64 = 1 << 40;

@@ -8,7 +8,7 @@ ghost use Rattle.venue_ports.specs.Causes.{HasExactCause};
 use venue_ports::{Failed, Stream};
 
 /// Writes the whole text, or a front of it where the stream fails.
-pub(crate) fn write_whole<L: Stream>(link: &mut L, text: &[u8]) -> Result<(), Failed>
+pub(crate) fn write_all<L: Stream>(link: &mut L, text: &[u8]) -> Result<(), Failed>
     ensures ok { OnOk result (Appends (L.written link.old) (L.written link.new) text.now) }
     ensures err { OnErr result ((part : List ℕ) × IsPrefix part text.now × Appends (L.written link.old) (L.written link.new) part) }
     ensures left { L.left link.new ≡ L.left link.old }

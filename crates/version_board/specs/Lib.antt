@@ -1,4 +1,4 @@
-pub mod Facts
+pub use Rattle.venue_hall.specs.Facts
 pub mod Making
 pub mod OneThread
 pub mod Halls

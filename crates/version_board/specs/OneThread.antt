@@ -6,7 +6,7 @@ use Rattle.venue_ports.specs.Files.{StoredFile}
 use Rattle.venue_build.specs.Venues.{SeenVenue as Venue}
 use Rattle.venue_history.specs.declared.entry.Act.TheVariants.{Published}
 use Rattle.venue_history.specs.declared.entry.Entry.{Entry}
-use Rattle.version_board.specs.Facts.{Facts}
+use Rattle.venue_hall.specs.Facts.{Facts}
 use Rattle.version_board.specs.Making.{shelf_of}
 
 -- it sees all entries, of which it made all but the first, over folders that tell these files below a base and failed so often

@@ -9,13 +9,13 @@ ghost use Rattle.venue_history.specs.Histories.{IsLegal};
 ghost use Rattle.venue_history.specs.Replies.{told, IsOutsideFault};
 ghost use Rattle.venue_history.specs.Versions.{MayFollow, after};
 ghost use Rattle.board_copies.specs.Stamps.{entries_of};
-ghost use Rattle.version_board.specs.Facts.{IsSameHall, IsChanged};
+ghost use Rattle.venue_hall.specs.Facts.{IsSameHall, IsChanged};
 ghost use Rattle.version_board.specs.OneThread.{one_thread, opening_history};
 ghost use Rattle.version_board.specs.Making.{shelf_of, CountsFault};
 
-use crate::hall::{Asks, Hall};
+use venue_hall::{Asks, Hall};
 use crate::changes::{Outcome, ready_change};
-use crate::reader::Reader;
+use crate::base_folders::BaseFolders;
 use board_copies::{Held, Roll};
 use std::alloc::Global;
 use std::sync::Arc;
@@ -31,7 +31,7 @@ use venue_types::{Change, OutOfMemory, Query, Reply, Settings, Text};
 pub struct Alone<F: Folders> {
     held: Held,
     roll: Roll,
-    reader: Reader<F>,
+    reader: BaseFolders<F>,
     settings: Arc<Settings>,
     looks: u64,
     alloc: Global,
@@ -80,7 +80,7 @@ impl<F: Folders> Alone<F> {
             Ok(held) => Ok(Alone {
                 held,
                 roll,
-                reader: Reader { folders, base },
+                reader: BaseFolders { folders, base },
                 settings,
                 looks: 0,
                 alloc,
@@ -94,7 +94,7 @@ impl<F: Folders> Alone<F> {
         ensures { result ≡ folders_of self }
     {
         let Alone { reader, .. } = self;
-        let Reader { folders, .. } = reader;
+        let BaseFolders { folders, .. } = reader;
         folders
     }
 

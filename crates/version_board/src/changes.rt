@@ -9,7 +9,7 @@ ghost use Rattle.venue_folder.specs.Shelves.{Shelf};
 ghost use Rattle.venue_history.specs.Changes.{AreRead};
 ghost use Rattle.version_board.specs.Making.{shelf_of, closure_act, IsOutcome, CountsOutcome, IsUnread, IsUnmade};
 
-use crate::reader::Reader;
+use crate::base_folders::BaseFolders;
 use std::alloc::Global;
 use std::sync::Arc;
 use venue_build::{Built, Venue, build};
@@ -91,7 +91,7 @@ fn ready_closure(
 }
 
 // The files of a folder, or the reply that tells why not.
-fn fetched<F: Folders>(alloc: Global, reader: &mut Reader<F>, folder: &Text) -> Result<Files, Reply>
+fn fetched<F: Folders>(alloc: Global, reader: &mut BaseFolders<F>, folder: &Text) -> Result<Files, Reply>
     ensures read { IfOk result (λ files. AreRead (shelf_of (F.files reader.old.folders) reader.old.base) folder.now files) }
     ensures kept { OnOk result (F.faults reader.new.folders ≡ F.faults reader.old.folders) }
     ensures unread { IfErr result (IsUnread (F.faults reader.old.folders) (F.faults reader.new.folders)) }
@@ -193,7 +193,7 @@ fn ready_folder<F: Folders>(
     board: &Board,
     settings: &Settings,
     worker: u8,
-    reader: &mut Reader<F>,
+    reader: &mut BaseFolders<F>,
     folder: &Text,
 ) -> Outcome
     requires some { 1 ≤ worker }
@@ -217,7 +217,7 @@ pub fn ready_change<F: Folders>(
     board: &Board,
     settings: &Settings,
     worker: u8,
-    reader: &mut Reader<F>,
+    reader: &mut BaseFolders<F>,
     change: &Change,
 ) -> Outcome
     requires some { 1 ≤ worker }

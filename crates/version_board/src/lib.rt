@@ -2,15 +2,12 @@
 #![tactic(auto)]
 
 mod alone;
-mod hall;
-mod laws;
 mod changes;
-mod reader;
+mod base_folders;
 #[cfg(test)]
 mod tests;
 
 pub use alone::{Alone, Unopened};
-pub use hall::{Asks, Hall};
-pub use laws::{answered_law, changed_law};
 pub use changes::{Outcome, ready_change};
-pub use reader::Reader;
+pub use base_folders::BaseFolders;
+pub use venue_hall::{Asks, Hall, answered_law, changed_law};

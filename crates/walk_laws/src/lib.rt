@@ -8,6 +8,9 @@
 mod checks;
 mod laws;
 #[cfg(test)]
+mod step_tests;
+mod steps;
+#[cfg(test)]
 mod tests;
 
 pub use checks::{has_node, rises_within};
@@ -15,3 +18,4 @@ pub use laws::{
     LinkFamily, PotentialKind, certificate_law, cut_law, least_law, potential_law, stand_in_law,
     walk_law,
 };
+pub use steps::Steps;

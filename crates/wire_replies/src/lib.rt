@@ -1,7 +1,7 @@
 //! The bytes of a reply: a status, its head lines and a body of compact JSON (RFC 9112; RFC 8259).
 #![tactic(auto)]
 
-mod answer;
+mod response;
 mod bodies;
 mod heads;
 mod labels;
@@ -14,5 +14,5 @@ mod walks;
 mod words;
 mod written;
 
-pub use answer::Answer;
+pub use response::Response;
 pub use reply::{reply_bytes, want_of_memory};

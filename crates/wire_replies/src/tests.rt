@@ -1,6 +1,6 @@
 //! The bytes of answers, each as a client reads it.
 
-use crate::{Answer, reply_bytes, want_of_memory};
+use crate::{Response, reply_bytes, want_of_memory};
 use std::alloc::{AllocError, Global};
 use std::process::Abort;
 use std::test::Fail;
@@ -105,7 +105,7 @@ struct Told<'t>(&'t str, usize, &'t str);
 fn sees(
     rt: &impl Abort,
     alloc: Global,
-    answer: &Answer,
+    answer: &Response,
     close: bool,
     told: Told<'_>,
     body: &str,
@@ -129,7 +129,7 @@ fn reads(
     body: &str,
 ) -> Result<(), AllocError> {
     let told = Told("200 OK", length, "");
-    sees(rt, alloc, &Answer::Of(reply), false, told, body)
+    sees(rt, alloc, &Response::Of(reply), false, told, body)
 }
 
 fn sees_changes(rt: &impl Abort, alloc: Global) -> Result<(), AllocError> {
@@ -234,7 +234,7 @@ fn sees_findings(rt: &impl Abort, alloc: Global) -> Result<(), AllocError> {
     sees(
         rt,
         alloc,
-        &Answer::Of(Reply::Rejected(report)),
+        &Response::Of(Reply::Rejected(report)),
         false,
         told,
         body,
@@ -254,7 +254,7 @@ fn answers_have_their_bytes(rt: HostRuntime) -> Result<(), Fail> {
             b"HTTP/1.1 200 OK\r\ncontent-type: application/json\r\ncontent-length: 36\r\nconnection: close\r\n\r\n{\"closed\":0,\"places\":33,\"version\":1}".as_slice(),
         ),
     ] {
-        let version = Answer::Of(Reply::Version {
+        let version = Response::Of(Reply::Version {
             number: 1,
             closed: 0,
             places: 33,
@@ -268,37 +268,37 @@ fn answers_have_their_bytes(rt: HostRuntime) -> Result<(), Fail> {
     assert_eq!(rt; want_of_memory(false).len(), 114);
     let table = [
         (
-            Answer::Of(Reply::NoProfile),
+            Response::Of(Reply::NoProfile),
             "404 Not Found",
             27,
             r#"{"error":"no_such_profile"}"#,
         ),
         (
-            Answer::Of(Reply::NoPlace(Which::From)),
+            Response::Of(Reply::NoPlace(Which::From)),
             "404 Not Found",
             40,
             r#"{"error":"no_such_place","which":"from"}"#,
         ),
         (
-            Answer::Of(Reply::NoPlace(Which::To)),
+            Response::Of(Reply::NoPlace(Which::To)),
             "404 Not Found",
             38,
             r#"{"error":"no_such_place","which":"to"}"#,
         ),
         (
-            Answer::Of(Reply::NoPlace(Which::Id)),
+            Response::Of(Reply::NoPlace(Which::Id)),
             "404 Not Found",
             38,
             r#"{"error":"no_such_place","which":"id"}"#,
         ),
         (
-            Answer::Of(Reply::NoFeature),
+            Response::Of(Reply::NoFeature),
             "404 Not Found",
             27,
             r#"{"error":"no_such_feature"}"#,
         ),
         (
-            Answer::Of(Reply::FolderFault {
+            Response::Of(Reply::FolderFault {
                 before: 1,
                 after: 2,
             }),
@@ -307,7 +307,7 @@ fn answers_have_their_bytes(rt: HostRuntime) -> Result<(), Fail> {
             r#"{"error":"folder_fault"}"#,
         ),
         (
-            Answer::Of(Reply::Ahead {
+            Response::Of(Reply::Ahead {
                 since: 9,
                 number: 3,
             }),
@@ -316,13 +316,13 @@ fn answers_have_their_bytes(rt: HostRuntime) -> Result<(), Fail> {
             r#"{"error":"version_ahead","since":9,"version":3}"#,
         ),
         (
-            Answer::Of(Reply::HistoryFull { number: 2 }),
+            Response::Of(Reply::HistoryFull { number: 2 }),
             "409 Conflict",
             36,
             r#"{"error":"history_full","version":2}"#,
         ),
         (
-            Answer::Of(Reply::OutOfMemory),
+            Response::Of(Reply::OutOfMemory),
             "503 Service Unavailable",
             26,
             r#"{"error":"want_of_memory"}"#,
@@ -413,7 +413,7 @@ fn answers_have_their_bytes(rt: HostRuntime) -> Result<(), Fail> {
         sees(
             &rt,
             alloc,
-            &Answer::No(refusal),
+            &Response::No(refusal),
             false,
             Told(status, length, lines),
             body,

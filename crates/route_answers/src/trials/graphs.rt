@@ -12,7 +12,7 @@ use std::marker::Brand;
 use std::process::Abort;
 use std::sync::ledger::{Blank, Ledger};
 use std::test::Fail;
-use step_count::Steps;
+use walk_laws::Steps;
 use venue_types::Link;
 
 fn closable(rt: &impl Abort, graph: &Graph, tail: u128) -> u32

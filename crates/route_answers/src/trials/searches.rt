@@ -14,7 +14,7 @@ use std::marker::Brand;
 use std::process::Abort;
 use std::sync::ledger::{Blank, Ledger};
 use std::test::Fail;
-use step_count::Steps;
+use walk_laws::Steps;
 use venue_build::Venue;
 use venue_types::{Link, Potential, Profile};
 

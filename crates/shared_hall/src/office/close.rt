@@ -11,7 +11,7 @@ use std::sync::ledger::Share;
 use std::sync::{Mutex, Wait};
 use venue_history::{legal_law, number_law};
 use venue_ports::Folders;
-use version_board::Reader;
+use version_board::BaseFolders;
 
 /// What a hall ends with.
 #[derive(Drop)]
@@ -60,7 +60,7 @@ impl<N: HallName, F: Folders> OfficeOf<N, F, Keeper> {
         book.audit(&mut all);
         let number = keeper.writer.published().held.board.number();
         drop(keeper.into_writer().take(rt));
-        let Reader { folders, .. } = reader;
+        let BaseFolders { folders, .. } = reader;
         Closed {
             folders,
             number,

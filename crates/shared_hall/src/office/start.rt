@@ -18,7 +18,7 @@ use std::sync::ledger::{Blank, Share};
 use venue_history::number_law;
 use venue_ports::Folders;
 use venue_types::{OutOfMemory, Text};
-use version_board::{Reader, Unopened};
+use version_board::{BaseFolders, Unopened};
 
 /// What a hall begins with.
 #[derive(Drop)]
@@ -171,7 +171,7 @@ pub fn open_hall<N: HallName, F: Folders>(
         keeper,
         roll,
         book,
-        reader: Reader { folders, base },
+        reader: BaseFolders { folders, base },
         settings,
         start,
     };

@@ -1,7 +1,7 @@
 use Rattle.std.proofs.Common.{◌≡◌, length, map, sym, subst, ◌∙◌, arith}
 use Rattle.std.proofs.lemmas.List.{length-map, take_all}
-use Rattle.link_tables.specs.Places.{AreFirstPlaces}
-use Rattle.link_tables.specs.Tables.{row_of, table_of}
+use Rattle.route_answers.specs.Places.{AreFirstPlaces}
+use Rattle.route_answers.specs.Tables.{row_of, table_of}
 use Rattle.route_answers.proofs.Ranges.{as_many}
 use Rattle.route_answers.proofs.claims.steps_of.Goals as goal
 

@@ -1,5 +1,5 @@
 use Rattle.std.proofs.Common.{arith, ◌≡◌, ◌+◌, List, length}
-use Rattle.version_board.specs.Facts.{Facts}
+use Rattle.venue_hall.specs.Facts.{Facts}
 use Rattle.shared_hall.proofs.Passes.{no_parts}
 use Rattle.shared_hall.proofs.tests.leave_all.Goals as goal
 

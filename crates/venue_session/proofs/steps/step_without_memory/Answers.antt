@@ -1,5 +1,5 @@
 use Rattle.venue_types.specs.declared.reply.Reply.TheVariants as reply
-use Rattle.wire_replies.specs.declared.answer.Answer.TheVariants.{Of}
+use Rattle.wire_replies.specs.declared.response.Response.TheVariants.{Of}
 use Rattle.venue_session.proofs.Wanting.{step_wants}
 use Rattle.venue_session.proofs.steps.step_without_memory.Goals as goal
 

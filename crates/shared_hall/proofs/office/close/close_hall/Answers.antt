@@ -1,6 +1,6 @@
 use Rattle.std.proofs.Common.{rules, arith, ◌≡◌, ◌+◌, List, [], ◌∷◌, ◌++◌, All, sym, ap, ◌∙◌, subst, length}
 use Rattle.venue_history.specs.Histories.{IsLegal}
-use Rattle.version_board.specs.Facts.{Facts}
+use Rattle.venue_hall.specs.Facts.{Facts}
 use Rattle.shared_hall.specs.Offices.{OfficeFacts, made_of, Begins}
 use Rattle.shared_hall.proofs.Passes.{made_push, begins_push}
 use Rattle.shared_hall.proofs.office.close.close_hall.Goals as goal

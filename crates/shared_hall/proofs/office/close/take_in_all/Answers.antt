@@ -1,5 +1,5 @@
 use Rattle.std.proofs.Common.{rules, arith, ◌≡◌, ◌+◌, List, [], ◌∷◌, ◌++◌, All, sym, ap, ◌∙◌, subst}
-use Rattle.version_board.specs.Facts.{Facts}
+use Rattle.venue_hall.specs.Facts.{Facts}
 use Rattle.shared_hall.specs.Offices.{OfficeFacts, parts_of, made_of, Begins}
 use Rattle.shared_hall.proofs.Passes.{parts_push, made_push, begins_push}
 use Rattle.shared_hall.proofs.office.close.take_in_all.Goals as goal

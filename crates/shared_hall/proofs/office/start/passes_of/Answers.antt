@@ -7,7 +7,7 @@ use Rattle.board_copies.specs.declared.rule.Law.{Law}
 use Rattle.board_copies.specs.declared.view.View.{View}
 use Rattle.board_copies.specs.Rules.{whole}
 use Rattle.board_copies.specs.Stamps.{entries_of}
-use Rattle.version_board.specs.Facts.{Facts}
+use Rattle.venue_hall.specs.Facts.{Facts}
 use Rattle.shared_hall.specs.Offices.{parts_of, AreNumbered}
 use Rattle.shared_hall.proofs.Passes.{numbered_push, parts_push}
 use Rattle.shared_hall.proofs.office.start.passes_of.Goals as goal

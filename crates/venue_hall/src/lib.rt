@@ -1,0 +1,8 @@
+//! What a session may ask of a hall, whatever serves its history, and what is seen of one.
+#![tactic(auto)]
+
+mod hall;
+mod laws;
+
+pub use hall::{Asks, Hall};
+pub use laws::{answered_law, changed_law};

@@ -1,0 +1,16 @@
+//! The whole program, over folders, doors and a console that it is handed: the command that the words name, and the number with which the process ends.
+#![tactic(auto)]
+
+mod exit;
+#[cfg(test)]
+mod hostile;
+mod outcome;
+mod program;
+mod ready;
+mod serve_command;
+#[cfg(test)]
+mod tests;
+
+pub use exit::{Exit, WordsFault, exit_after, words_fault};
+pub use outcome::Outcome;
+pub use program::run;
