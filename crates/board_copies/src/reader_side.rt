@@ -7,9 +7,9 @@ ghost use Rattle.board_copies.specs.Reading.{IsSeen};
 ghost use Rattle.board_copies.specs.Rules.{known, StaysBound};
 ghost use Rattle.board_copies.specs.Stamps.{entries_of};
 
-use crate::seen::Seen;
 use crate::held::Held;
 use crate::rule::{Seeing, SideReader};
+use crate::seen::Seen;
 use core::mem::replace_with;
 use std::alloc::Global;
 use venue_history::number_law;

@@ -7,9 +7,9 @@ ghost use Rattle.board_copies.specs.Queues.{EndsWith};
 ghost use Rattle.board_copies.specs.Rules.{list_of, book_of, Knows, IsOneLonger};
 ghost use Rattle.board_copies.specs.Stamps.{entries_of};
 
+use crate::endless_wait::wait_for_ever;
 use crate::held::{Held, Ready};
 use crate::rule::{Publishing, SideWriter};
-use crate::endless_wait::wait_for_ever;
 use std::sync::{Arc, Wait};
 use venue_types::OutOfMemory;
 

@@ -3,8 +3,8 @@
 ghost use Rattle.std.specs.Prelude.{◌≡◌, ◌≤◌, ◌<◌, IfOk, string_bytes};
 ghost use Rattle.building_report.specs.BuildingReports.{IsSummary, IsTold};
 
-use crate::summary_text::summary;
 use crate::settings::building_settings;
+use crate::summary_text::summary;
 use check_text::rejected_text;
 use gen_text::gen_files;
 use std::alloc::Global;

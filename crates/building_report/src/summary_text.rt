@@ -9,8 +9,8 @@ ghost use Rattle.building_report.specs.BuildingReports.{IsSummary};
 ghost use Rattle.building_report.specs.Costs.{AreBothLines, AreLaterLines, AreActLines};
 
 use crate::closure::close_number;
-use crate::sizes::size_of_venue;
 use crate::hall::{OwnHall, opened};
+use crate::sizes::size_of_venue;
 use crate::ways::way_line;
 use gen_text::{lift_number, room_number};
 use std::alloc::Global;

@@ -11,10 +11,10 @@ ghost use Rattle.exact_json.specs.Scanning.{Reads};
 use crate::arena::Arena;
 use crate::fault::JsonFault;
 use crate::number::after;
-use crate::values::{read_value, skip_spaces};
 use crate::scan::scan;
 use crate::tree::Tree;
 use crate::unclosed::Unclosed;
+use crate::values::{read_value, skip_spaces};
 use std::alloc::Global;
 
 /// How deep lists and objects may nest.

@@ -8,8 +8,6 @@ mod polygon;
 mod position;
 mod read_geometry;
 mod ring;
-#[cfg(test)]
-mod tests;
 mod values;
 
 pub use geometry::{line, point, shape};

@@ -16,7 +16,7 @@ use crate::items::{Gathered, Taken, take_items};
 use crate::rules::ReadingRule;
 use exact_json::{Arena, JsonFault, Tree, read};
 use imdf_rows::FeatureRow;
-use imdf_schema::{File, FeatureAt, is_collection, items};
+use imdf_schema::{FeatureAt, File, is_collection, items};
 use rule_reports::add;
 use std::alloc::Global;
 use venue_types::{Finding, OutOfMemory, Slot};

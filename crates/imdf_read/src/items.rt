@@ -16,7 +16,7 @@ use crate::item::judge_item;
 use crate::note_rules::judge_notes;
 use exact_json::Tree;
 use imdf_rows::{FeatureRow, push_row};
-use imdf_schema::{File, FeatureAt};
+use imdf_schema::{FeatureAt, File};
 use std::alloc::Global;
 use venue_types::{Finding, Note, OutOfMemory};
 

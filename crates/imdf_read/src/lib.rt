@@ -15,8 +15,6 @@ mod property_rule;
 mod read_out;
 mod rows;
 mod rules;
-#[cfg(test)]
-mod tests;
 
 pub use folder::read_folder;
 pub use laws::{one_reading_law, ordinals_law, sound_reading_law};

@@ -12,7 +12,7 @@ ghost use Rattle.imdf_read.specs.Gathering.{NotesBy, NotesInItem};
 use crate::rules::ReadingNote;
 use exact_json::Tree;
 use imdf_access::{known_unit, passage};
-use imdf_schema::{File, FeatureAt, Property, is_feature, property, text};
+use imdf_schema::{FeatureAt, File, Property, is_feature, property, text};
 use rule_reports::add;
 use venue_types::{Note, OutOfMemory};
 

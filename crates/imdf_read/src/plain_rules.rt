@@ -15,7 +15,7 @@ use crate::rules::ReadingRule;
 use exact_json::Tree;
 use imdf_rows::ordinal;
 use imdf_schema::{
-    File, FeatureAt, Property, fits_geometry, geometry, is_id, is_null, is_word, list, member,
+    FeatureAt, File, Property, fits_geometry, geometry, is_id, is_null, is_word, list, member,
     property, unlisted_property,
 };
 use rule_reports::add;

@@ -9,7 +9,7 @@ ghost use Rattle.imdf_refs.specs.Gathering.{RepeatsIn, Repeats};
 
 use crate::known::Known;
 use crate::row::HasReferences;
-use imdf_schema::{File, FeatureAt, Rule, feature_files};
+use imdf_schema::{FeatureAt, File, Rule, feature_files};
 use rule_reports::add;
 use std::alloc::Global;
 use venue_types::{FeatureId, Features, Finding, OutOfMemory};

@@ -10,7 +10,7 @@ ghost use Rattle.imdf_refs.specs.Gathering.{reference, reference_list, Dangles, 
 use crate::known::Known;
 use crate::place::member_of;
 use crate::row::{HasReferences, References};
-use imdf_schema::{File, FeatureAt, PropertyRow, ReferenceTarget, Rule};
+use imdf_schema::{FeatureAt, File, PropertyRow, ReferenceTarget, Rule};
 use rule_reports::add;
 use venue_types::{FeatureId, Features, Finding, OutOfMemory, Ref};
 

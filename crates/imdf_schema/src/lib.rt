@@ -2,23 +2,21 @@
 //! small readers of a member. The rules by which it is judged, by number and name, and what is told of a place in it.
 #![tactic(auto)]
 
+mod feature_at;
 mod features;
 mod files;
 mod forms;
-mod feature_at;
 mod rules;
 mod table;
-#[cfg(test)]
-mod tests;
 mod texts;
 mod values;
 
+pub use feature_at::FeatureAt;
 pub use features::{
     fits_geometry, geometry, is_collection, is_feature, items, property, unlisted_property,
 };
 pub use files::{ALL_FILES, File, Geometry, feature_files, file_numbers_law, file_of_type};
 pub use forms::{Form, fits, is_reference, item_fits, list_of, type_of};
-pub use feature_at::FeatureAt;
 pub use rules::{NoteKind, Rule, rule_numbers_law};
 pub use table::{Property, PropertyRow, ReferenceTarget, properties};
 pub use values::{

@@ -4,8 +4,6 @@
 mod cuts;
 mod laws;
 mod numbers;
-#[cfg(test)]
-mod tests;
 
 pub use cuts::{after, cut_at};
 pub use laws::{Form, Spelled, fault_line_law, front_law};

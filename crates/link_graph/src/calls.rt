@@ -22,9 +22,9 @@ use crate::{asking, leading, listing, outlook};
 use imdf_access::EndFacts;
 use std::alloc::Global;
 use std::sync::ledger::Ledger;
-use walk_laws::Steps;
 use venue_nodes::{Nodes, Rows};
 use venue_types::{FeatureId, Features, Link, LinkFacts, List, Node, OutOfMemory, Settings};
+use walk_laws::Steps;
 
 impl Graph {
     ghost use Rattle.std.specs.Prelude.{IfOk, Some, slice_get};

@@ -14,10 +14,10 @@ ghost use Rattle.link_graph.specs.Networks.{IsNetworkOf};
 
 use crate::crossings::{barred_of, crossings_of};
 use crate::doors::doors_of;
-use crate::way_starts::leaving_of;
 use crate::parts::Core;
 use crate::seats::seats_of;
 use crate::trails::Ground;
+use crate::way_starts::leaving_of;
 use std::alloc::Global;
 use venue_nodes::{Nodes, Rows, spot_law};
 use venue_types::{Features, OutOfMemory, Settings};

@@ -2,26 +2,26 @@
 #![tactic(auto)]
 
 mod areas;
-mod link_facts;
-mod from_features;
 mod calls;
 mod crossings;
 mod doors;
 mod faults;
-mod leads;
+mod from_features;
 mod graph;
-mod laws;
-mod out_links;
-mod way_starts;
-mod link_list;
 mod graph_core;
+mod laws;
+mod leads;
+mod link_facts;
+mod link_list;
 mod marks;
 mod network_laws;
+mod out_links;
 mod outlook;
 mod parts;
 mod seats;
 mod stretches;
 mod trails;
+mod way_starts;
 mod ways;
 
 pub use areas::Area;

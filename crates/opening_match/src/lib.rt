@@ -4,10 +4,8 @@
 mod candidates;
 mod entries;
 mod frame;
-mod touch_rows;
 mod rows;
 mod stretches;
-#[cfg(test)]
-mod tests;
+mod touch_rows;
 
 pub use touch_rows::touches;

@@ -6,7 +6,6 @@ mod bands;
 mod grove_borders;
 mod grove_rays;
 mod groves;
-mod tree_growth;
 mod octagons;
 mod over;
 mod ring_bands;
@@ -14,10 +13,8 @@ mod run_borders;
 mod run_crossings;
 mod run_rays;
 mod runs;
+mod tree_growth;
 
 pub use band_laws::{crossing_law, even_ray_law, near_line_law, ray_law};
 pub use bands::Bands;
 pub use ring_bands::{RingBands, ring_crosses};
-
-#[cfg(test)]
-mod tests;

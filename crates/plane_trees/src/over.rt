@@ -7,9 +7,9 @@ ghost use Rattle.plane_trees.specs.Trees.{AddsGrove, IsClosedRing};
 ghost use Rattle.plane_trees.specs.Groves.{IsOver};
 
 use crate::groves::Over;
-use crate::tree_growth::depth_of;
 use crate::octagons::{NOTHING, Octagon};
 use crate::ring_bands::RingBands;
+use crate::tree_growth::depth_of;
 use std::alloc::Global;
 use venue_types::{OutOfMemory, Point};
 

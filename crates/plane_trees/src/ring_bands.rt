@@ -5,12 +5,12 @@ ghost use Rattle.plane_exact.specs.Figure.{AllClose, edges, crossings, IsNearSom
 ghost use Rattle.plane_trees.specs.Octagons.{IsRound};
 ghost use Rattle.plane_trees.specs.Trees.{IsClosedRing};
 
-use crate::tree_growth::{Tree, tree_of};
 use crate::octagons::{NOTHING, Octagon, octagon_of};
 use crate::run_borders::is_near_run;
 use crate::run_crossings::crosses_itself;
 use crate::run_rays::is_odd_at_run;
 use crate::runs::{Asked, Run, last_of};
+use crate::tree_growth::{Tree, tree_of};
 use std::alloc::Global;
 use std::marker::Model;
 use venue_types::{OutOfMemory, Point, Ring};

@@ -12,7 +12,7 @@ ghost use Rattle.ring_rules.specs.Rules.{BreaksInRing};
 
 use crate::shape_findings::add_shape;
 use feature_rows::HasShape;
-use imdf_schema::{File, FeatureAt};
+use imdf_schema::{FeatureAt, File};
 use std::alloc::Global;
 use venue_types::{Features, Finding, List, OutOfMemory};
 

@@ -13,8 +13,6 @@ mod rows;
 mod search;
 mod starts;
 mod tables;
-#[cfg(test)]
-mod trials;
 
 pub use answers::route_answer;
 pub use places::row_places;

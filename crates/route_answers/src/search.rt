@@ -10,8 +10,8 @@ use route_search::{Found, least};
 use std::alloc::Global;
 use std::marker::Brand;
 use std::sync::ledger::{Blank, Ledger};
-use walk_laws::Steps;
 use venue_types::{OutOfMemory, Profile};
+use walk_laws::Steps;
 
 // The search with nothing closed, and with a counter that nobody reads.
 fn searched<L: Ledger>(

@@ -12,8 +12,8 @@ ghost use Rattle.route_certificate.specs.Verdicts.{IsGentle, IsClosed, FailsFirs
 use crate::answer::{AnswerIn, Claim, FailedClause, Verdict};
 use crate::families::ListedPotentials;
 use crate::laws::verdict_law;
-use crate::walk_price::{Followed, follow};
 use crate::table::{Table, TableLink};
+use crate::walk_price::{Followed, follow};
 use venue_types::Potential;
 use walk_laws::{has_node, potential_law, rises_within};
 

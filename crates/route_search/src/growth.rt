@@ -8,8 +8,8 @@ use crate::node_scan::scan;
 use crate::state::State;
 use crate::ways::Ways;
 use std::sync::ledger::Ledger;
-use walk_laws::Steps;
 use venue_types::OutOfMemory;
+use walk_laws::Steps;
 
 // Whether a node that waited at this cost is to be settled now: where its cost fell since, it waits at that or leads nowhere else.
 #[tactic(auto, unfolding(crate::specs::Labels::cost_at, crate::specs::States::settled_at))]

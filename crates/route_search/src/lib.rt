@@ -2,18 +2,18 @@
 #![tactic(auto)]
 
 mod answers;
-mod start;
 mod families;
 mod found;
 mod frontier;
 mod growth;
 mod labels;
-mod relaxation;
+mod node_scan;
 mod passed_links;
 mod queue;
 mod quiet;
-mod node_scan;
+mod relaxation;
 mod search;
+mod start;
 mod state;
 mod trails;
 mod ways;

@@ -5,15 +5,15 @@ ghost use Rattle.link_graph.specs.Graphs.{network};
 ghost use Rattle.route_search.specs.Scans.{AreMarked, Followed, IsStretchOf, Regarded, Regards, node_count, out_count_of};
 ghost use Rattle.route_search.specs.States.{cost_in};
 
-use crate::relaxation::lower;
 use crate::passed_links::{can_leave, can_pass, is_passed_over};
 use crate::quiet::has_to_wait;
+use crate::relaxation::lower;
 use crate::state::State;
 use crate::ways::Ways;
 use link_graph::Stretch;
 use std::sync::ledger::Ledger;
-use walk_laws::Steps;
 use venue_types::{Link, OutOfMemory};
+use walk_laws::Steps;
 
 // Where the link can be passed, its end is known by it from now on.
 fn follow(ways: &Ways, to: u32, link: &Link, state: &mut State) -> Result<(), OutOfMemory>

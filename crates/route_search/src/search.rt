@@ -7,16 +7,16 @@ ghost use Rattle.link_graph.specs.Networks.{IsPassable};
 ghost use Rattle.route_search.specs.Answers.{IsAnswer, IsSmall};
 
 use crate::answers::{cut, route};
-use crate::start::begin;
 use crate::found::Found;
 use crate::growth::grow;
 use crate::labels::NO_COST;
+use crate::start::begin;
 use crate::ways::Ways;
 use link_graph::{Graph, Marks};
 use std::alloc::Global;
 use std::sync::ledger::Ledger;
-use walk_laws::Steps;
 use venue_types::{OutOfMemory, Profile};
+use walk_laws::Steps;
 
 /// A walk from node to node over links that the profile allows and nothing closes, which costs least, with potentials by which anyone
 /// can check that none costs less; or where there is no walk, the nodes to which one leads. From a node to itself no link is taken,

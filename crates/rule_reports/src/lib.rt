@@ -9,8 +9,6 @@
 mod findings;
 mod laws;
 mod order;
-#[cfg(test)]
-mod tests;
 
 pub use findings::add;
 pub use laws::{

@@ -2,14 +2,12 @@
 #![tactic(auto)]
 
 mod copies;
-mod thread_bounds;
 mod entries;
 mod entry_laws;
 mod name;
 mod office;
 mod seat;
-#[cfg(test)]
-mod tests;
+mod thread_bounds;
 
 pub use copies::Copies;
 pub use entries::opening_entries;

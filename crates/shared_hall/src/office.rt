@@ -13,14 +13,14 @@ ghost use Rattle.version_board.specs.Making.{CountsFault};
 ghost use Rattle.shared_hall.specs.Offices.{faulted};
 
 mod close;
-mod start;
 mod publication;
+mod start;
 
 use crate::name::HallName;
 use board_copies::{Keeper, Reads, Roll, SideReader, Writes, meet_in, read_in, wait_for_ever};
 pub use close::{Closed, close_hall};
-pub use start::{Opened, open_hall};
 use publication::publish_entry;
+pub use start::{Opened, open_hall};
 use std::alloc::Global;
 use std::marker::Model;
 use std::sync::ledger::{Book, Share};

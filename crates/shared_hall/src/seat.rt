@@ -9,9 +9,9 @@ use board_copies::{Keeper, Reads, SideReader, Writes};
 use std::alloc::Global;
 use std::marker::Model;
 use std::sync::{Mutex, Wait};
+use venue_hall::{Asks, Hall};
 use venue_ports::Folders;
 use venue_types::{Change, Query, Reply};
-use venue_hall::{Asks, Hall};
 
 /// Who has it may ask without waiting, and take the lock for a change.
 #[derive(Drop)]

@@ -3,7 +3,7 @@
 #![tactic(auto)]
 
 ghost use Rattle.std.specs.Prelude.{All, IfOk};
-ghost use Rattle.plane_exact.specs.Testing.{IsInBox};
+ghost use Rattle.test_figures.specs.Boxes.{IsInBox};
 ghost use Rattle.plane_exact.specs.Figure.{part_points, vertices};
 
 use std::alloc::{AllocError, Global};

@@ -10,8 +10,6 @@ mod notation;
 mod numbers;
 mod settings;
 mod station;
-#[cfg(test)]
-mod tests;
 
 pub use changes::{Change, Edit, GONE};
 pub use fault::EditFault;

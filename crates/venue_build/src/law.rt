@@ -18,10 +18,10 @@ ghost use Rattle.venue_build.specs.Built.{IsRejected, IsVenueOf};
 ghost use Rattle.venue_build.specs.Report.{IsLaterBroken};
 
 use crate::Venue;
+use imdf_read::one_reading_law;
 use imdf_refs::{
     amenity_unit_law, anchor_unit_law, occupant_anchor_law, opening_level_law, unit_level_law,
 };
-use imdf_read::one_reading_law;
 use ring_rules::no_spread_law;
 
 /// The rows of a venue are sound, and under its settings no phase finds anything in them: each identifier stands for one

@@ -7,9 +7,9 @@ ghost use Rattle.feature_rows.specs.Sound.{AreSound};
 ghost use Rattle.venue_build.specs.Phases.{IsPlaneBroken};
 
 use contain_rules::add_hold_findings;
-use imdf_schema::{File, FeatureAt, Rule};
-use rule_reports::in_order;
+use imdf_schema::{FeatureAt, File, Rule};
 use ring_rules::{add_ring_findings, is_spread};
+use rule_reports::in_order;
 use std::alloc::Global;
 use venue_types::{Features, Finding, List, OutOfMemory, Settings};
 

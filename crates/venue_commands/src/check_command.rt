@@ -8,8 +8,8 @@ ghost use Rattle.check_text.specs.Text.{accepted_text};
 ghost use Rattle.venue_commands.specs.Checked.{CheckOutput};
 ghost use Rattle.venue_commands.specs.Steps.{IsPrinted};
 
-use crate::printout::{Printout, printed};
 use crate::base_venue::{Made, venue_of};
+use crate::printout::{Printout, printed};
 use crate::status::Status;
 use check_text::accepted_text;
 use feature_rows::feature_count;

@@ -10,9 +10,9 @@ ghost use Rattle.venue_commands.specs.Output.{Output};
 ghost use Rattle.venue_commands.specs.Runs.{run_between};
 ghost use Rattle.venue_commands.specs.Steps.{IsPrinted};
 
-use crate::printout::Printout;
-use crate::laws::run_headline_law;
 use crate::console_text::write_all;
+use crate::laws::run_headline_law;
+use crate::printout::Printout;
 use crate::reached::{Reached, reach};
 use crate::serving_console::{SessionEnd, serve_console};
 use crate::status::Status;

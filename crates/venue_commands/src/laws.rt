@@ -12,8 +12,8 @@ ghost use Rattle.venue_commands.specs.Ends.{Ends};
 ghost use Rattle.venue_commands.specs.Headlines.{SaysHeadline};
 ghost use Rattle.venue_commands.specs.Runs.{Run};
 
-use venue_session::headline_law;
 use venue_build::one_outcome;
+use venue_session::headline_law;
 
 /// However a run ends, the headline holds of it.
 pub fn run_headline_law()

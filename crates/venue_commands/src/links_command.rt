@@ -11,8 +11,8 @@ ghost use Rattle.route_answers.specs.Tables.{table_of};
 ghost use Rattle.venue_commands.specs.Linked.{LinksOutput};
 ghost use Rattle.venue_commands.specs.Steps.{IsLinked, IsPrinted};
 
-use crate::printout::{Printout, printed};
 use crate::base_venue::{Made, venue_of};
+use crate::printout::{Printout, printed};
 use crate::status::Status;
 use route_answers::allowed_table;
 use route_certificate::write_table;

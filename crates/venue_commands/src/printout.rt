@@ -8,8 +8,8 @@ ghost use Rattle.venue_commands.specs.Output.{priced_text, priced_status, PriceO
 ghost use Rattle.venue_commands.specs.Steps.{IsPrinted};
 
 use crate::base::{table_of, walk_of};
-use crate::gen_command::building_answer;
 use crate::check_command::check_answer;
+use crate::gen_command::building_answer;
 use crate::links_command::links_answer;
 use crate::load::Cause;
 use crate::route_command::routing_answer;
@@ -70,7 +70,11 @@ fn priced(alloc: Global, outcome: Priced) -> Result<Printout, AllocError>
 }
 
 // The answer to `price BASE`.
-fn price_answer<F: Folders>(alloc: Global, base: &str, folders: &mut F) -> Result<Printout, ReadFault>
+fn price_answer<F: Folders>(
+    alloc: Global,
+    base: &str,
+    folders: &mut F,
+) -> Result<Printout, ReadFault>
     ensures told { IfOk result (λ answer. IfSome (F.files folders.old) (λ files. PriceOutput files base.now answer.text answer.status)) }
     ensures plain { IfOk result (λ answer. IsPrinted answer.status) }
     ensures same { F.files folders.new ≡ F.files folders.old }

@@ -5,8 +5,8 @@ ghost use Rattle.venue_ports.specs.Files.{HasReadCause};
 ghost use Rattle.venue_commands.specs.Commands.{AskFor, IsNoService};
 ghost use Rattle.venue_commands.specs.Openings.{IsFolderReached, IsReached, IsPlainText};
 
-use crate::printout::{Printout, answer_to};
 use crate::base_venue::{Made, venue_of};
+use crate::printout::{Printout, answer_to};
 use crate::start::{Start, opening_of};
 use crate::words::folder_of;
 use std::alloc::Global;

@@ -7,9 +7,9 @@ ghost use Rattle.venue_ports.specs.declared.folders.ReadFault.TheVariants.{OutOf
 ghost use Rattle.venue_commands.specs.Routed.{RouteOutput, claim_status};
 ghost use Rattle.venue_commands.specs.Steps.{IsAnswered, IsPrinted, IsRouted, IsRoutedFrom};
 
-use crate::printout::{Printout, printed};
-use crate::links_command::profile_named;
 use crate::base_venue::{Made, venue_of};
+use crate::links_command::profile_named;
+use crate::printout::{Printout, printed};
 use crate::status::Status;
 use route_answers::route_answer;
 use route_certificate::{Claim, answer_law, write_answer};

@@ -5,8 +5,8 @@ ghost use Rattle.venue_ports.specs.Files.{HasReadCause};
 ghost use Rattle.venue_commands.specs.Verified.{clause_text, verdict_text, verdict_status, VerifyOutput};
 ghost use Rattle.venue_commands.specs.Steps.{IsPrinted};
 
-use crate::printout::{Printout, printed, stopped};
 use crate::base::{answer_of, table_of};
+use crate::printout::{Printout, printed, stopped};
 use crate::status::Status;
 use route_certificate::{FailedClause, Verdict, verify};
 use std::alloc::{AllocError, Global};

@@ -2,7 +2,5 @@
 #![tactic(auto)]
 
 mod folder_files;
-#[cfg(test)]
-mod tests;
 
 pub use folder_files::files_of;

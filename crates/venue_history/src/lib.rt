@@ -4,8 +4,6 @@
 
 mod entry;
 mod laws;
-#[cfg(test)]
-mod tests;
 
 pub use entry::{Act, Entry};
 pub use laws::{

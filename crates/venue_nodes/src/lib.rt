@@ -2,25 +2,21 @@
 //! is worth a note where a door or a passage leads nowhere.
 #![tactic(auto)]
 
-mod unit_rows;
 mod ids;
 mod limits;
 mod lists;
-mod node_rows;
-#[cfg(test)]
-mod member_tests;
 mod members;
 mod named_units;
 mod node_laws;
+mod node_rows;
 mod nodes;
 mod notes;
-mod numbers;
 mod notes_on_places;
+mod numbers;
 mod rules;
 mod spots;
-#[cfg(test)]
-mod tests;
 mod touch_laws;
+mod unit_rows;
 mod walkables;
 
 pub use limits::{Crowding, first_crowding, limit_findings};

@@ -10,7 +10,7 @@ ghost use Rattle.venue_nodes.specs.Rows.{AreRowsOf, row_list};
 
 use crate::members::Rows;
 use crate::rules::LimitRule;
-use imdf_schema::{File, FeatureAt};
+use imdf_schema::{FeatureAt, File};
 use std::alloc::Global;
 use venue_types::{Finding, List, OutOfMemory};
 

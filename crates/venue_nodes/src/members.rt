@@ -6,10 +6,10 @@ ghost use Rattle.feature_rows.specs.Rows.{HaveOwnIds};
 ghost use Rattle.feature_rows.specs.Sound.{AreSound};
 ghost use Rattle.venue_nodes.specs.Standing.{AreStandings};
 
-use crate::unit_rows::filled;
 use crate::lists::Lists;
 use crate::named_units::named;
 use crate::touch_laws::touch_law;
+use crate::unit_rows::filled;
 use crate::walkables::Walkables;
 use feature_rows::once_law;
 use std::alloc::Global;

@@ -15,14 +15,10 @@ mod plan;
 mod quiet;
 mod reports;
 mod room;
-#[cfg(test)]
-mod socket_tests;
 mod sockets;
 mod stream;
 mod tcp;
 mod tcp_link;
-#[cfg(test)]
-mod tests;
 mod waits;
 
 pub use doors::Doors;

@@ -2,14 +2,10 @@
 #![tactic(auto)]
 
 mod exit;
-#[cfg(test)]
-mod hostile;
 mod outcome;
 mod program;
 mod ready;
 mod serve_command;
-#[cfg(test)]
-mod tests;
 
 pub use exit::{Exit, WordsFault, exit_after, words_fault};
 pub use outcome::Outcome;

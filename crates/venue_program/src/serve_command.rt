@@ -22,7 +22,7 @@ use std::marker::Brand;
 use std::sync::Wait;
 use std::sync::ledger::Blank;
 use std::thread::Threads;
-use venue_commands::{Start, Reached, Status, print, print_fault, reach_folder, write_all};
+use venue_commands::{Reached, Start, Status, print, print_fault, reach_folder, write_all};
 use venue_ports::{Doors, Folders, ReadFault, Stream};
 use venue_service::{Counts, Service, serve_hall};
 use venue_types::OutOfMemory;

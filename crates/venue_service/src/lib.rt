@@ -3,12 +3,8 @@
 
 mod desk;
 mod guest;
-#[cfg(test)]
-mod seat_tests;
 mod seats;
 mod service;
-#[cfg(test)]
-mod tests;
 mod worker;
 
 pub use desk::{DoorDesk, Next};

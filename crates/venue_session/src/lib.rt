@@ -1,20 +1,16 @@
 //! One session over one stream: what it may be and how it is served, whatever hall answers and in whatever pieces the bytes come.
 #![tactic(auto)]
 
-mod steps;
 mod ends;
-mod input;
-mod laws;
 mod headline_laws;
 mod heard;
+mod input;
+mod laws;
 mod refused_heads;
 mod step_runs;
-mod whole_session;
-#[cfg(test)]
-mod session_tests;
-#[cfg(test)]
-mod tests;
+mod steps;
 mod texts;
+mod whole_session;
 mod writer;
 
 pub use ends::End;

@@ -7,15 +7,15 @@ ghost use Rattle.venue_wire.specs.declared.messages.Message.{Message};
 ghost use Rattle.venue_session.specs.Going.{Moment, moment, IsGoing, GoesOrEnded, WaitsOrEnded, GoesOrStops};
 ghost use Rattle.venue_session.specs.Texts.{Stepped};
 
-use crate::steps::{Step, answer_message};
 use crate::ends::End;
 use crate::input::Input;
 use crate::refused_heads::refuse;
+use crate::steps::{Step, answer_message};
 use crate::writer::write_all;
 use std::alloc::Global;
+use venue_hall::Hall;
 use venue_ports::Stream;
 use venue_wire::{Front, Message, Taken, message_length_law, take};
-use venue_hall::Hall;
 
 /// How a run of steps stops.
 pub(crate) enum Stop {

@@ -9,9 +9,9 @@ ghost use Rattle.venue_session.specs.Texts.{Stepped};
 
 use crate::texts::Text;
 use std::alloc::Global;
+use venue_hall::Hall;
 use venue_types::{Change, Query, Reply};
 use venue_wire::Message;
-use venue_hall::Hall;
 use wire_frames::Refusal;
 use wire_replies::{Response, reply_bytes, want_of_memory};
 

@@ -7,13 +7,13 @@ ghost use Rattle.venue_session.specs.Going.{Moment, moment, IsGoing, StaysShort,
 ghost use Rattle.venue_session.specs.Sessions.{IsSession, HasServed};
 
 use crate::ends::End;
-use crate::input::Input;
 use crate::heard::{Heard, read_on};
+use crate::input::Input;
 use crate::step_runs::{Stop, run_steps};
 use std::alloc::Global;
+use venue_hall::Hall;
 use venue_ports::Stream;
 use venue_wire::{Front, more_is_short_law};
-use venue_hall::Hall;
 
 // Behind so many bytes a session ends by itself, once all the messages in them are answered.
 const MOST: u64 = 1 << 40;

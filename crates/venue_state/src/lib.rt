@@ -1,19 +1,17 @@
 //! One version of a venue that can be asked, and changes that are made ready beside it.
 #![tactic(auto)]
 
-mod questions;
-mod board;
-mod closures;
-mod board_after;
 mod act_checks;
+mod board;
+mod board_after;
+mod closures;
 mod names;
-mod prepared;
 mod preparation;
-mod trips;
+mod prepared;
+mod questions;
 mod stand;
 mod tally;
-#[cfg(test)]
-mod tests;
+mod trips;
 mod unready;
 
 pub use board::Board;

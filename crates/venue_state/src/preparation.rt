@@ -3,9 +3,9 @@
 ghost use Rattle.std.specs.Prelude.{◌≤◌, IfOk, IfErr};
 ghost use Rattle.venue_state.specs.Preparing.{HasSettings, IsReady, IsUnready};
 
+use crate::act_checks::judge;
 use crate::board::Board;
 use crate::board_after::{After, following};
-use crate::act_checks::judge;
 use crate::prepared::Prepared;
 use crate::unready::Unready;
 use std::alloc::Global;

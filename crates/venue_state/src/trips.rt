@@ -16,8 +16,8 @@ use route_search::{Found, least};
 use std::alloc::Global;
 use std::marker::Brand;
 use std::sync::ledger::{Blank, Ledger};
-use walk_laws::Steps;
 use venue_types::{FeatureId, List, Mark, OutOfMemory, Potential, Profile, Reply, Text, Which};
+use walk_laws::Steps;
 
 // Between which places a way is asked for, and for whom, as the reply repeats it.
 #[derive(Drop)]

@@ -15,8 +15,6 @@ mod query;
 mod reply;
 mod room;
 mod settings;
-#[cfg(test)]
-mod tests;
 mod text;
 
 pub use bytes::Bytes;

@@ -6,12 +6,12 @@ ghost use Rattle.venue_wire.specs.Outcomes.{IfMore};
 ghost use Rattle.wire_frames.specs.Frames.{HasFrame, PlainFrame};
 ghost use Rattle.wire_frames.specs.Outcomes.{ShowsFrame, WaitsFor};
 
-use crate::query_values::asked;
 use crate::bodies::changed;
 use crate::calls::Call;
 use crate::front::Front;
 use crate::messages::{Message, Taken};
 use crate::paths::cut_target;
+use crate::query_values::asked;
 use std::alloc::Global;
 use venue_types::OutOfMemory;
 use wire_frames::{Framed, Framing, frame};

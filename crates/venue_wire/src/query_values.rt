@@ -5,10 +5,10 @@ ghost use Rattle.venue_wire.specs.Messages.{asked};
 ghost use Rattle.venue_wire.specs.Paths.{place_in};
 ghost use Rattle.venue_wire.specs.Queries.{answer_read, ask_of, end_of, query_of, only_value, route_asked, since_of, value_or, values_of};
 
-use crate::query_pairs::{Sought, seek};
 use crate::forms::{read_answer, read_number};
 use crate::messages::Message;
 use crate::paths::Path;
+use crate::query_pairs::{Sought, seek};
 use std::alloc::Global;
 use venue_types::{Ask, FeatureId, OutOfMemory, Query, Text};
 use wire_frames::Refusal;

@@ -13,13 +13,13 @@ ghost use Rattle.venue_hall.specs.Facts.{IsSameHall, IsChanged};
 ghost use Rattle.version_board.specs.OneThread.{one_thread, opening_history};
 ghost use Rattle.version_board.specs.Making.{shelf_of, CountsFault};
 
-use venue_hall::{Asks, Hall};
-use crate::changes::{Outcome, ready_change};
 use crate::base_folders::BaseFolders;
+use crate::changes::{Outcome, ready_change};
 use board_copies::{Held, Roll};
 use std::alloc::Global;
 use std::sync::Arc;
 use venue_build::Venue;
+use venue_hall::{Asks, Hall};
 use venue_history::{change_law, number_law, version_law};
 use venue_ports::Folders;
 use venue_state::Prepared;

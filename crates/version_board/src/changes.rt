@@ -91,7 +91,11 @@ fn ready_closure(
 }
 
 // The files of a folder, or the reply that tells why not.
-fn fetched<F: Folders>(alloc: Global, reader: &mut BaseFolders<F>, folder: &Text) -> Result<Files, Reply>
+fn fetched<F: Folders>(
+    alloc: Global,
+    reader: &mut BaseFolders<F>,
+    folder: &Text,
+) -> Result<Files, Reply>
     ensures read { IfOk result (λ files. AreRead (shelf_of (F.files reader.old.folders) reader.old.base) folder.now files) }
     ensures kept { OnOk result (F.faults reader.new.folders ≡ F.faults reader.old.folders) }
     ensures unread { IfErr result (IsUnread (F.faults reader.old.folders) (F.faults reader.new.folders)) }

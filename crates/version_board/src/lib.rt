@@ -2,12 +2,10 @@
 #![tactic(auto)]
 
 mod alone;
-mod changes;
 mod base_folders;
-#[cfg(test)]
-mod tests;
+mod changes;
 
 pub use alone::{Alone, Unopened};
-pub use changes::{Outcome, ready_change};
 pub use base_folders::BaseFolders;
+pub use changes::{Outcome, ready_change};
 pub use venue_hall::{Asks, Hall, answered_law, changed_law};

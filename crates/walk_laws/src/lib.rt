@@ -7,11 +7,7 @@
 
 mod checks;
 mod laws;
-#[cfg(test)]
-mod step_tests;
 mod steps;
-#[cfg(test)]
-mod tests;
 
 pub use checks::{has_node, rises_within};
 pub use laws::{

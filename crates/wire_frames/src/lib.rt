@@ -7,8 +7,6 @@ mod heads;
 mod laws;
 mod parts;
 mod refusals;
-#[cfg(test)]
-mod tests;
 
 pub use fields::Named;
 pub use frames::{Framed, Framing, frame};

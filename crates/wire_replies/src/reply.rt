@@ -7,11 +7,11 @@ ghost use Rattle.wire_replies.specs.declared.response.Response.TheVariants.{Of, 
 ghost use Rattle.wire_replies.specs.Replies.{message_text, reply_text};
 ghost use Rattle.wire_replies.specs.Statuses.{status_code};
 
-use crate::response::Response;
 use crate::heads::{
     HttpStatus, allowed, content_lines, ends_session, last_lines, refusal_status, reply_status,
     status_line,
 };
+use crate::response::Response;
 use crate::written::Written;
 use itoa::Buffer;
 use json::Writer;

@@ -1,5 +1,5 @@
 use Rattle.std.proofs.lemmas.List.Elements.{All-same, All-push}
-use Rattle.plane_exact.specs.Testing.{IsInBox}
+use Rattle.test_figures.specs.Boxes.{IsInBox}
 use Rattle.test_figures.proofs.ring.Goals as goal
 
 pub loop-point-preserved : goal.loop-point-preserved

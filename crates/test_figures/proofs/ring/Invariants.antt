@@ -1,5 +1,5 @@
 use Rattle.std.proofs.Common.{All}
-use Rattle.plane_exact.specs.Testing.{IsInBox}
+use Rattle.test_figures.specs.Boxes.{IsInBox}
 use Rattle.test_figures.proofs.ring.Given as goal
 
 abbrev pub invariant-loop-point : goal.invariant-loop-point
