@@ -30,7 +30,7 @@ impl Rule<Tried, u64> for Counting {
 }
 
 /// What a caller of the book has after a step: no more than before.
-pub struct Nothing;
+pub(crate) struct Nothing;
 
 impl Gain<Tried, u64> for Nothing {
     ghost use base.Fml.{ftrue};
@@ -39,7 +39,7 @@ impl Gain<Tried, u64> for Nothing {
 }
 
 /// The step that adds a list.
-pub struct Adding;
+pub(crate) struct Adding;
 
 impl Play<Tried, u64> for Adding {
     ghost use Rattle.board_copies.specs.Lists.{Adds};

@@ -20,7 +20,7 @@ pub struct Roll {
 
 /// The list that is to be added: that of an earlier stamp, or none, and one entry more.
 #[derive(Drop)]
-pub struct Longer {
+pub(crate) struct Longer {
     pub after: Option<Stamp>,
     pub entry: Entry,
 }

@@ -12,33 +12,33 @@ fn sent<T: Send>(_x: &T) {}
 
 fn shared<T: Sync>(_x: &T) {}
 
-pub fn sent_seen(one: &Seen<Tried, u64, Counting>) {
+pub(crate) fn sent_seen(one: &Seen<Tried, u64, Counting>) {
     sent(one);
     shared(one);
 }
 
-pub fn sent_word(one: &Word<Tried, u64, Counting>) {
+pub(crate) fn sent_word(one: &Word<Tried, u64, Counting>) {
     sent(one);
 }
 
-pub fn sent_stamp(one: &Stamp) {
-    sent(one);
-    shared(one);
-}
-
-pub fn sent_roll(one: &Roll) {
-    sent(one);
-}
-
-pub fn sent_held(one: &Held) {
+pub(crate) fn sent_stamp(one: &Stamp) {
     sent(one);
     shared(one);
 }
 
-pub fn sent_reader(one: &SideReader) {
+pub(crate) fn sent_roll(one: &Roll) {
     sent(one);
 }
 
-pub fn sent_keeper(one: &Keeper) {
+pub(crate) fn sent_held(one: &Held) {
+    sent(one);
+    shared(one);
+}
+
+pub(crate) fn sent_reader(one: &SideReader) {
+    sent(one);
+}
+
+pub(crate) fn sent_keeper(one: &Keeper) {
     sent(one);
 }

@@ -1,4 +1,4 @@
--- What is told of a building that is made by arithmetic: how large it is, and how one gets through it before and after a lift is closed.
+-- What is reported of a building that is made by arithmetic: how large it is, and how one gets through it before and after a lift is closed.
 use Rattle.std.specs.Prelude.{◌≡◌, ◌⊎◌, ℕ, ◌-◌, ◌^◌, List, [], ◌++◌, length, codes, Some, Bool, true, false}
 use Rattle.std.specs.Fmt.{decimal}
 use Rattle.venue_types.specs.declared.feature_id.FeatureId.{FeatureId}

@@ -1,4 +1,4 @@
--- What is asked for a way and told of it, step by step.
+-- What a way costs, step by step.
 use Rattle.std.specs.Prelude.{◌≡◌, ◌⊎◌, ℕ, List, ◌++◌, codes, length, Option, Some, None, false}
 use Rattle.std.specs.Fmt.{decimal}
 use Rattle.venue_types.specs.declared.feature_id.FeatureId.{FeatureId}

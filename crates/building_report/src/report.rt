@@ -1,4 +1,4 @@
-//! What is told of a building.
+//! What is reported of a building.
 
 ghost use Rattle.std.specs.Prelude.{◌≡◌, ◌≤◌, ◌<◌, IfOk, string_bytes};
 ghost use Rattle.building_report.specs.BuildingReports.{IsSummary, IsTold};

@@ -1,4 +1,4 @@
-//! What is done in a building, and told of it.
+//! What is done in a building, and reported of it.
 
 ghost use Rattle.std.specs.Prelude.{◌≡◌, ◌≤◌, ◌<◌, IfOk, length, string_bytes};
 ghost use Rattle.std.specs.Arc.{arc_value};

@@ -16,7 +16,7 @@ use rule_reports::add;
 use std::alloc::Global;
 use venue_types::{AmenityRow, AnchorRow, Features, Finding, OpeningRow, OutOfMemory, UnitRow};
 
-/// Adds which rows of a file aren't held by what is to hold them.
+// Adds which rows of a file aren't held by what is to hold them.
 #[tactic(auto, using(rule_reports::proofs::Beginnings::beginnings))]
 fn judge<R: HasHolder>(
     features: &Features,

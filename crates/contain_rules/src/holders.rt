@@ -22,7 +22,7 @@ pub(crate) struct ShapeIndex<'a> {
 }
 
 impl<'a> ShapeIndex<'a> {
-    /// Of these rows. Takes n log n time.
+    // Of these rows. Takes n log n time.
     fn of<R: HasId + HasShape>(alloc: Global, rows: &'a [R]) -> Result<ShapeIndex<'a>, OutOfMemory>
         requires once { AreOnce (map R.id_of rows.now) }
         requires close { AreCloseShapes (map R.shape_of rows.now) }

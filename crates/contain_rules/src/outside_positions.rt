@@ -40,7 +40,7 @@ pub(crate) fn figure_leaves(shape: &Bands, tolerance: u32, figure: &Shape) -> bo
     parts_leave(shape, tolerance, figure.parts.as_slice())
 }
 
-/// Whether there is one of the polygons' vertices that it doesn't hold.
+// Whether there is one of the polygons' vertices that it doesn't hold.
 fn parts_leave(shape: &Bands, tolerance: u32, parts: &[Part]) -> bool
     requires close { AreBeside shape.now (flat_map part_points parts.now) }
     requires range { tolerance ≤ 1000000 }
@@ -54,7 +54,7 @@ fn parts_leave(shape: &Bands, tolerance: u32, parts: &[Part]) -> bool
     false
 }
 
-/// Whether there is one of the polygon's vertices that it doesn't hold.
+// Whether there is one of the polygon's vertices that it doesn't hold.
 fn part_leaves(shape: &Bands, tolerance: u32, part: &Part) -> bool
     requires close { AreBeside shape.now (part_points part.now) }
     requires range { tolerance ≤ 1000000 }
@@ -64,7 +64,7 @@ fn part_leaves(shape: &Bands, tolerance: u32, part: &Part) -> bool
         || rings_leave(shape, tolerance, part.holes.as_slice())
 }
 
-/// Whether there is one of the rings' points that it doesn't hold.
+// Whether there is one of the rings' points that it doesn't hold.
 fn rings_leave(shape: &Bands, tolerance: u32, rings: &[Ring]) -> bool
     requires close { AreBeside shape.now (ring_points rings.now) }
     requires range { tolerance ≤ 1000000 }

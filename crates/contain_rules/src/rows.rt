@@ -93,7 +93,7 @@ impl HasHolder for AnchorRow {
     }
 }
 
-/// Whether the unit holds the amenity's point.
+// Whether the unit holds the amenity's point.
 fn unit_holds(
     features: &Features,
     holders: &Holders,
@@ -112,7 +112,7 @@ fn unit_holds(
     }
 }
 
-/// Whether one of these units holds the amenity's point.
+// Whether one of these units holds the amenity's point.
 fn one_holds(
     features: &Features,
     holders: &Holders,

@@ -92,7 +92,7 @@ fn enter<'a>(kinds: &mut Kinds, text: &'a [u8]) -> Result<&'a [u8], JsonFault>
     }
 }
 
-/// What is to come behind a value.
+// What is to come behind a value.
 enum Behind<'a> {
     /// Another element.
     Element(&'a [u8]),

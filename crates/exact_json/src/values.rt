@@ -1,4 +1,4 @@
-//! A value in front of a text, and what follows it.
+//! The value with which a text begins, and what follows it.
 
 ghost use Rattle.std.specs.Prelude.{◌≡◌, ◌≤◌, ◌<◌, [], ◌∷◌, length, map, IfOk, IfSome, OnOk, option_map};
 ghost use Rattle.exact_json.specs.Number.{ends_value};

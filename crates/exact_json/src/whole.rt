@@ -17,7 +17,7 @@ use crate::unclosed::Unclosed;
 use crate::values::{read_value, skip_spaces};
 use std::alloc::Global;
 
-/// How deep lists and objects may nest.
+// How deep lists and objects may nest.
 const MAX_DEPTH: usize = 64;
 
 // Why a text is refused whose value nests too deep, if it is one.

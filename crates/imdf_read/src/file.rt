@@ -23,7 +23,7 @@ use venue_types::{Finding, OutOfMemory, Slot};
 
 pub(crate) const MAX_BYTES: usize = 33_554_432;
 
-// The finding of a rule on a file as a whole.
+/// The finding of a rule on a file as a whole.
 pub(crate) fn whole(rule: ReadingRule, file: File) -> Finding
     ensures { result ≡ finding_at (rule_of rule) file 0 0 }
 {
@@ -152,7 +152,7 @@ fn take_fault<R: FeatureRow>(
     Ok(Taken::nothing(alloc))
 }
 
-// Reads a feature file.
+/// Reads a feature file.
 pub(crate) fn read_file<R: FeatureRow>(
     alloc: Global,
     gathered: &mut Gathered,

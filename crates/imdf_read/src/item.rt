@@ -57,7 +57,7 @@ fn judge_feature(
     Ok(judged)
 }
 
-// The rules on an item, and what was read of its geometry.
+/// The rules on an item, and what was read of its geometry.
 pub(crate) fn judge_item(
     alloc: Global,
     findings: &mut Vec<Finding>,

@@ -66,7 +66,7 @@ pub(crate) struct Taken<R> {
     pub positions: u64,
 }
 
-// The items of a feature file. Their number is given as that of a collection.
+/// The items of a feature file. Their number is given as that of a collection.
 pub(crate) fn take_items<R: FeatureRow>(
     alloc: Global,
     gathered: &mut Gathered,

@@ -72,7 +72,7 @@ fn judge_absent(findings: &mut Vec<Finding>) -> Result<(), OutOfMemory>
     add(findings, true, whole(ReadingRule::F1, File::Manifest))
 }
 
-// The rules on the manifest.
+/// The rules on the manifest.
 pub(crate) fn judge_manifest(
     alloc: Global,
     findings: &mut Vec<Finding>,

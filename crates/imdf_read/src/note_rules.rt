@@ -76,7 +76,7 @@ fn judge_kinds(
     Ok(())
 }
 
-// The notes on an item.
+/// The notes on an item.
 pub(crate) fn judge_notes(
     notes: &mut Vec<Note>,
     place: FeatureAt,

@@ -139,7 +139,7 @@ fn judge_rules(
     Ok(())
 }
 
-// Each rule that takes one test of a feature.
+/// Each rule that takes one test of a feature.
 pub(crate) fn judge_plain(
     findings: &mut Vec<Finding>,
     place: FeatureAt,

@@ -71,7 +71,7 @@ fn judge_table(
     Ok(())
 }
 
-// At each property of the item.
+/// At each property of the item.
 pub(crate) fn judge_properties(
     alloc: Global,
     findings: &mut Vec<Finding>,

@@ -110,7 +110,7 @@ fn relationships_to_venues(
     Ok((relationships, sections, units, venues))
 }
 
-// The rows of all feature files.
+/// The rows of all feature files.
 pub(crate) fn read_rows(
     alloc: Global,
     progress: &mut Progress,

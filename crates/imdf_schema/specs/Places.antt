@@ -1,4 +1,4 @@
--- What is told of a place in a folder.
+-- What is reported of a feature in a folder.
 use Rattle.std.specs.Prelude.{ℕ}
 use Rattle.venue_types.specs.declared.finding.Finding.{Finding}
 use Rattle.venue_types.specs.declared.finding.Note.{Note}

@@ -1,5 +1,5 @@
 //! What a venue's folder may hold (IMDF 1.0.0): its files, the table of properties, the forms that members have, and
-//! small readers of a member. The rules by which it is judged, by number and name, and what is told of a place in it.
+//! small readers of a member. The rules by which it is judged, by number and name, and what is reported of a feature in it.
 #![tactic(auto)]
 
 mod feature_at;

@@ -58,8 +58,8 @@ fn last_are_texts(alloc: Global, pairs: &[Pair]) -> Result<bool, OutOfMemory>
     Ok(true)
 }
 
-// Whether what counts of each name, its last value, is a text. It takes n log n steps for n members, and memory only
-// where some value is no text.
+/// Whether what counts of each name, its last value, is a text. It takes n log n steps for n members, and memory only
+/// where some value is no text.
 pub(crate) fn all_texts(alloc: Global, members: &Members) -> Result<bool, OutOfMemory>
     ensures { IfOk result (λ all. all ≡ has_texts (json_object (object_view members.now))) }
 {

@@ -1,4 +1,4 @@
-//! Text forms made of lines: their words and numbers, what stands at a front, and where a text stops being of a form.
+//! Text forms made of lines: their words and numbers, prefixes, and where a text stops being of a form.
 #![tactic(auto)]
 
 mod cuts;

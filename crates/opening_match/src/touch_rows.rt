@@ -17,7 +17,7 @@ use feature_rows::opening_point_law;
 use std::alloc::Global;
 use venue_types::{Features, List, OpeningRow, OutOfMemory, Settings, Touches, UnitRow};
 
-/// How many touches are kept at most.
+// How many touches are kept at most.
 const MOST_TOUCHES: usize = 100_000_000;
 
 /// For each opening the places of the units that it touches.

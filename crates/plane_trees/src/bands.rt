@@ -89,7 +89,7 @@ impl<'a> Bands<'a> {
     }
 }
 
-/// The rings of the shape made ready, polygon by polygon.
+// The rings of the shape made ready, polygon by polygon.
 fn bands_of<'a>(alloc: Global, shape: &'a Shape) -> Result<Vec<RingBands<'a>>, OutOfMemory>
     requires { AllClose (vertices shape.now) }
     ensures { IfOk result (λ list. list.items ≡ rings shape.now) }
@@ -101,7 +101,7 @@ fn bands_of<'a>(alloc: Global, shape: &'a Shape) -> Result<Vec<RingBands<'a>>, O
     Ok(list)
 }
 
-/// Adds the rings of the polygon.
+// Adds the rings of the polygon.
 fn add_bands<'a>(
     alloc: Global,
     part: &'a Part,

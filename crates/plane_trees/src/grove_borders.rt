@@ -11,7 +11,7 @@ use crate::runs::Asked;
 use venue_types::Point;
 
 /// Whether the position is at most `t` from some edge of the rings.
-pub fn is_near_grove(asked: &Asked, grove: Grove, t: u32) -> bool
+pub(crate) fn is_near_grove(asked: &Asked, grove: Grove, t: u32) -> bool
     requires close { AllClose (asked.now.position ∷ ring_points grove.rings.now) }
     requires sound { IsSoundGrove asked.now.origin grove }
     requires measured { IsMeasured asked.now }
@@ -27,7 +27,7 @@ pub fn is_near_grove(asked: &Asked, grove: Grove, t: u32) -> bool
     }
 }
 
-/// Whether the octagon of the rings comes within `t` of the position.
+// Whether the octagon of the rings comes within `t` of the position.
 fn may_be_near_grove(asked: &Asked, grove: Grove, t: u32) -> bool
     requires sound { IsSoundGrove asked.now.origin grove }
     requires measured { IsMeasured asked.now }
@@ -41,7 +41,7 @@ fn may_be_near_grove(asked: &Asked, grove: Grove, t: u32) -> bool
 }
 
 /// Whether `p` is at most `t` from some edge of the rings, ring by ring.
-pub fn is_near_bands(p: Point, rings: &[RingBands], t: u32) -> bool
+pub(crate) fn is_near_bands(p: Point, rings: &[RingBands], t: u32) -> bool
     requires close { AllClose (p ∷ ring_points rings.now) }
     requires tolerance { t ≤ 1000000 }
     ensures { IsTrue result ↔ IsNearSome p t (ring_edges rings.now) }

@@ -12,7 +12,7 @@ use crate::runs::Asked;
 use venue_types::Point;
 
 /// Whether an odd number of the rings' edges meets the ray from the position. `closed` says that each ring is.
-pub fn is_odd_at_grove(asked: &Asked, closed: bool, grove: Grove) -> bool
+pub(crate) fn is_odd_at_grove(asked: &Asked, closed: bool, grove: Grove) -> bool
     requires close { AllClose (asked.now.position ∷ ring_points grove.rings.now) }
     requires sound { IsSoundGrove asked.now.origin grove }
     requires measured { IsMeasured asked.now }
@@ -29,7 +29,7 @@ pub fn is_odd_at_grove(asked: &Asked, closed: bool, grove: Grove) -> bool
     }
 }
 
-/// Whether the octagon shows that the number is even: the ray passes it by, or runs through all of it and the rings are closed.
+// Whether the octagon shows that the number is even: the ray passes it by, or runs through all of it and the rings are closed.
 fn is_even_at_octagon(asked: &Asked, closed: bool, grove: Grove) -> bool
     requires sound { IsSoundGrove asked.now.origin grove }
     requires measured { IsMeasured asked.now }
@@ -47,7 +47,7 @@ fn is_even_at_octagon(asked: &Asked, closed: bool, grove: Grove) -> bool
 }
 
 /// Whether an odd number of the rings' edges meets the ray from `p`, ring by ring.
-pub fn is_odd_at_bands(p: Point, rings: &[RingBands]) -> bool
+pub(crate) fn is_odd_at_bands(p: Point, rings: &[RingBands]) -> bool
     requires { AllClose (p ∷ ring_points rings.now) }
     ensures { IsTrue result ↔ (crossings p (ring_edges rings.now) % 2 ≡ 1) }
 {

@@ -10,7 +10,7 @@ use venue_types::Point;
 /// What is kept over the rings of a shape: octagons counted from the origin, how often the row of rings is halved, and whether
 /// each of them is known to be closed.
 #[derive(Drop)]
-pub struct Over {
+pub(crate) struct Over {
     pub origin: Point,
     pub closed: bool,
     pub depth: usize,
@@ -20,14 +20,14 @@ pub struct Over {
 /// Some rings. Of the octagons, the first lies round them all, the first half of the others belongs to the first half of the
 /// rings, and the second half to the second, until `depth` halvings are done.
 #[derive(Clone, Copy)]
-pub struct Grove<'a> {
+pub(crate) struct Grove<'a> {
     pub rings: &'a [RingBands<'a>],
     pub depth: usize,
     pub octagons: &'a [Octagon],
 }
 
 /// The two halves of the rings, unless they are to be looked at one by one.
-pub fn grove_halves<'a>(grove: Grove<'a>) -> Option<(Grove<'a>, Grove<'a>)>
+pub(crate) fn grove_halves<'a>(grove: Grove<'a>) -> Option<(Grove<'a>, Grove<'a>)>
     ensures { IfSome result (λ both. AreGroveHalves grove.entry both.0 both.1) }
 {
     if grove.depth == 0 {

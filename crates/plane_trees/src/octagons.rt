@@ -11,7 +11,7 @@ use venue_types::Point;
 
 /// The four coordinates of a position.
 #[derive(Clone, Copy)]
-pub struct Offset {
+pub(crate) struct Offset {
     pub x: i64,
     pub y: i64,
     pub sum: i64,
@@ -20,14 +20,14 @@ pub struct Offset {
 
 /// The least and the greatest value of one coordinate.
 #[derive(Clone, Copy)]
-pub struct Band {
+pub(crate) struct Band {
     pub least: i64,
     pub greatest: i64,
 }
 
 /// The bands of the four coordinates.
 #[derive(Clone, Copy)]
-pub struct Octagon {
+pub(crate) struct Octagon {
     pub x: Band,
     pub y: Band,
     pub sum: Band,
@@ -35,7 +35,7 @@ pub struct Octagon {
 }
 
 /// The octagon round no position.
-pub const NOTHING: Octagon = Octagon {
+pub(crate) const NOTHING: Octagon = Octagon {
     x: NO_NUMBER,
     y: NO_NUMBER,
     sum: NO_NUMBER,
@@ -48,7 +48,7 @@ const NO_NUMBER: Band = Band {
 };
 
 /// Where an octagon lies as seen from a place, toward greater longitude.
-pub enum Sight {
+pub(crate) enum Sight {
     /// The ray meets nothing in it.
     Missed,
     /// All of it lies to the east.
@@ -58,7 +58,7 @@ pub enum Sight {
 }
 
 /// The place of `q`, counted from the origin.
-pub fn offset_of(origin: Point, q: Point) -> Offset
+pub(crate) fn offset_of(origin: Point, q: Point) -> Offset
     requires { IsClose origin q }
     ensures value { IsOffset result origin q }
     ensures range { (way : Direction) → IsWithin 400000000 (kept way result) (pos 0) }
@@ -74,7 +74,7 @@ pub fn offset_of(origin: Point, q: Point) -> Offset
 }
 
 impl Band {
-    /// The band of one number.
+    // The band of one number.
     fn at(n: i64) -> Band
         ensures { IsInBand result n }
     {
@@ -84,7 +84,7 @@ impl Band {
         }
     }
 
-    /// The band round both.
+    // The band round both.
     fn with(self, other: Band) -> Band
         ensures first { (m : ℤ) → IsInBand self m → IsInBand result m }
         ensures second { (m : ℤ) → IsInBand other m → IsInBand result m }
@@ -95,7 +95,7 @@ impl Band {
         }
     }
 
-    /// Whether the band comes within `t` of `n`.
+    // Whether the band comes within `t` of `n`.
     fn is_at(self, n: i64, t: u32) -> bool
         requires number { IsWithin 400000000 n (pos 0) }
         requires tolerance { t ≤ 2000000 }
@@ -105,7 +105,7 @@ impl Band {
         self.least <= n + t && n - t <= self.greatest
     }
 
-    /// Whether the two bands have no number in common.
+    // Whether the two bands have no number in common.
     fn is_apart(self, other: Band) -> bool
         ensures { IsTrue result ↔ AreApart self other }
     {
@@ -200,7 +200,7 @@ impl Octagon {
 }
 
 /// The octagon round the line from `start` through `rest`.
-pub fn octagon_of(origin: Point, start: Point, rest: &[Point]) -> Octagon
+pub(crate) fn octagon_of(origin: Point, start: Point, rest: &[Point]) -> Octagon
     requires { AllClose (origin ∷ start ∷ rest.now) }
     ensures { IsRound result origin (start ∷ rest.now) }
 {

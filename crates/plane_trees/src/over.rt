@@ -13,11 +13,11 @@ use crate::tree_growth::depth_of;
 use std::alloc::Global;
 use venue_types::{OutOfMemory, Point};
 
-/// How many rings are looked at one by one.
+// How many rings are looked at one by one.
 const FEW: usize = 4;
 
 /// What is kept over the rings, where there are more than a few.
-pub fn over_of(alloc: Global, rings: &[RingBands]) -> Result<Option<Over>, OutOfMemory>
+pub(crate) fn over_of(alloc: Global, rings: &[RingBands]) -> Result<Option<Over>, OutOfMemory>
     requires { AllClose (ring_points rings.now) }
     ensures { IfOk result (λ over. IfSome over (λ o. IsOver rings.now o)) }
 {
@@ -30,7 +30,7 @@ pub fn over_of(alloc: Global, rings: &[RingBands]) -> Result<Option<Over>, OutOf
     }
 }
 
-/// What is kept over the rings, counted from the origin.
+// What is kept over the rings, counted from the origin.
 fn over_from(alloc: Global, origin: Point, rings: &[RingBands]) -> Result<Over, OutOfMemory>
     requires close { AllClose (ring_points rings.now) }
     requires origin { Contains (ring_points rings.now) origin }
@@ -48,7 +48,7 @@ fn over_from(alloc: Global, origin: Point, rings: &[RingBands]) -> Result<Over, 
     })
 }
 
-/// The first point of the first ring.
+// The first point of the first ring.
 fn origin_of(rings: &[RingBands]) -> Option<Point>
     ensures { IfSome result (λ q. Contains (ring_points rings.now) q) }
 {
@@ -58,7 +58,7 @@ fn origin_of(rings: &[RingBands]) -> Option<Point>
     }
 }
 
-/// Adds the octagons of the rings, counted from the origin.
+// Adds the octagons of the rings, counted from the origin.
 fn add_grove(
     origin: Point,
     rings: &[RingBands],
@@ -84,7 +84,7 @@ fn add_grove(
     Ok(octagon)
 }
 
-/// The octagon round the rings.
+// The octagon round the rings.
 fn octagon_of_rings(origin: Point, rings: &[RingBands]) -> Octagon
     requires { AllClose (origin ∷ ring_points rings.now) }
     ensures { IsRound result origin (ring_points rings.now) }

@@ -8,7 +8,7 @@ use crate::runs::{Asked, Run, halves};
 use plane_exact::near_chain;
 
 /// Whether the position is at most `t` from some edge of the run.
-pub fn is_near_run(asked: &Asked, run: Run, t: u32) -> bool
+pub(crate) fn is_near_run(asked: &Asked, run: Run, t: u32) -> bool
     requires close { AllClose (asked.now.position ∷ run_points run) }
     requires sound { IsSound asked.now.origin run }
     requires measured { IsMeasured asked.now }
@@ -24,7 +24,7 @@ pub fn is_near_run(asked: &Asked, run: Run, t: u32) -> bool
     }
 }
 
-/// Whether the run's octagon comes within `t` of the position.
+// Whether the run's octagon comes within `t` of the position.
 fn may_be_near(asked: &Asked, run: Run, t: u32) -> bool
     requires sound { IsSound asked.now.origin run }
     requires measured { IsMeasured asked.now }

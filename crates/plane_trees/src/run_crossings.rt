@@ -10,7 +10,7 @@ use plane_exact::crosses;
 use venue_types::Point;
 
 /// Whether two edges of the run cross.
-pub fn crosses_itself(origin: Point, run: Run) -> bool
+pub(crate) fn crosses_itself(origin: Point, run: Run) -> bool
     requires close { AllClose (run_points run) }
     requires sound { IsSound origin run }
     ensures { IsTrue result ↔ HaveCrossing (run_edges run.entry) }
@@ -29,7 +29,7 @@ pub fn crosses_itself(origin: Point, run: Run) -> bool
     }
 }
 
-/// Whether an edge of the one run crosses an edge of the other.
+// Whether an edge of the one run crosses an edge of the other.
 fn runs_cross(origin: Point, one: Run, other: Run) -> bool
     requires close { AllClose (run_points one ++ run_points other) }
     requires one_sound { IsSound origin one }
@@ -53,7 +53,7 @@ fn runs_cross(origin: Point, one: Run, other: Run) -> bool
     }
 }
 
-/// Whether the octagons of the two runs lie apart.
+// Whether the octagons of the two runs lie apart.
 fn lie_apart(one: Run, other: Run) -> bool
     ensures { IsTrue result → (origin : Point) → IsSound origin one.entry → IsSound origin other.entry → ¬ CrossEachOther (run_edges one.entry) (run_edges other.entry) }
 {
@@ -66,7 +66,7 @@ fn lie_apart(one: Run, other: Run) -> bool
     }
 }
 
-/// Whether an edge of the line from `start` through `rest` crosses one of the line from `other` through `more`.
+// Whether an edge of the line from `start` through `rest` crosses one of the line from `other` through `more`.
 fn lines_cross(start: Point, rest: &[Point], other: Point, more: &[Point]) -> bool
     requires { AllClose ((start ∷ rest.now) ++ (other ∷ more.now)) }
     ensures { IsTrue result ↔ CrossEachOther (edges_from start rest.now) (edges_from other more.now) }
@@ -81,7 +81,7 @@ fn lines_cross(start: Point, rest: &[Point], other: Point, more: &[Point]) -> bo
     false
 }
 
-/// Whether `ab` crosses an edge of the line from `start` through `rest`.
+// Whether `ab` crosses an edge of the line from `start` through `rest`.
 fn crosses_line(a: Point, b: Point, start: Point, rest: &[Point]) -> bool
     requires { AllClose (a ∷ b ∷ start ∷ rest.now) }
     ensures { IsTrue result ↔ CrossesSome a b (edges_from start rest.now) }

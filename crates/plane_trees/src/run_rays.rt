@@ -11,7 +11,7 @@ use plane_exact::is_odd_at_chain;
 use venue_types::Point;
 
 /// Whether an odd number of the run's edges meets the ray from the position.
-pub fn is_odd_at_run(asked: &Asked, run: Run) -> bool
+pub(crate) fn is_odd_at_run(asked: &Asked, run: Run) -> bool
     requires close { AllClose (asked.now.position ∷ run_points run) }
     requires sound { IsSound asked.now.origin run }
     requires measured { IsMeasured asked.now }
@@ -27,7 +27,7 @@ pub fn is_odd_at_run(asked: &Asked, run: Run) -> bool
     }
 }
 
-/// How the run's edges lie to the ray from the position.
+// How the run's edges lie to the ray from the position.
 fn sight(asked: &Asked, run: Run) -> Sight
     requires sound { IsSound asked.now.origin run }
     requires measured { IsMeasured asked.now }
@@ -39,7 +39,7 @@ fn sight(asked: &Asked, run: Run) -> Sight
     }
 }
 
-/// Whether one of `a` and `b` is at the height of `p` or below it, and the other above it.
+// Whether one of `a` and `b` is at the height of `p` or below it, and the other above it.
 fn is_between(p: Point, a: Point, b: Point) -> bool
     ensures { IsTrue result ↔ IsBetween p a b }
 {

@@ -12,7 +12,7 @@ use venue_types::Point;
 /// The edges from `start` through `rest`. Of the octagons, the first lies round them all, the first half of the others belongs
 /// to the first half of the edges, and the second half to the second, until `depth` halvings are done.
 #[derive(Clone, Copy)]
-pub struct Run<'a> {
+pub(crate) struct Run<'a> {
     pub start: Point,
     pub rest: &'a [Point],
     pub depth: usize,
@@ -21,7 +21,7 @@ pub struct Run<'a> {
 
 /// A position that runs are asked about, with its place counted from their origin.
 #[derive(Clone, Copy)]
-pub struct Asked {
+pub(crate) struct Asked {
     pub position: Point,
     pub origin: Point,
     pub place: Offset,
@@ -43,7 +43,7 @@ impl Asked {
 }
 
 /// The end of the line from `start` through `rest`.
-pub fn last_of(start: Point, rest: &[Point]) -> Point
+pub(crate) fn last_of(start: Point, rest: &[Point]) -> Point
     ensures { result ≡ last_from start rest.now }
 {
     match rest {
@@ -53,7 +53,7 @@ pub fn last_of(start: Point, rest: &[Point]) -> Point
 }
 
 /// The two halves of the run, unless it is to be looked at edge by edge.
-pub fn halves<'a>(run: Run<'a>) -> Option<(Run<'a>, Run<'a>)>
+pub(crate) fn halves<'a>(run: Run<'a>) -> Option<(Run<'a>, Run<'a>)>
     ensures { IfSome result (λ both. AreHalves run.entry both.0 both.1) }
 {
     if run.depth == 0 {

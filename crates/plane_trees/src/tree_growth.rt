@@ -11,11 +11,11 @@ use crate::runs::last_of;
 use std::alloc::Global;
 use venue_types::{OutOfMemory, Point};
 
-/// How many edges are left where a run is no longer halved.
+// How many edges are left where a run is no longer halved.
 const LEAF: usize = 8;
 
 /// How often a row is halved until at most `leaf` of its items are left.
-pub fn depth_of(items: usize, leaf: usize) -> usize {
+pub(crate) fn depth_of(items: usize, leaf: usize) -> usize {
     let mut depth = 0;
     let mut left = items;
     while leaf < left && 1 < left {
@@ -27,13 +27,13 @@ pub fn depth_of(items: usize, leaf: usize) -> usize {
 
 /// The octagons of a line, and how often it is halved.
 #[derive(Drop)]
-pub struct Tree {
+pub(crate) struct Tree {
     pub depth: usize,
     pub octagons: Vec<Octagon>,
 }
 
 /// The tree of the line from `start` through `rest`, counted from its start.
-pub fn tree_of(alloc: Global, start: Point, rest: &[Point]) -> Result<Tree, OutOfMemory>
+pub(crate) fn tree_of(alloc: Global, start: Point, rest: &[Point]) -> Result<Tree, OutOfMemory>
     requires { AllClose (start ∷ rest.now) }
     ensures { IfOk result (λ tree. IsTree tree.depth start tree.octagons.items start rest.now) }
 {
@@ -43,7 +43,7 @@ pub fn tree_of(alloc: Global, start: Point, rest: &[Point]) -> Result<Tree, OutO
     Ok(Tree { depth, octagons })
 }
 
-/// Adds the octagons of the line from `start` through `rest`, counted from the origin.
+// Adds the octagons of the line from `start` through `rest`, counted from the origin.
 fn add_tree(
     origin: Point,
     start: Point,

@@ -16,7 +16,7 @@ use imdf_schema::{FeatureAt, File};
 use std::alloc::Global;
 use venue_types::{Features, Finding, List, OutOfMemory};
 
-// What is wrong with the rings of some rows of a file.
+/// What is wrong with the rings of some rows of a file.
 #[tactic(auto, using(rule_reports::proofs::Beginnings::beginnings))]
 pub(crate) fn add_rows<R: HasShape>(
     alloc: Global,

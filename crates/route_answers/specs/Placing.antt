@@ -1,4 +1,4 @@
--- How places are told without a table: the code's own machinery, which no public contract cites.
+-- How places are counted without a table: the code's own machinery, which no public contract cites.
 use Rattle.std.specs.Prelude.{◌≡◌, ℕ, ◌+◌, ◌<◌, ◌≤◌, ◌==◌, ◌&&◌, List, [], ◌∷◌, take, filter, length, Bool, Option, Some, None, slice_get, slice_index_or, if◌then◌else◌}
 use Rattle.std.specs.BTreeMap.{BTreeMap, get}
 use Rattle.std.specs.List.{flat_map}

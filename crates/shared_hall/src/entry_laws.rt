@@ -1,4 +1,4 @@
-//! What a legal history says of its first entry, and of those behind it.
+//! What a legal history says of its first entry, and of those after it.
 
 ghost use Rattle.std.specs.Prelude.{◌≡◌, ◌≢◌, ◌≤◌, List, [], ◌∷◌, ◌++◌};
 ghost use Rattle.venue_build.specs.Venues.{SeenVenue as AVenue};

@@ -83,7 +83,7 @@ impl<N: HallName> PassOf<N, SideReader> {
         }
     }
 
-    // What the type keeps: the folders of a pass are those of the hall's name, and its count of faults has a bound.
+    /// What the type keeps: the folders of a pass are those of the hall's name, and its count of faults has a bound.
     pub(crate) fn pass_law(&self)
         ensures files { self.now.files ≡ N.folder_files }
         ensures faults { self.now.faults < 2 ^ 64 }

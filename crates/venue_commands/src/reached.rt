@@ -1,4 +1,4 @@
-//! What the words come to: a text that is printed, or what a hall is opened with.
+//! What the words ask for, once the folder is read: a text that is printed, or what a hall is opened with.
 
 ghost use Rattle.std.specs.Prelude.{◌≡◌, IfOk, IsErrOf, string_bytes, map};
 ghost use Rattle.venue_ports.specs.Files.{HasReadCause};

@@ -28,7 +28,7 @@ pub enum Crowding {
 }
 
 impl Crowding {
-    /// What is told of it: of the unit that is crowded; of the squares at the first unit.
+    // What is told of it: of the unit that is crowded; of the squares at the first unit.
     fn finding(self) -> Finding
         ensures { result ≡ limit_finding self }
     {

@@ -60,7 +60,7 @@ impl Rows {
         Ok(rows)
     }
 
-    // The rows by what each node names, of units each with an identifier of its own.
+    /// The rows by what each node names, of units each with an identifier of its own.
     pub(crate) fn of_named(
         alloc: Global,
         features: &Features,

@@ -79,7 +79,7 @@ impl HasNode for UnitRow {
     }
 }
 
-/// Adds the nodes of these rows.
+// Adds the nodes of these rows.
 fn add_nodes<R: HasNode>(nodes: &mut Vec<Node>, rows: &[R]) -> Result<(), OutOfMemory>
     requires { All (λ row. IsPlaced (R.row_of row)) rows.now }
     ensures { OnOk result (nodes.new.items ≡ nodes.old.items ++ map (λ row. node_of_row (R.row_of row)) rows.now) }
@@ -90,7 +90,7 @@ fn add_nodes<R: HasNode>(nodes: &mut Vec<Node>, rows: &[R]) -> Result<(), OutOfM
     Ok(())
 }
 
-/// Adds the nodes of those of the units that can be walked through.
+// Adds the nodes of those of the units that can be walked through.
 fn add_unit_nodes(nodes: &mut Vec<Node>, units: &[UnitRow]) -> Result<(), OutOfMemory>
     requires { All (λ row. IsPlaced (of_unit row)) units.now }
     ensures { OnOk result (nodes.new.items ≡ nodes.old.items ++ map (λ row. node_of_row (of_unit row)) (filter (λ (row : AUnit). is_walkable row.category) units.now)) }

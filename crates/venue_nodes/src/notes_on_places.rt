@@ -16,7 +16,7 @@ use imdf_schema::{FeatureAt, Property};
 use rule_reports::add;
 use venue_types::{Features, List, Note, OutOfMemory, Ref, RelationshipRow, Touches};
 
-/// The note on a member of the feature of this index.
+// The note on a member of the feature of this index.
 fn note_at(note: PlaceNote, index: u32, member: u32) -> Note
     ensures { result ≡ place_note note index member }
 {
@@ -27,7 +27,7 @@ fn note_at(note: PlaceNote, index: u32, member: u32) -> Note
     place.note(note.kind(), member)
 }
 
-/// At each of these references of a property.
+// At each of these references of a property.
 #[tactic(auto, using(rule_reports::proofs::Beginnings::beginnings))]
 fn note_references(
     nodes: &Nodes,
@@ -48,7 +48,7 @@ fn note_references(
     Ok(())
 }
 
-/// At the one reference of a property, if there is one.
+// At the one reference of a property, if there is one.
 fn note_reference(
     nodes: &Nodes,
     notes: &mut Vec<Note>,
@@ -65,14 +65,14 @@ fn note_reference(
     }
 }
 
-/// Whether the relationship makes a passage.
+// Whether the relationship makes a passage.
 fn makes_passage(row: &RelationshipRow) -> bool
     ensures { IsTrue result ↔ IsSome row.now.kind }
 {
     row.kind.is_some()
 }
 
-/// At each element of a relationship that makes a passage: its origin, its intermediaries, its destination.
+// At each element of a relationship that makes a passage: its origin, its intermediaries, its destination.
 #[tactic(auto, using(rule_reports::proofs::Beginnings::beginnings))]
 fn note_elements(
     nodes: &Nodes,
@@ -93,7 +93,7 @@ fn note_elements(
     note_reference(nodes, notes, index, Property::Destination, row.destination)
 }
 
-/// At each relationship.
+// At each relationship.
 #[tactic(auto, using(rule_reports::proofs::Beginnings::beginnings))]
 fn note_relationships(
     nodes: &Nodes,
@@ -111,7 +111,7 @@ fn note_relationships(
     Ok(())
 }
 
-/// At each opening, by the row of the units that it touches.
+// At each opening, by the row of the units that it touches.
 #[tactic(auto, using(rule_reports::proofs::Beginnings::beginnings))]
 fn note_openings(notes: &mut Vec<Note>, rows: &[List<u32>]) -> Result<(), OutOfMemory>
     requires { length rows.now ≤ 100000 }

@@ -1,4 +1,4 @@
-//! The command `serve`: binds, tells the address, serves at a shared hall, and tells what came of it.
+//! The command `serve`: binds, prints the address, serves at a shared hall, and prints the result.
 
 ghost use Rattle.std.specs.Prelude.{◌≡◌, ◌⊎◌, ◌≤◌, ℕ, List, ◌++◌, Option, codes, length, string_bytes, true, false, IfOk, IfSome, IfNone};
 ghost use Rattle.std.specs.Fmt.{decimal};

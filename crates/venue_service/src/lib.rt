@@ -1,4 +1,4 @@
-//! The service: connections come through doors, workers serve them at one hall, and a closing count tells what came of it.
+//! The service: connections come through doors, workers serve them at one hall, and a closing count reports the result.
 #![tactic(auto)]
 
 mod desk;

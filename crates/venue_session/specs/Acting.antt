@@ -1,4 +1,4 @@
--- Messages acted on one after the other, from the front of some bytes.
+-- Messages acted on one after the other, from the start of some bytes.
 use Rattle.std.specs.Prelude.{◌≡◌, ◌⊎◌, ℕ, ◌+◌, Bool, true, false, List, [], ◌∷◌, ◌++◌, drop, All}
 use Rattle.venue_hall.specs.Facts.{Facts}
 use Rattle.venue_wire.specs.Messages.{At}

@@ -1,4 +1,4 @@
-//! A read behind the bytes that wait.
+//! A read after the bytes that wait.
 
 ghost use Rattle.std.specs.Prelude.{ℕ, ◌<◌, List, Option, length};
 ghost use Rattle.std.specs.Io.KnownBytes.{IsAtEnd};

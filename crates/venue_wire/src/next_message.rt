@@ -1,4 +1,4 @@
-//! What stands at the front of some bytes.
+//! The message with which some bytes begin.
 
 ghost use Rattle.std.specs.Prelude.{ℕ, ◌<◌, List, IfOk, OnErr, length};
 ghost use Rattle.venue_wire.specs.Messages.{At, IsMessage, call_of, read_by};
@@ -16,7 +16,7 @@ use std::alloc::Global;
 use venue_types::OutOfMemory;
 use wire_frames::{Framed, Framing, frame};
 
-/// What a framed message asks for.
+// What a framed message asks for.
 fn message_of(alloc: Global, front: &Front, framed: &Framed<'_>) -> Result<Message, OutOfMemory>
     ensures message { IfOk result (λ message. (frame : PlainFrame) → ShowsFrame framed.now frame → IsMessage front.now frame message) }
     ensures memory { OnErr result ((frame : PlainFrame) → ShowsFrame framed.now frame

@@ -19,7 +19,7 @@ pub(crate) enum Sought<'q> {
     Several,
 }
 
-/// The values found, and one more.
+// The values found, and one more.
 fn with<'q>(found: Named<'q>, value: &'q [u8]) -> Named<'q>
     ensures { (values : List (List ℕ)) → AreValues found.entry values → AreValues result (values ++ value.now ∷ []) }
 {
@@ -29,7 +29,7 @@ fn with<'q>(found: Named<'q>, value: &'q [u8]) -> Named<'q>
     }
 }
 
-/// Whether a name of a query stands for this key.
+// Whether a name of a query stands for this key.
 fn is_named(alloc: Global, raw: &[u8], key: &str) -> Result<bool, AllocError>
     ensures { IfOk result (λ same. same ≡ bytes_eq (text_of raw.now) key.now) }
 {
@@ -37,7 +37,7 @@ fn is_named(alloc: Global, raw: &[u8], key: &str) -> Result<bool, AllocError>
     Ok(&*text == key)
 }
 
-/// The values of a key, as they stand in the query.
+// The values of a key, as they stand in the query.
 fn find_values<'q>(alloc: Global, query: &'q [u8], key: &str) -> Result<Named<'q>, AllocError>
     ensures { IfOk result (λ found. AreValues found (raw_values key.now (raw_pairs query.now))) }
 {

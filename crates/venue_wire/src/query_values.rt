@@ -13,7 +13,7 @@ use std::alloc::Global;
 use venue_types::{Ask, FeatureId, OutOfMemory, Query, Text};
 use wire_frames::Refusal;
 
-/// The version that is asked for at least, if any; none where the query isn't of its form.
+// The version that is asked for at least, if any; none where the query isn't of its form.
 fn since_of(alloc: Global, query: &[u8]) -> Result<Option<Option<u32>>, OutOfMemory>
     ensures value { IfOk result (λ since. since ≡ since_of query.now) }
     ensures memory { OnErr result (0 < length query.now) }
@@ -28,7 +28,7 @@ fn since_of(alloc: Global, query: &[u8]) -> Result<Option<Option<u32>>, OutOfMem
     }
 }
 
-/// The place at one end of a route.
+// The place at one end of a route.
 fn end_of(alloc: Global, query: &[u8], key: &str) -> Result<Option<FeatureId>, OutOfMemory>
     ensures value { IfOk result (λ place. place ≡ end_of key.now query.now) }
     ensures memory { OnErr result (0 < length query.now) }
@@ -40,7 +40,7 @@ fn end_of(alloc: Global, query: &[u8], key: &str) -> Result<Option<FeatureId>, O
     }
 }
 
-/// The profile, which may be an empty name.
+// The profile, which may be an empty name.
 #[tactic(auto, using(crate::proofs::ValueLemmas::no_values))]
 fn profile_of(alloc: Global, query: &[u8]) -> Result<Option<Text>, OutOfMemory>
     ensures value { IfOk result (λ profile. profile ≡ only_value (values_of (codes "profile") query.now)) }
@@ -91,7 +91,7 @@ fn route_asked(alloc: Global, query: &[u8]) -> Result<Option<Ask>, OutOfMemory>
     }))
 }
 
-/// The identifier in the text of a place's path.
+// The identifier in the text of a place's path.
 fn place_in(text: &str) -> &[u8]
     ensures { result.now ≡ place_in text.now }
 {

@@ -1,4 +1,4 @@
--- Where the head of a request ends: with its first empty line behind a line that isn't empty (RFC 9112, sections 2.1 and 2.2).
+-- Where the head of a request ends: with its first empty line after a line that isn't empty (RFC 9112, sections 2.1 and 2.2).
 use Rattle.std.specs.Prelude.{ℕ, ◌+◌, Bool, false, List, [], ◌∷◌, if◌then◌else◌, ◌==◌, Option, Some, None}
 use Rattle.wire_frames.specs.declared.heads.Extent.{Extent}
 

@@ -1,4 +1,4 @@
-//! What the front of some bytes comes to: more to come, a refusal, or the frame of a message.
+//! How some bytes begin: with less than a message, with a head that is refused, or with the frame of a message.
 
 ghost use Rattle.std.specs.Prelude.{◌≡◌, ◌+◌, ◌<◌, ◌≤◌, ℕ, take};
 ghost use Rattle.wire_frames.specs.declared.refusals.Refusal.{Refusal};
@@ -37,14 +37,14 @@ pub enum Framing<'b> {
     Framed(Framed<'b>),
 }
 
-/// The first `size` bytes, or all where there are fewer.
+// The first `size` bytes, or all where there are fewer.
 fn first(bytes: &[u8], size: usize) -> &[u8]
     ensures { result.now ≡ take size bytes.now }
 {
     &bytes[..size.min(bytes.len())]
 }
 
-/// What a front without the end of a head comes to.
+// What a front without the end of a head comes to.
 fn frame_endless<'b>(size: usize) -> Framing<'b>
     ensures short { size < 16384 → result ≡ Framing.More (size + 1) }
     ensures long { 16384 ≤ size → result ≡ Framing.Fault Refusal.HeadTooLarge }
@@ -56,7 +56,7 @@ fn frame_endless<'b>(size: usize) -> Framing<'b>
     }
 }
 
-/// What the front comes to whose head, of so many bytes, has these parts.
+// What the front comes to whose head, of so many bytes, has these parts.
 fn frame_body<'b>(bytes: &'b [u8], parts: &Parts<'b>, size: usize) -> Framing<'b>
     requires head { size ≤ 16384 }
     requires body { parts.now.body ≤ 65536 }

@@ -19,13 +19,13 @@ use std::alloc::{AllocError, Global};
 use venue_types::{Bytes, OutOfMemory, Reply};
 use wire_frames::{Methods, Refusal};
 
-/// More bytes than any head has.
+// More bytes than any head has.
 const HEAD_ROOM: usize = 256;
 
-/// Most bodies fit into so many bytes at once.
+// Most bodies fit into so many bytes at once.
 const BODY_ROOM: usize = 512;
 
-/// The text of a body.
+// The text of a body.
 fn body_text<T: Written>(alloc: Global, body: &T) -> Result<Vec<u8>, AllocError>
     ensures { IfOk result (λ text. text.items ≡ compact_text (T.shown body.now)) }
 {
@@ -34,7 +34,7 @@ fn body_text<T: Written>(alloc: Global, body: &T) -> Result<Vec<u8>, AllocError>
     Ok(out.into_inner())
 }
 
-/// A message around a body, in one piece of memory.
+// A message around a body, in one piece of memory.
 fn message(
     alloc: Global,
     status: HttpStatus,
@@ -92,7 +92,7 @@ pub fn reply_bytes(alloc: Global, answer: &Response, close: bool) -> Result<Byte
     Ok(Bytes::from_vec(bytes))
 }
 
-/// The text of the reply that memory ran out.
+// The text of the reply that memory ran out.
 fn wants_text(close: bool) -> &'static str
     ensures { result.now ≡ reply_text (Of WantOfMemory) close }
 {

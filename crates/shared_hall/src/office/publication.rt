@@ -1,4 +1,4 @@
-//! The next entry published behind the board that is, in two steps.
+//! The next entry published after the present board, in two steps.
 
 ghost use Rattle.std.specs.Prelude.{◌≡◌, [], ◌∷◌, ◌++◌, drop, OnOk, OnErr};
 ghost use Rattle.std.specs.Arc.{arc_value};
