@@ -8,7 +8,7 @@ use Rattle.venue_build.specs.Venues.{SeenVenue as Venue}
 use Rattle.venue_history.specs.declared.entry.Entry.{Entry}
 use Rattle.venue_history.specs.Closed.{Version}
 use Rattle.venue_history.specs.Histories.{Replays, replay, opening_of}
-use Rattle.version_board.specs.OneThread.{opening_history}
+use Rattle.venue_hall.specs.Openings.{opening_history}
 
 none_behind : (xs : List Entry) → xs ++ [] ≡ xs
 none_behind [] = refl

@@ -5,7 +5,7 @@ ghost use Rattle.std.specs.Arc.{arc_value};
 ghost use Rattle.venue_history.specs.Changes.{Changes};
 ghost use Rattle.venue_hall.specs.Facts.{IsAnswered};
 ghost use Rattle.version_board.specs.Halls.{facts_of};
-ghost use Rattle.version_board.specs.OneThread.{opening_history};
+ghost use Rattle.venue_hall.specs.Openings.{opening_history};
 
 use std::alloc::Global;
 use std::sync::Arc;

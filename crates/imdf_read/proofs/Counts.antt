@@ -9,9 +9,9 @@ use Rattle.exact_json.specs.Json.{Json}
 use Rattle.venue_types.specs.declared.files.Files.{Files}
 use Rattle.venue_types.specs.declared.files.Slot.{Slot}
 use Rattle.venue_types.specs.declared.features.Features.{Features}
-use Rattle.imdf_schema.specs.declared.files.File.{File}
-use Rattle.imdf_schema.specs.declared.files.File.TheVariants as file
-use Rattle.imdf_schema.specs.Files.{file_number, feature_files}
+use Rattle.venue_types.specs.declared.folder_file.File.{File}
+use Rattle.venue_types.specs.declared.folder_file.File.TheVariants as file
+use Rattle.venue_types.specs.FolderFiles.{file_number, feature_files}
 use Rattle.imdf_schema.specs.Contents.{IsContent, HasContent, content_items}
 use Rattle.imdf_rows.specs.Folder.{AreRows}
 use Rattle.imdf_read.specs.declared.rules.ReadingRule.TheVariants.{S1, S2}

@@ -6,7 +6,7 @@ use Rattle.std.proofs.lemmas.List.Sums.{sum_by-cons}
 use Rattle.exact_json.specs.Json.{Json, null, boolean, number, text, items, object}
 use Rattle.venue_types.specs.declared.features.Ref.{Ref}
 use Rattle.venue_types.specs.declared.features.RelationshipRow.{RelationshipRow}
-use Rattle.imdf_schema.specs.declared.files.File.TheVariants as file
+use Rattle.venue_types.specs.declared.folder_file.File.TheVariants as file
 use Rattle.imdf_schema.specs.declared.table.Property.TheVariants as property
 use Rattle.imdf_schema.specs.Values.{listed}
 use Rattle.imdf_schema.specs.Items as item

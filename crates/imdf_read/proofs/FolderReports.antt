@@ -13,9 +13,9 @@ use Rattle.venue_types.specs.declared.finding.Note.{Note}
 use Rattle.rule_reports.specs.Reports.{IsReport, IsNoteList}
 use Rattle.rule_reports.proofs.Phases.{Lists-same}
 use Rattle.rule_reports.specs.Order.{finding_cmp, note_cmp}
-use Rattle.imdf_schema.specs.declared.files.File.{File}
-use Rattle.imdf_schema.specs.declared.files.File.TheVariants as file
-use Rattle.imdf_schema.specs.Files.{file_number, feature_files}
+use Rattle.venue_types.specs.declared.folder_file.File.{File}
+use Rattle.venue_types.specs.declared.folder_file.File.TheVariants as file
+use Rattle.venue_types.specs.FolderFiles.{file_number, feature_files}
 use Rattle.imdf_schema.specs.Contents.{IsContent, content_items}
 use Rattle.imdf_rows.specs.Folder.{AreRows, AreFeatures}
 use Rattle.imdf_read.specs.declared.rules.ReadingRule.{ReadingRule}
@@ -33,7 +33,7 @@ use Rattle.imdf_schema.specs.Places.{finding_at, note_at}
 use Rattle.imdf_read.specs.Gathering.{FindsInFile}
 use Rattle.imdf_read.specs.Progress.{FoundUpTo, NotedUpTo, CountsUpTo, IsUpTo, HasRows, HaveRows}
 use Rattle.rule_reports.proofs.Adding.{Adds-then}
-use Rattle.imdf_schema.proofs.FileNumbers.{up_to_16}
+use Rattle.venue_types.proofs.FileNumbers.{up_to_16}
 use Rattle.imdf_read.proofs.Folders.{finds_at}
 
 at_most_16 : (f : File) → file_number f ≤ 16

@@ -11,10 +11,10 @@ use Rattle.rule_reports.proofs.Adding.{Below}
 use Rattle.venue_types.specs.declared.finding.Finding.{Finding}
 use Rattle.venue_types.specs.declared.finding.Note.{Note}
 use Rattle.exact_json.specs.Json.{Json}
-use Rattle.imdf_schema.specs.declared.files.File.{File}
-use Rattle.imdf_schema.specs.declared.files.Geometry.{Geometry}
-use Rattle.imdf_schema.specs.declared.files.Geometry.TheVariants as kind
-use Rattle.imdf_schema.specs.Files.{geometry_of}
+use Rattle.venue_types.specs.declared.folder_file.File.{File}
+use Rattle.venue_types.specs.declared.folder_file.Geometry.{Geometry}
+use Rattle.venue_types.specs.declared.folder_file.Geometry.TheVariants as kind
+use Rattle.venue_types.specs.FolderFiles.{geometry_of}
 use Rattle.imdf_schema.specs.Items.{is_feature, geometry, fits_geometry}
 use Rattle.imdf_rows.specs.declared.figure.Figure.{Figure}
 use Rattle.imdf_rows.specs.Figures.{HasFigure}

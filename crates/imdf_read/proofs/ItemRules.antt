@@ -5,7 +5,7 @@ use Rattle.std.proofs.lemmas.Bool.{cases_Bool}
 use Rattle.std.proofs.lemmas.Bool.Decides.{Decides-ltb}
 use Rattle.venue_types.specs.declared.finding.Finding.{Finding}
 use Rattle.exact_json.specs.Json.{Json}
-use Rattle.imdf_schema.specs.declared.files.File.{File}
+use Rattle.venue_types.specs.declared.folder_file.File.{File}
 use Rattle.imdf_schema.specs.Items.{is_feature}
 use Rattle.imdf_schema.specs.Properties.{properties}
 use Rattle.imdf_read.specs.declared.rules.ReadingRule.{ReadingRule}

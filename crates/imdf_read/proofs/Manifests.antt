@@ -4,7 +4,7 @@ use Rattle.venue_types.specs.declared.finding.Finding.{Finding}
 use Rattle.venue_types.specs.declared.files.Slot.{Slot}
 use Rattle.venue_types.specs.declared.files.Slot.TheVariants.{Absent}
 use Rattle.exact_json.specs.Json.{Json, member}
-use Rattle.imdf_schema.specs.declared.files.File.TheVariants as file
+use Rattle.venue_types.specs.declared.folder_file.File.TheVariants as file
 use Rattle.imdf_schema.specs.Values.{is_null, is_object, is_text, is_word}
 use Rattle.imdf_schema.specs.Contents.{HasValue, IsLarge, IsNoText, IsDeep}
 use Rattle.imdf_read.specs.declared.rules.ReadingRule.{ReadingRule}

@@ -4,7 +4,7 @@ use Rattle.std.specs.Prelude.{Contains}
 use Rattle.venue_types.proofs.Items.{at_member, member_at}
 use Rattle.venue_types.specs.declared.finding.Note.{Note}
 use Rattle.exact_json.specs.Json.{Json}
-use Rattle.imdf_schema.specs.declared.files.File.{File}
+use Rattle.venue_types.specs.declared.folder_file.File.{File}
 use Rattle.imdf_schema.specs.Items.{is_feature}
 use Rattle.imdf_read.specs.declared.rules.ReadingNote.{ReadingNote}
 use Rattle.imdf_read.specs.declared.rules.ReadingNote.TheVariants.{N1, N2, N5}

@@ -6,9 +6,9 @@ use Rattle.venue_types.specs.declared.files.Files.{Files}
 use Rattle.venue_types.specs.declared.files.Slot.{Slot}
 use Rattle.venue_types.specs.declared.files.Slot.TheVariants.{Absent, Held}
 use Rattle.venue_types.specs.declared.finding.Finding.{Finding}
-use Rattle.imdf_schema.specs.declared.files.File.{File}
-use Rattle.imdf_schema.specs.declared.files.File.TheVariants as file
-use Rattle.imdf_schema.specs.Files.{geometry_of}
+use Rattle.venue_types.specs.declared.folder_file.File.{File}
+use Rattle.venue_types.specs.declared.folder_file.File.TheVariants as file
+use Rattle.venue_types.specs.FolderFiles.{geometry_of}
 use Rattle.imdf_schema.specs.Items.{is_collection, is_feature, items_in, geometry, fits_geometry}
 use Rattle.imdf_schema.specs.Contents.{IsSlotOf, HasValue, HasContent, content_items}
 use Rattle.imdf_read.specs.declared.rules.ReadingRule.{ReadingRule}

@@ -11,11 +11,11 @@ use Rattle.venue_types.specs.declared.files.Files.{Files}
 use Rattle.venue_types.specs.declared.point.Point.{Point}
 use Rattle.venue_types.specs.declared.point.Shape.{Shape}
 use Rattle.geo_shapes.specs.Geometry.{HasShape}
-use Rattle.imdf_schema.specs.declared.files.File.{File}
-use Rattle.imdf_schema.specs.declared.files.File.TheVariants as file
-use Rattle.imdf_schema.specs.declared.files.Geometry.{Geometry}
-use Rattle.imdf_schema.specs.declared.files.Geometry.TheVariants as kind
-use Rattle.imdf_schema.specs.Files.{geometry_of}
+use Rattle.venue_types.specs.declared.folder_file.File.{File}
+use Rattle.venue_types.specs.declared.folder_file.File.TheVariants as file
+use Rattle.venue_types.specs.declared.folder_file.Geometry.{Geometry}
+use Rattle.venue_types.specs.declared.folder_file.Geometry.TheVariants as kind
+use Rattle.venue_types.specs.FolderFiles.{geometry_of}
 use Rattle.imdf_schema.specs.Items.{geometry}
 use Rattle.imdf_schema.specs.Contents.{content_items}
 use Rattle.imdf_rows.specs.Folder.{AreRows}

@@ -5,7 +5,7 @@ ghost use Rattle.exact_json.specs.Json.{HasTexts};
 ghost use Rattle.exact_json.specs.View.{tree_view};
 ghost use Rattle.venue_types.specs.declared.files.Slot.{Slot as ASlot};
 ghost use Rattle.venue_types.specs.declared.files.Slot.TheVariants.{Absent};
-ghost use Rattle.imdf_schema.specs.Files.{geometry_of};
+ghost use Rattle.venue_types.specs.FolderFiles.{geometry_of};
 ghost use Rattle.rule_reports.specs.Passes.{Adds};
 ghost use Rattle.imdf_schema.specs.Places.{finding_at};
 ghost use Rattle.imdf_read.specs.Rules.{rule_of};

@@ -5,7 +5,7 @@ ghost use Rattle.std.specs.List.{AllZip};
 ghost use Rattle.exact_json.specs.Json.{Json, HasTexts};
 ghost use Rattle.exact_json.specs.View.{tree_view};
 ghost use Rattle.venue_types.specs.declared.finding.Finding.{Finding as AFinding};
-ghost use Rattle.imdf_schema.specs.Files.{geometry_of};
+ghost use Rattle.venue_types.specs.FolderFiles.{geometry_of};
 ghost use Rattle.imdf_read.specs.Counts.{item_positions};
 ghost use Rattle.rule_reports.specs.Passes.{Adds};
 ghost use Rattle.imdf_read.specs.Gathering.{FindsInItem, FindsInItems, NotesInItem, NotesInItems, IsShort};

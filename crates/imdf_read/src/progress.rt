@@ -1,7 +1,7 @@
 //! One file after another.
 
 ghost use Rattle.std.specs.Prelude.{◌≡◌, ◌≢◌, ◌+◌, ℕ, OnOk, IfOk, Some, length, slice_get};
-ghost use Rattle.imdf_schema.specs.Files.{file_number, geometry_of};
+ghost use Rattle.venue_types.specs.FolderFiles.{file_number, geometry_of};
 ghost use Rattle.imdf_read.specs.Progress.{IsUpTo, HasRows};
 ghost use Rattle.imdf_read.specs.Taking.{Serves};
 

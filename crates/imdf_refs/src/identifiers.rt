@@ -3,7 +3,7 @@
 ghost use Rattle.std.specs.Prelude.{◌≡◌, ◌+◌, ◌≤◌, IfOk, OnOk, map};
 ghost use Rattle.rule_reports.specs.Passes.{Adds};
 ghost use Rattle.feature_rows.specs.Rows.{ids_of as ids_in, feature_count};
-ghost use Rattle.imdf_schema.specs.Files.{file_number};
+ghost use Rattle.venue_types.specs.FolderFiles.{file_number};
 ghost use Rattle.imdf_refs.specs.Index.{HasBefore, HasAll};
 ghost use Rattle.imdf_refs.specs.Gathering.{RepeatsIn, Repeats};
 

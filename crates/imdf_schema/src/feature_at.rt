@@ -3,9 +3,8 @@
 ghost use Rattle.std.specs.Prelude.{◌≡◌};
 ghost use Rattle.imdf_schema.specs.Places.{finding_at, note_at};
 
-use crate::files::File;
 use crate::rules::{NoteKind, Rule};
-use venue_types::{Finding, Note};
+use venue_types::{File, Finding, Note};
 
 /// A feature's file, and its index in the list of features.
 #[derive(Clone, Copy, Debug, PartialEq, Eq)]

@@ -5,7 +5,6 @@ ghost use Rattle.exact_json.specs.View.{tree_view};
 ghost use Rattle.imdf_schema.specs.Values.{seen, listed, is_null as specs_null};
 ghost use Rattle.imdf_schema.specs.Forms as specs;
 
-use crate::files::{File, file_of_type};
 use crate::texts::all_texts;
 use crate::values::{
     is_id, is_list, is_null, is_object, is_text, is_word, list, member, object, text,
@@ -13,7 +12,7 @@ use crate::values::{
 use exact_json::Tree;
 use geo_shapes::point;
 use std::alloc::Global;
-use venue_types::OutOfMemory;
+use venue_types::{File, OutOfMemory, file_of_type};
 
 /// What a property must be.
 #[derive(Clone, Copy, Debug, PartialEq, Eq)]

@@ -4,7 +4,6 @@
 
 mod feature_at;
 mod features;
-mod files;
 mod forms;
 mod rules;
 mod table;
@@ -15,10 +14,10 @@ pub use feature_at::FeatureAt;
 pub use features::{
     fits_geometry, geometry, is_collection, is_feature, items, property, unlisted_property,
 };
-pub use files::{ALL_FILES, File, Geometry, feature_files, file_numbers_law, file_of_type};
 pub use forms::{Form, fits, is_reference, item_fits, list_of, type_of};
 pub use rules::{NoteKind, Rule, rule_numbers_law};
 pub use table::{Property, PropertyRow, ReferenceTarget, properties};
 pub use values::{
     id, is_id, is_list, is_null, is_object, is_text, is_word, list, member, object, text,
 };
+pub use venue_types::{ALL_FILES, File, Geometry, feature_files, file_numbers_law, file_of_type};

@@ -17,7 +17,7 @@ use Rattle.venue_history.specs.declared.entry.Entry.{Entry}
 use Rattle.venue_history.specs.Closed.{Version}
 use Rattle.venue_history.specs.Histories.{replay, IsPublished, IsLegalFrom, KeepsTheRules, IsLegal, Replays}
 use Rattle.venue_history.specs.Versions.{opening}
-use Rattle.version_board.specs.OneThread.{opening_history}
+use Rattle.venue_hall.specs.Openings.{opening_history}
 use Rattle.shared_hall.specs.Entries.{HaveSettings}
 
 -- there is an entry

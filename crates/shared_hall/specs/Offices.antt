@@ -10,7 +10,7 @@ use Rattle.venue_ports.specs.Files.{StoredFile}
 use Rattle.venue_history.specs.declared.entry.Entry.{Entry}
 use Rattle.venue_history.specs.Histories.{IsLegal}
 use Rattle.venue_hall.specs.Facts.{Facts}
-use Rattle.version_board.specs.Making.{shelf_of}
+use Rattle.venue_state.specs.Making.{shelf_of}
 
 -- the entries of the published copy, the folders below the base where they are told, and how often they failed
 pub record OfficeFacts : Type 0 where

@@ -5,7 +5,7 @@ ghost use Rattle.std.specs.Arc.{arc_value};
 ghost use Rattle.venue_build.specs.Venues.{SeenVenue};
 ghost use Rattle.venue_history.specs.Histories.{IsLegal, IsPublished};
 ghost use Rattle.board_copies.specs.Stamps.{entries_of};
-ghost use Rattle.version_board.specs.OneThread.{opening_history};
+ghost use Rattle.venue_hall.specs.Openings.{opening_history};
 ghost use Rattle.shared_hall.specs.Entries.{HaveSettings};
 
 use crate::entry_laws::{first_law, following_law};

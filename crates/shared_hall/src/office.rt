@@ -9,7 +9,7 @@ ghost use Rattle.venue_history.specs.Replies.{told};
 ghost use Rattle.venue_history.specs.Versions.{MayFollow, after};
 ghost use Rattle.venue_ports.specs.Causes.{one_more};
 ghost use Rattle.venue_hall.specs.Facts.{IsAnswered};
-ghost use Rattle.version_board.specs.Making.{CountsFault};
+ghost use Rattle.venue_state.specs.Making.{CountsFault};
 ghost use Rattle.shared_hall.specs.Offices.{faulted};
 
 mod close;
@@ -27,9 +27,8 @@ use std::sync::ledger::{Book, Share};
 use std::sync::{Arc, Wait};
 use venue_history::{legal_law, number_law, version_law};
 use venue_ports::Folders;
-use venue_state::Prepared;
+use venue_state::{BaseFolders, Outcome, Prepared, ready_change};
 use venue_types::{Change, OutOfMemory, Query, Reply, Settings};
-use version_board::{BaseFolders, Outcome, ready_change};
 
 /// What a worker has seen, and its part of the hall's changes.
 #[derive(Drop)]
@@ -121,7 +120,7 @@ impl<N: HallName, F: Folders, W: Writes> Model for OfficeOf<N, F, W> {
     ghost use Rattle.std.specs.Prelude.{◌≡◌, ◌+◌, ◌≤◌, length};
     ghost use Rattle.std.specs.Arc.{arc_value};
     ghost use Rattle.board_copies.specs.Rules.{list_of, book_of};
-    ghost use Rattle.version_board.specs.Making.{shelf_of};
+    ghost use Rattle.venue_state.specs.Making.{shelf_of};
     ghost use Rattle.shared_hall.specs.Offices.{OfficeFacts};
 
     ghost Value = { OfficeFacts };

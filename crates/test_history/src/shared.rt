@@ -4,7 +4,7 @@ ghost use Rattle.std.specs.Prelude.{◌≡◌, ◌+◌, ◌<◌, ◌≤◌, leng
 ghost use Rattle.std.specs.Arc.{arc_value};
 ghost use Rattle.venue_history.specs.Histories.{IsLegal, Replays};
 ghost use Rattle.venue_state.specs.Preparing.{HasSettings};
-ghost use Rattle.version_board.specs.Making.{shelf_of};
+ghost use Rattle.venue_state.specs.Making.{shelf_of};
 ghost use Rattle.shared_hall.specs.Copied.{entries_in, book_in};
 ghost use Rattle.shared_hall.specs.Entries.{HaveSettings};
 ghost use Rattle.shared_hall.specs.Offices.{parts_of};

@@ -4,7 +4,7 @@ ghost use Rattle.std.specs.Prelude.{◌≡◌, ◌≤◌, length, true, IfOk};
 ghost use Rattle.std.specs.Arc.{arc_value};
 ghost use Rattle.venue_ports.specs.Doors.{doors_ready, doors_accepted, doors_binds, doors_bound, doors_faults};
 ghost use Rattle.venue_ports.specs.InMemory.{memory_files, memory_faults};
-ghost use Rattle.version_board.specs.Making.{shelf_of};
+ghost use Rattle.venue_state.specs.Making.{shelf_of};
 ghost use Rattle.shared_hall.specs.Copied.{entries_in, book_in};
 
 use shared_hall::{Copies, HallName, Opened, Seat, open_hall, opening_entries};

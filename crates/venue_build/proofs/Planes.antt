@@ -9,7 +9,7 @@ use Rattle.rule_reports.specs.Reports.{IsReport}
 use Rattle.rule_reports.specs.Order.{finding_cmp}
 use Rattle.rule_reports.proofs.Passes.{Contains-found}
 use Rattle.rule_reports.proofs.Phases.{Lists-same}
-use Rattle.imdf_schema.specs.declared.files.File.TheVariants as file
+use Rattle.venue_types.specs.declared.folder_file.File.TheVariants as file
 use Rattle.imdf_schema.specs.declared.rules.Rule.TheVariants as rule
 use Rattle.imdf_schema.specs.Places.{finding_at}
 use Rattle.imdf_schema.specs.Rules.{rule_number}

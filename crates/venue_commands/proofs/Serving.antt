@@ -4,8 +4,9 @@ use Rattle.std.specs.Arc.{arc_value}
 use Rattle.venue_folder.specs.Shelves.{Shelf}
 use Rattle.venue_ports.specs.Files.{StoredFile}
 use Rattle.venue_hall.specs.Facts.{Facts}
-use Rattle.version_board.specs.Making.{shelf_of}
-use Rattle.version_board.specs.OneThread.{one_thread, opening_history}
+use Rattle.venue_state.specs.Making.{shelf_of}
+use Rattle.version_board.specs.OneThread.{one_thread}
+use Rattle.venue_hall.specs.Openings.{opening_history}
 use Rattle.venue_build.specs.Venues.{SeenVenue as Venue}
 use Rattle.venue_session.specs.Sessions.{IsSession, HasServed}
 use Rattle.venue_session.specs.declared.ends.End.{End}

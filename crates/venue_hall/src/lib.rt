@@ -3,6 +3,8 @@
 
 mod hall;
 mod laws;
+mod unopened;
 
 pub use hall::{Asks, Hall};
 pub use laws::{answered_law, changed_law};
+pub use unopened::Unopened;

@@ -14,7 +14,7 @@ use Rattle.venue_types.specs.declared.finding.Note.{Note}
 use Rattle.venue_types.specs.declared.link.Touches.{Touches}
 use Rattle.imdf_schema.specs.declared.table.Property.{Property}
 use Rattle.imdf_schema.specs.declared.table.Property.TheVariants as property
-use Rattle.imdf_schema.specs.Files.{file_number}
+use Rattle.venue_types.specs.FolderFiles.{file_number}
 use Rattle.imdf_schema.specs.Properties.{property_number}
 use Rattle.plane_exact.specs.Opening.{AreTouches}
 use Rattle.rule_reports.specs.Passes.{found, Adds}

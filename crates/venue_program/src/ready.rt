@@ -2,7 +2,7 @@
 
 ghost use Rattle.std.specs.Prelude.{◌≡◌, ◌≤◌, length, string_bytes, IfOk};
 ghost use Rattle.std.specs.Arc.{arc_value};
-ghost use Rattle.version_board.specs.OneThread.{opening_history};
+ghost use Rattle.venue_hall.specs.Openings.{opening_history};
 ghost use Rattle.shared_hall.specs.Copied.{entries_in};
 ghost use Rattle.venue_program.specs.Services.{listening_line};
 

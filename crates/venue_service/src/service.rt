@@ -3,7 +3,7 @@
 ghost use Rattle.std.specs.Prelude.{◌≡◌, ◌⊎◌, ◌+◌, ◌<◌, ◌≤◌, length, true, false, IfSome, IfNone, IsSome, IsNone};
 ghost use Rattle.venue_types.specs.Room.{HasRoom};
 ghost use Rattle.venue_ports.specs.Causes.{Rose};
-ghost use Rattle.version_board.specs.Making.{shelf_of};
+ghost use Rattle.venue_state.specs.Making.{shelf_of};
 ghost use Rattle.shared_hall.specs.Copied.{entries_in, book_in};
 ghost use Rattle.shared_hall.specs.Offices.{parts_of, HasShelf};
 ghost use Rattle.venue_service.specs.Desks.{raised};
@@ -16,10 +16,10 @@ use std::alloc::Global;
 use std::sync::ledger::Blank;
 use std::sync::{Mutex, Wait};
 use std::thread::Threads;
+use venue_hall::Unopened;
 use venue_ports::{Doors, Folders};
 use venue_types::{Text, reserve};
 use venue_wire::Front;
-use version_board::Unopened;
 
 /// What is told of a service at its close.
 #[derive(Clone, Copy)]

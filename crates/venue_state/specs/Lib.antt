@@ -1,3 +1,4 @@
 pub mod Boards
 pub mod Preparing
 pub mod Tallies
+pub mod Making

@@ -2,8 +2,10 @@
 #![tactic(auto)]
 
 mod act_checks;
+mod base_folders;
 mod board;
 mod board_after;
+mod changes;
 mod closures;
 mod names;
 mod preparation;
@@ -14,6 +16,8 @@ mod tally;
 mod trips;
 mod unready;
 
+pub use base_folders::BaseFolders;
 pub use board::Board;
+pub use changes::{Outcome, ready_change};
 pub use prepared::Prepared;
 pub use unready::Unready;

@@ -1,3 +1,1 @@
-pub mod Readying
-pub mod Entering
 pub mod Serving

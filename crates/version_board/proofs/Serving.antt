@@ -9,8 +9,8 @@ use Rattle.venue_history.specs.declared.entry.Entry.{Entry}
 use Rattle.venue_history.specs.Closed.{Version}
 use Rattle.venue_history.specs.Histories.{Replays}
 use Rattle.venue_history.specs.Replies.{told, IsOutsideFault}
-use Rattle.version_board.specs.Making.{shelf_of, CountsFault}
-use Rattle.version_board.proofs.Entering.{begun}
+use Rattle.venue_state.specs.Making.{shelf_of, CountsFault}
+use Rattle.venue_state.proofs.Entering.{begun}
 
 none_behind : (xs : List Entry) → xs ++ [] ≡ xs
 none_behind [] = refl

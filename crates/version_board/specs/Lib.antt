@@ -1,4 +1,3 @@
 pub use Rattle.venue_hall.specs.Facts
-pub mod Making
 pub mod OneThread
 pub mod Halls

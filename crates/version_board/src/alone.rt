@@ -10,19 +10,18 @@ ghost use Rattle.venue_history.specs.Replies.{told, IsOutsideFault};
 ghost use Rattle.venue_history.specs.Versions.{MayFollow, after};
 ghost use Rattle.board_copies.specs.Stamps.{entries_of};
 ghost use Rattle.venue_hall.specs.Facts.{IsSameHall, IsChanged};
-ghost use Rattle.version_board.specs.OneThread.{one_thread, opening_history};
-ghost use Rattle.version_board.specs.Making.{shelf_of, CountsFault};
+ghost use Rattle.version_board.specs.OneThread.{one_thread};
+ghost use Rattle.venue_hall.specs.Openings.{opening_history};
+ghost use Rattle.venue_state.specs.Making.{shelf_of, CountsFault};
 
-use crate::base_folders::BaseFolders;
-use crate::changes::{Outcome, ready_change};
 use board_copies::{Held, Roll};
 use std::alloc::Global;
 use std::sync::Arc;
 use venue_build::Venue;
-use venue_hall::{Asks, Hall};
+use venue_hall::{Asks, Hall, Unopened};
 use venue_history::{change_law, number_law, version_law};
 use venue_ports::Folders;
-use venue_state::Prepared;
+use venue_state::{BaseFolders, Outcome, Prepared, ready_change};
 use venue_types::{Change, OutOfMemory, Query, Reply, Settings, Text};
 
 /// One history that one thread serves: it answers at the newest version, and whatever it makes it sees at once. Of its entries it keeps
@@ -36,12 +35,6 @@ pub struct Alone<F: Folders> {
     looks: u64,
     alloc: Global,
     ghost settings_are: { arc_value settings ≡ held.board.settings },
-}
-
-/// No hall was opened, since memory ran out. The folders come back.
-#[derive(Drop)]
-pub struct Unopened<F> {
-    pub folders: F,
 }
 
 // The board with which a venue opens a history.

@@ -2,10 +2,7 @@
 #![tactic(auto)]
 
 mod alone;
-mod base_folders;
-mod changes;
 
-pub use alone::{Alone, Unopened};
-pub use base_folders::BaseFolders;
-pub use changes::{Outcome, ready_change};
-pub use venue_hall::{Asks, Hall, answered_law, changed_law};
+pub use alone::Alone;
+pub use venue_hall::{Asks, Hall, Unopened, answered_law, changed_law};
+pub use venue_state::{BaseFolders, Outcome, ready_change};

@@ -11,7 +11,7 @@ use std::sync::ledger::Share;
 use std::sync::{Mutex, Wait};
 use venue_history::{legal_law, number_law};
 use venue_ports::Folders;
-use version_board::BaseFolders;
+use venue_state::BaseFolders;
 
 /// What a hall ends with.
 #[derive(Drop)]

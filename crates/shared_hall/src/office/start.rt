@@ -4,7 +4,7 @@ ghost use Rattle.std.specs.Prelude.{◌≡◌, ◌+◌, ◌<◌, ◌≤◌, leng
 ghost use Rattle.left_right.specs.Sides.{view};
 ghost use Rattle.board_copies.specs.Rules.{list_of, book_of, whole, Knows};
 ghost use Rattle.board_copies.specs.Stamps.{entries_of};
-ghost use Rattle.version_board.specs.Making.{shelf_of};
+ghost use Rattle.venue_state.specs.Making.{shelf_of};
 ghost use Rattle.shared_hall.specs.Copied.{entries_in, book_in};
 ghost use Rattle.shared_hall.specs.Offices.{parts_of, AreNumbered, IsNew};
 
@@ -15,10 +15,11 @@ use board_copies::{Held, SideReader, SideWriter, make_reader};
 use std::alloc::Global;
 use std::sync::Mutex;
 use std::sync::ledger::{Blank, Share};
+use venue_hall::Unopened;
 use venue_history::number_law;
 use venue_ports::Folders;
+use venue_state::BaseFolders;
 use venue_types::{OutOfMemory, Text};
-use version_board::{BaseFolders, Unopened};
 
 /// What a hall begins with.
 #[derive(Drop)]

@@ -2,7 +2,7 @@
 
 ghost use Rattle.std.specs.Prelude.{◌≡◌, ◌≤◌, length};
 ghost use Rattle.venue_ports.specs.InMemory.{stream_left, stream_written, stream_faults};
-ghost use Rattle.version_board.specs.Making.{shelf_of};
+ghost use Rattle.venue_state.specs.Making.{shelf_of};
 ghost use Rattle.shared_hall.specs.Copied.{entries_in, book_in};
 
 use super::outside::{base, folders, joined, stream, venue_of};

@@ -4,7 +4,7 @@ use Rattle.std.proofs.lemmas.Int.{ints, by_lt_z}
 use Rattle.exact_json.specs.Json.{Json}
 use Rattle.geo_decimal.specs.Value.{IsWithin}
 use Rattle.venue_types.specs.declared.features.LevelRow.{LevelRow}
-use Rattle.imdf_schema.specs.declared.files.File.TheVariants as file
+use Rattle.venue_types.specs.declared.folder_file.File.TheVariants as file
 use Rattle.imdf_rows.specs.Rows.{IsLevelRow}
 use Rattle.imdf_read.specs.declared.rules.ReadingRule.TheVariants.{L1}
 use Rattle.imdf_read.specs.Ordinals.{IsInRange}

@@ -3,7 +3,7 @@ use Rattle.std.specs.Result.{OnOk}
 use denote.Enum.Bare.{differs_true, differs_false}
 use Rattle.exact_json.specs.Json.{Json}
 use Rattle.exact_json.specs.View.{tree_view}
-use Rattle.imdf_schema.specs.contracts.files.File.{the_type}
+use Rattle.venue_types.specs.contracts.folder_file.File.{the_type}
 use Rattle.imdf_schema.specs.Forms.{Fits, items_of}
 use Rattle.imdf_schema.specs.Items.{property}
 use Rattle.imdf_schema.specs.Properties.{property_number}

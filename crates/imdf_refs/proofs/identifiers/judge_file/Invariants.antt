@@ -1,4 +1,4 @@
-use Rattle.imdf_schema.specs.Files.{file_number}
+use Rattle.venue_types.specs.FolderFiles.{file_number}
 use Rattle.rule_reports.specs.Passes.{Adds}
 use Rattle.rule_reports.proofs.Adding.{Below}
 use Rattle.imdf_refs.specs.Index.{HasBefore}

@@ -1,5 +1,5 @@
 use Rattle.std.proofs.Common.{◌+◌}
-use Rattle.imdf_schema.specs.Files.{feature_files}
+use Rattle.venue_types.specs.FolderFiles.{feature_files}
 use Rattle.rule_reports.specs.Passes.{Adds}
 use Rattle.rule_reports.proofs.Adding.{Below}
 use Rattle.imdf_refs.specs.Index.{HasBefore}

@@ -2,7 +2,7 @@ use Rattle.std.proofs.Common.{rules, ◌≡◌, [], ◌∷◌, ◌++◌, sym, ap
 use Rattle.venue_history.specs.Closed.{Version}
 use Rattle.venue_history.specs.Versions.{after}
 use Rattle.board_copies.proofs.Standing.{replays_so}
-use Rattle.version_board.proofs.Entering.{same_settings}
+use Rattle.venue_state.proofs.Entering.{same_settings}
 use Rattle.test_history.proofs.shared.entered.Goals as goal
 
 pub returns-clause-stands : goal.returns-clause-stands

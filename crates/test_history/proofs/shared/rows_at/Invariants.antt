@@ -1,5 +1,5 @@
 use Rattle.std.proofs.Common.{length, None}
-use Rattle.version_board.specs.Making.{shelf_of}
+use Rattle.venue_state.specs.Making.{shelf_of}
 use Rattle.shared_hall.specs.Copied.{entries_in, book_in}
 use Rattle.test_history.proofs.shared.rows_at.Given as goal
 

@@ -1,5 +1,5 @@
 use Rattle.std.proofs.Common.{refl}
-use Rattle.imdf_schema.specs.Files.{all_files}
+use Rattle.venue_types.specs.FolderFiles.{all_files}
 use Rattle.venue_folder.proofs.Slots.{files_held}
 use Rattle.venue_folder.proofs.folder_files.files_of.Goals as goal
 

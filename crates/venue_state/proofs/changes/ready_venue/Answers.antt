@@ -3,8 +3,8 @@ use Rattle.venue_build.specs.Built.{IsVenueOf}
 use Rattle.venue_history.specs.declared.entry.Act.TheVariants.{Published}
 use Rattle.venue_state.specs.Preparing.{IsUnready}
 use Rattle.venue_state.specs.declared.unready.Unready.TheVariants as unready
-use Rattle.version_board.proofs.Readying.{full_publication}
-use Rattle.version_board.proofs.changes.ready_venue.Goals as goal
+use Rattle.venue_state.proofs.Readying.{full_publication}
+use Rattle.venue_state.proofs.changes.ready_venue.Goals as goal
 
 pub returns-in-Err-Full-clause-outcome : goal.returns-in-Err-Full-clause-outcome
 returns-in-Err-Full-clause-outcome c shelf folder read =

@@ -16,7 +16,7 @@ use Rattle.venue_history.specs.Closed.{Version, is_closed, closed_ids}
 use Rattle.venue_history.specs.Versions.{Fits, after}
 use Rattle.venue_state.specs.Preparing.{Ready, IsReady, IsUnready, LacksFeature, IsDone}
 use Rattle.venue_state.specs.declared.unready.Unready.TheVariants as unready
-use Rattle.version_board.specs.Making.{closure_act, Brings, IsMade, Leaves}
+use Rattle.venue_state.specs.Making.{closure_act, Brings, IsMade, Leaves}
 
 -- what the law on what is closed says of identifiers
 abbrev pub ClosedIds : Type 0

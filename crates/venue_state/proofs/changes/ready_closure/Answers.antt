@@ -2,8 +2,8 @@ use Rattle.std.proofs.Common.{subst}
 use Rattle.venue_history.specs.declared.entry.Act.{Act}
 use Rattle.venue_state.specs.Preparing.{IsReady, IsUnready}
 use Rattle.venue_state.specs.declared.unready.Unready.TheVariants as unready
-use Rattle.version_board.proofs.Readying.{made_closure, due_closure}
-use Rattle.version_board.proofs.changes.ready_closure.Goals as goal
+use Rattle.venue_state.proofs.Readying.{made_closure, due_closure}
+use Rattle.venue_state.proofs.changes.ready_closure.Goals as goal
 
 pub returns-in-Ok-clause-outcome : goal.returns-in-Ok-clause-outcome
 returns-in-Ok-clause-outcome c shelf =

@@ -1,7 +1,7 @@
 use Rattle.std.proofs.Common.{subst, sym}
 use Rattle.venue_types.specs.declared.query.Change.{Change}
-use Rattle.version_board.specs.Making.{shelf_of, IsOutcome}
-use Rattle.version_board.proofs.changes.ready_change.Goals as goal
+use Rattle.venue_state.specs.Making.{shelf_of, IsOutcome}
+use Rattle.venue_state.proofs.changes.ready_change.Goals as goal
 
 pub returns-in-Closure-clause-outcome : goal.returns-in-Closure-clause-outcome
 returns-in-Closure-clause-outcome g c =

@@ -1,8 +1,8 @@
 //! The files of a folder.
 
 ghost use Rattle.std.specs.Prelude.{◌≡◌, ◌≢◌, ◌<◌, IfSome, IfNone, slice_get};
-ghost use Rattle.imdf_schema.specs.declared.files.File.{File as AFile};
-ghost use Rattle.imdf_schema.specs.Files.{file_number, file_name, type_name, geometry_of, file_among, file_of_type, all_files, feature_files};
+ghost use Rattle.venue_types.specs.declared.folder_file.File.{File as AFile};
+ghost use Rattle.venue_types.specs.FolderFiles.{file_number, file_name, type_name, geometry_of, file_among, file_of_type, all_files, feature_files};
 
 /// A file of a folder. All but the first are named for the type of their features, `address.geojson` and so on.
 #[derive(Clone, Copy, Debug, PartialEq, Eq)]
@@ -193,7 +193,7 @@ fn find(files: &[File], name: &[u8]) -> Option<File>
 }
 
 /// The file of the feature type of this name.
-#[tactic(auto, unfolding(crate::specs::Files::file_of_type))]
+#[tactic(auto, unfolding(crate::specs::FolderFiles::file_of_type))]
 pub fn file_of_type(name: &[u8]) -> Option<File>
     ensures { result ≡ file_of_type name.now }
 {

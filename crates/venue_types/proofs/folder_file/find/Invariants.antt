@@ -1,6 +1,6 @@
 use Rattle.std.proofs.Common.{◌≡◌, drop}
-use Rattle.imdf_schema.specs.Files.{file_among}
-use Rattle.imdf_schema.proofs.files.find.Given as goal
+use Rattle.venue_types.specs.FolderFiles.{file_among}
+use Rattle.venue_types.proofs.folder_file.find.Given as goal
 
 -- the files before are of other types
 abbrev pub invariant-loop-file : goal.invariant-loop-file

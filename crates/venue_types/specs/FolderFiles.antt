@@ -1,10 +1,10 @@
 -- The files of a folder: their numbers, their feature types, and the geometry of their features (IMDF 1.0.0, section "Archive").
 use Rattle.std.specs.Prelude.{ℕ, List, [], ◌∷◌, ◌++◌, Option, Some, None, if◌then◌else◌, codes}
 use Rattle.std.specs.Str.{bytes_eq}
-use Rattle.imdf_schema.specs.declared.files.File.{File}
-use Rattle.imdf_schema.specs.declared.files.File.TheVariants as file
-use Rattle.imdf_schema.specs.declared.files.Geometry.{Geometry}
-use Rattle.imdf_schema.specs.declared.files.Geometry.TheVariants as geometry
+use Rattle.venue_types.specs.declared.folder_file.File.{File}
+use Rattle.venue_types.specs.declared.folder_file.File.TheVariants as file
+use Rattle.venue_types.specs.declared.folder_file.Geometry.{Geometry}
+use Rattle.venue_types.specs.declared.folder_file.Geometry.TheVariants as geometry
 
 -- the number of a file
 abbrev pub file_number : File → ℕ

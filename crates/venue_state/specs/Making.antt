@@ -18,8 +18,8 @@ use Rattle.venue_history.specs.Changes.{AreRead, IsActOf, TellsOf, Refuses}
 use Rattle.venue_history.specs.Closed.{Version}
 use Rattle.venue_history.specs.Versions.{MayFollow, after}
 use Rattle.venue_state.specs.Preparing.{Ready}
-use Rattle.version_board.specs.declared.changes.Outcome.{Outcome}
-use Rattle.version_board.specs.declared.changes.Outcome.TheVariants as outcome
+use Rattle.venue_state.specs.declared.changes.Outcome.{Outcome}
+use Rattle.venue_state.specs.declared.changes.Outcome.TheVariants as outcome
 
 -- the folders below a base as a shelf, where they are told
 abbrev pub shelf_of : Option (List StoredFile) → List ℕ → Option Shelf

@@ -1,6 +1,6 @@
 use Rattle.std.proofs.Common.{ℕ, subst, sym}
-use Rattle.version_board.specs.Making.{CountsOutcome}
-use Rattle.version_board.proofs.changes.ready_folder.Goals as goal
+use Rattle.venue_state.specs.Making.{CountsOutcome}
+use Rattle.venue_state.proofs.changes.ready_folder.Goals as goal
 
 pub returns-in-Ok-clause-counts : goal.returns-in-Ok-clause-counts
 returns-in-Ok-clause-counts g c =

@@ -14,7 +14,7 @@ use Rattle.venue_history.specs.Closed.{Version}
 use Rattle.venue_history.specs.Histories.{Replays}
 use Rattle.venue_history.specs.Versions.{after}
 use Rattle.venue_state.specs.Preparing.{Ready}
-use Rattle.version_board.specs.Making.{Brings, IsMade, Leaves, CountsFault}
+use Rattle.venue_state.specs.Making.{Brings, IsMade, Leaves, CountsFault}
 
 -- the files that were read show which act comes of the change
 act_of : (shelf : Option Shelf) (v : Version) (asked : Change) (done : Act) (files : Option Files) → Brings shelf v asked done files → IsActOf shelf v asked done

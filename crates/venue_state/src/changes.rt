@@ -7,15 +7,17 @@ ghost use Rattle.venue_nodes.specs.Nodes.{closables};
 ghost use Rattle.venue_build.specs.Built.{IsVenueOf};
 ghost use Rattle.venue_folder.specs.Shelves.{Shelf};
 ghost use Rattle.venue_history.specs.Changes.{AreRead};
-ghost use Rattle.version_board.specs.Making.{shelf_of, closure_act, IsOutcome, CountsOutcome, IsUnread, IsUnmade};
+ghost use Rattle.venue_state.specs.Making.{shelf_of, closure_act, IsOutcome, CountsOutcome, IsUnread, IsUnmade};
 
 use crate::base_folders::BaseFolders;
+use crate::board::Board;
+use crate::prepared::Prepared;
+use crate::unready::Unready;
 use std::alloc::Global;
 use std::sync::Arc;
 use venue_build::{Built, Venue, build};
 use venue_history::{Act, closed_law};
 use venue_ports::{Folders, ReadFault};
-use venue_state::{Board, Prepared, Unready};
 use venue_types::{Change, FeatureId, Files, List, OutOfMemory, Reply, Settings, Text};
 
 /// What becomes of a change.
