@@ -1,7 +1,7 @@
 //! The rule of the book into which every list is written that somebody means to publish.
 
 use logbook::{Gain, Play, Rule};
-use venue_history::Entry;
+use venue_state::Entry;
 
 /// A list that somebody meant to publish. No value of it is made.
 pub struct Tried {

@@ -2,17 +2,15 @@
 
 ghost use Rattle.std.specs.Prelude.{◌≡◌, [], ◌∷◌, IfOk};
 ghost use Rattle.std.specs.Arc.{arc_value};
-ghost use Rattle.venue_history.specs.declared.entry.Act.TheVariants.{Published};
-ghost use Rattle.venue_history.specs.Versions.{opening};
+ghost use Rattle.venue_state.specs.Act.TheVariants.{Published};
+ghost use Rattle.venue_state.specs.Versions.{opening};
 ghost use Rattle.board_copies.specs.Stamps.{entries_of};
 
 use crate::held::Held;
 use crate::roll::Roll;
 use std::alloc::Global;
 use std::sync::Arc;
-use venue_build::{Venue, every_venue};
-use venue_history::{Act, Entry};
-use venue_state::Board;
+use venue_state::{Act, Board, Entry, Venue, every_venue};
 use venue_types::{OutOfMemory, Settings};
 
 impl Held {

@@ -1,13 +1,12 @@
 //! The next board, brought together with the stamp of its entries.
 
 ghost use Rattle.std.specs.Prelude.{◌≡◌, ◌≢◌, ◌≤◌, ◌^◌, ◌⊎◌, [], ◌∷◌, ◌++◌, length, IfOk, OnErr};
-ghost use Rattle.venue_history.specs.Versions.{MayFollow, after};
+ghost use Rattle.venue_state.specs.Versions.{MayFollow, after};
 ghost use Rattle.board_copies.specs.Stamps.{entries_of};
 
 use crate::held::Held;
 use crate::roll::Roll;
-use venue_history::entry_law;
-use venue_state::Prepared;
+use venue_state::{Prepared, entry_law};
 use venue_types::OutOfMemory;
 
 impl Held {

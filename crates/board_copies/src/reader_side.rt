@@ -12,7 +12,7 @@ use crate::rule::{Seeing, SideReader};
 use crate::seen::Seen;
 use core::mem::replace_with;
 use std::alloc::Global;
-use venue_history::number_law;
+use venue_state::number_law;
 use venue_types::Query;
 
 // The number of a board, and its answer.

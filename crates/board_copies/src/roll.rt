@@ -6,7 +6,7 @@ ghost use Rattle.board_copies.specs.Lists.{head_of};
 use crate::counter::{Adding, Counting, Nothing, Tried};
 use crate::stamp::Stamp;
 use logbook::{Offer, Plain, Seen, Start, Word};
-use venue_history::Entry;
+use venue_state::Entry;
 
 /// The book, with all that was written into it. It has room for 2^62 lists, and keeps none of them.
 #[derive(Drop)]

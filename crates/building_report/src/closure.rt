@@ -3,8 +3,8 @@
 ghost use Rattle.std.specs.Prelude.{◌≡◌, ◌≢◌, ◌≤◌, ◌<◌, IfOk, true, length};
 ghost use Rattle.venue_types.specs.declared.query.Change.TheVariants.{Closure as AClosure};
 ghost use Rattle.venue_types.specs.declared.reply.Reply.TheVariants as told;
-ghost use Rattle.venue_history.specs.Closed.{Version};
-ghost use Rattle.venue_history.specs.Histories.{Replays};
+ghost use Rattle.version_board.specs.Closed.{Version};
+ghost use Rattle.version_board.specs.Histories.{Replays};
 ghost use Rattle.version_board.specs.Halls.{facts_of};
 ghost use Rattle.building_report.specs.BuildingReports.{IsBehindClosing};
 ghost use Rattle.building_report.specs.Costs.{IsBehindChange};
@@ -12,8 +12,8 @@ ghost use Rattle.building_report.specs.Costs.{IsBehindChange};
 use crate::hall::{OwnHall, changed};
 use crate::ways::named;
 use std::alloc::Global;
-use venue_history::entry_law;
 use venue_types::{Change, FeatureId, OutOfMemory, Reply};
+use version_board::entry_law;
 
 // Whether a reply tells that memory ran out.
 fn judged(reply: &Reply) -> Result<(), OutOfMemory>

@@ -10,3 +10,4 @@ mod summary_text;
 mod ways;
 
 pub use report::{Told, tell_building};
+pub use version_board::{Alone, Unopened};

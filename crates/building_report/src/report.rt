@@ -9,8 +9,8 @@ use check_text::rejected_text;
 use gen_text::gen_files;
 use std::alloc::Global;
 use std::sync::Arc;
-use venue_build::{Built, Venue, build};
 use venue_types::{OutOfMemory, Settings};
+use version_board::{Built, Venue, build};
 
 /// The lines that tell of a building, and whether its folder is accepted.
 #[derive(Drop)]

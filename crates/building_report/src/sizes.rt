@@ -4,14 +4,14 @@ ghost use Rattle.std.specs.Prelude.{◌≡◌, ◌++◌, IfOk, codes, length, st
 ghost use Rattle.std.specs.Fmt.{decimal};
 ghost use Rattle.feature_rows.specs.Rows.{feature_count};
 ghost use Rattle.line_forms.specs.Lines.{line};
-ghost use Rattle.link_graph.specs.Links.{links};
-ghost use Rattle.venue_nodes.specs.Nodes.{nodes};
+ghost use Rattle.version_board.specs.Links.{links};
+ghost use Rattle.version_board.specs.Nodes.{nodes};
 ghost use Rattle.building_report.specs.Costs.{size_lines};
 
 use feature_rows::feature_count;
 use std::alloc::{AllocError, Global};
-use venue_build::{Venue, every_venue};
 use venue_types::OutOfMemory;
+use version_board::{Venue, every_venue};
 
 fn features_of(venue: &Venue) -> usize
     ensures { result ≡ feature_count venue.now.features }

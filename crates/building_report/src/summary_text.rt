@@ -2,8 +2,8 @@
 
 ghost use Rattle.std.specs.Prelude.{◌≡◌, ◌≤◌, ◌<◌, IfOk, length, string_bytes};
 ghost use Rattle.std.specs.Arc.{arc_value};
-ghost use Rattle.venue_history.specs.Closed.{Version};
-ghost use Rattle.venue_history.specs.Histories.{Replays};
+ghost use Rattle.version_board.specs.Closed.{Version};
+ghost use Rattle.version_board.specs.Histories.{Replays};
 ghost use Rattle.version_board.specs.Halls.{facts_of};
 ghost use Rattle.building_report.specs.BuildingReports.{IsSummary};
 ghost use Rattle.building_report.specs.Costs.{AreBothLines, AreLaterLines, AreActLines};
@@ -15,10 +15,8 @@ use crate::ways::way_line;
 use gen_text::{lift_number, room_number};
 use std::alloc::Global;
 use std::sync::Arc;
-use venue_build::Venue;
-use venue_history::{legal_law, number_law};
 use venue_types::{OutOfMemory, Settings};
-use version_board::Asks;
+use version_board::{Asks, Venue, legal_law, number_law};
 
 // The lines of a wheelchair's way and that on foot, at what is seen.
 fn both_lines(

@@ -1,9 +1,9 @@
 //! From the features of a folder to its graph.
 
 ghost use Rattle.std.specs.Prelude.{IfOk, IfErr, None};
-ghost use Rattle.feature_rows.specs.Figures.{judged_positions};
-ghost use Rattle.feature_rows.specs.Rows.{HaveOwnIds};
-ghost use Rattle.feature_rows.specs.Sound.{AreSound};
+ghost use Rattle.venue_nodes.specs.Figures.{judged_positions};
+ghost use Rattle.venue_nodes.specs.FeatureRowsRows.{HaveOwnIds};
+ghost use Rattle.venue_nodes.specs.Sound.{AreSound};
 ghost use Rattle.plane_exact.specs.Figure.{AllClose};
 ghost use Rattle.plane_exact.specs.Opening.{AreTouches};
 ghost use Rattle.venue_nodes.specs.Crowds.{Crowds};

@@ -1,9 +1,9 @@
 //! From the nodes and the rows of members to what a graph keeps.
 
 ghost use Rattle.std.specs.Prelude.{IfOk, None};
-ghost use Rattle.feature_rows.specs.Figures.{judged_positions};
-ghost use Rattle.feature_rows.specs.Rows.{HaveOwnIds};
-ghost use Rattle.feature_rows.specs.Sound.{AreSound};
+ghost use Rattle.venue_nodes.specs.Figures.{judged_positions};
+ghost use Rattle.venue_nodes.specs.FeatureRowsRows.{HaveOwnIds};
+ghost use Rattle.venue_nodes.specs.Sound.{AreSound};
 ghost use Rattle.plane_exact.specs.Figure.{AllClose};
 ghost use Rattle.venue_nodes.specs.Crowds.{Crowds};
 ghost use Rattle.venue_nodes.specs.Rows.{AreRowsOf};

@@ -5,3 +5,4 @@ pub mod Places
 pub mod Passing
 pub mod Adding
 pub mod Placing
+pub use Rattle.venue_nodes.specs.Nodes

@@ -11,8 +11,8 @@ ghost use Rattle.route_answers.specs.Places.{AreFirstPlaces};
 ghost use Rattle.route_answers.specs.Tables.{row_of, table_of};
 ghost use Rattle.route_answers.specs.Claims.{AreAllowed, IsOverAllowed, IsTold};
 
+use crate::places::row_places;
 use link_graph::Graph;
-use route_answers::row_places;
 use route_certificate::Claim;
 use route_search::Found;
 use std::alloc::Global;

@@ -17,3 +17,4 @@ mod tables;
 pub use answers::route_answer;
 pub use places::row_places;
 pub use tables::allowed_table;
+pub use venue_nodes::number_law;

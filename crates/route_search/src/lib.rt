@@ -19,4 +19,5 @@ mod trails;
 mod ways;
 
 pub use found::Found;
+pub use link_graph::{Graph, Marks, passable_law};
 pub use search::least;

@@ -15,3 +15,4 @@ pub use entry_laws::{first_law, following_law};
 pub use name::HallName;
 pub use office::{Closed, Office, OfficeOf, Opened, Pass, PassOf, close_hall, open_hall};
 pub use seat::{Seat, SeatIn};
+pub use venue_hall::Unopened;

@@ -2,14 +2,14 @@
 
 ghost use Rattle.std.specs.Prelude.{◌≡◌, ◌+◌, ◌^◌, ◌<◌, ◌≤◌, [], ◌∷◌, ◌++◌, length, OnOk, OnErr};
 ghost use mathlib.Core.List.{IsPrefix};
-ghost use Rattle.venue_history.specs.Changes.{Changes};
-ghost use Rattle.venue_history.specs.Closed.{Version};
-ghost use Rattle.venue_history.specs.Histories.{IsLegal, Replays};
-ghost use Rattle.venue_history.specs.Replies.{told};
-ghost use Rattle.venue_history.specs.Versions.{MayFollow, after};
+ghost use Rattle.venue_hall.specs.Changes.{Changes};
+ghost use Rattle.venue_hall.specs.Closed.{Version};
+ghost use Rattle.venue_hall.specs.Histories.{IsLegal, Replays};
+ghost use Rattle.venue_hall.specs.Replies.{told};
+ghost use Rattle.venue_hall.specs.Versions.{MayFollow, after};
 ghost use Rattle.venue_ports.specs.Causes.{one_more};
 ghost use Rattle.venue_hall.specs.Facts.{IsAnswered};
-ghost use Rattle.venue_state.specs.Making.{CountsFault};
+ghost use Rattle.board_copies.specs.Making.{CountsFault};
 ghost use Rattle.shared_hall.specs.Offices.{faulted};
 
 mod close;
@@ -17,7 +17,10 @@ mod publication;
 mod start;
 
 use crate::name::HallName;
-use board_copies::{Keeper, Reads, Roll, SideReader, Writes, meet_in, read_in, wait_for_ever};
+use board_copies::{
+    BaseFolders, Keeper, Outcome, Prepared, Reads, Roll, SideReader, Writes, meet_in, read_in,
+    ready_change, wait_for_ever,
+};
 pub use close::{Closed, close_hall};
 use publication::publish_entry;
 pub use start::{Opened, open_hall};
@@ -25,9 +28,8 @@ use std::alloc::Global;
 use std::marker::Model;
 use std::sync::ledger::{Book, Share};
 use std::sync::{Arc, Wait};
-use venue_history::{legal_law, number_law, version_law};
+use venue_hall::{legal_law, number_law, version_law};
 use venue_ports::Folders;
-use venue_state::{BaseFolders, Outcome, Prepared, ready_change};
 use venue_types::{Change, OutOfMemory, Query, Reply, Settings};
 
 /// What a worker has seen, and its part of the hall's changes.
@@ -46,7 +48,7 @@ pub type Pass<N> = PassOf<N, SideReader>;
 
 impl<N: HallName, Q: Reads> Model for PassOf<N, Q> {
     ghost use Rattle.std.specs.Prelude.{◌≡◌, ◌<◌, ◌≤◌, length, true};
-    ghost use Rattle.venue_history.specs.Histories.{IsLegal};
+    ghost use Rattle.venue_hall.specs.Histories.{IsLegal};
     ghost use Rattle.board_copies.specs.Rules.{known};
     ghost use Rattle.venue_hall.specs.Facts.{Facts};
 
@@ -120,7 +122,7 @@ impl<N: HallName, F: Folders, W: Writes> Model for OfficeOf<N, F, W> {
     ghost use Rattle.std.specs.Prelude.{◌≡◌, ◌+◌, ◌≤◌, length};
     ghost use Rattle.std.specs.Arc.{arc_value};
     ghost use Rattle.board_copies.specs.Rules.{list_of, book_of};
-    ghost use Rattle.venue_state.specs.Making.{shelf_of};
+    ghost use Rattle.board_copies.specs.Making.{shelf_of};
     ghost use Rattle.shared_hall.specs.Offices.{OfficeFacts};
 
     ghost Value = { OfficeFacts };

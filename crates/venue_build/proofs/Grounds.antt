@@ -8,7 +8,7 @@ use Rattle.rule_reports.specs.Reports.{IsReport}
 use Rattle.rule_reports.proofs.Phases.{First-stops, First-goes_on}
 use Rattle.imdf_refs.specs.Rules.{IsMisnamed}
 use Rattle.ring_rules.specs.Rules.{IsSpread}
-use Rattle.venue_nodes.specs.Limits.{BreaksLimit}
+use Rattle.link_graph.specs.Limits.{BreaksLimit}
 use Rattle.venue_build.specs.Phases.{IsPlaneBroken, IsGroundBroken}
 use Rattle.venue_build.specs.Report.{IsLaterBroken}
 use Rattle.venue_build.proofs.Phases.{nothing}

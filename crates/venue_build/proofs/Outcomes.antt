@@ -11,7 +11,7 @@ use Rattle.rule_reports.specs.Reports.{IsReport, IsNoteList, Shortens, IsShortRe
 use Rattle.rule_reports.proofs.Phases.{Lists-same, same_short}
 use Rattle.rule_reports.proofs.Orders.{findings_total, notes_total}
 use Rattle.rule_reports.proofs.Unique.{one_list}
-use Rattle.imdf_rows.specs.Folder.{AreFeatures}
+use Rattle.imdf_read.specs.Folder.{AreFeatures}
 use Rattle.imdf_read.specs.Broken.{IsBroken}
 use Rattle.venue_build.specs.Report.{IsWrong, IsLaterBroken, IsVenueNoted}
 use Rattle.venue_build.specs.Built.{IsRejected, IsVenueOf}

@@ -11,7 +11,7 @@ use Rattle.venue_types.specs.declared.finding.Report.{Report}
 use Rattle.rule_reports.specs.Order.{finding_cmp}
 use Rattle.rule_reports.specs.Reports.{IsReport, First, Shortens}
 use Rattle.rule_reports.proofs.Phases.{First-stops, First-goes_on}
-use Rattle.imdf_rows.specs.Folder.{AreFeatures}
+use Rattle.imdf_read.specs.Folder.{AreFeatures}
 use Rattle.imdf_read.specs.Broken.{IsBroken}
 use Rattle.venue_build.specs.Report.{IsLaterBroken}
 use Rattle.venue_build.specs.Built.{IsRejected}

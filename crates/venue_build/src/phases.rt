@@ -1,9 +1,9 @@
 //! One phase of rules after another.
 
 ghost use Rattle.std.specs.Prelude.{◌≡◌, ◌⊎◌, IfOk, Contains, length};
-ghost use Rattle.feature_rows.specs.Sound.{AreSound};
+ghost use Rattle.imdf_read.specs.Sound.{AreSound};
 ghost use Rattle.rule_reports.specs.Reports.{IsNoteList};
-ghost use Rattle.venue_nodes.specs.Unplaced.{IsUnplaced};
+ghost use Rattle.link_graph.specs.Unplaced.{IsUnplaced};
 ghost use Rattle.venue_build.specs.Ground.{IsGround, IsJudged, IsLaterBuilt};
 ghost use Rattle.link_graph.specs.Graphs.{network};
 ghost use Rattle.link_graph.specs.Networks.{IsNetworkOf};
@@ -16,11 +16,10 @@ use crate::plane::plane_findings;
 use crate::{Built, Venue};
 use imdf_read::{ReadOut, read_folder, sound_reading_law};
 use imdf_refs::{own_ids_law, reference_findings};
-use link_graph::Graph;
+use link_graph::{Graph, first_crowding, limit_findings, place_notes};
 use ring_rules::no_spread_law;
 use rule_reports::{notes_in_order, shortened};
 use std::alloc::Global;
-use venue_nodes::{first_crowding, limit_findings, place_notes};
 use venue_types::{Features, Files, List, Note, OutOfMemory, Settings};
 
 // What the phases after the first make of rows.

@@ -1,16 +1,16 @@
 //! What is kept of the places of a venue.
 
 ghost use Rattle.std.specs.Prelude.{◌≡◌, ◌<◌, ◌≤◌, IfOk, Some, map, filter, length, slice_get};
-ghost use Rattle.feature_rows.specs.Sound.{AreSound};
-ghost use Rattle.venue_nodes.specs.Nodes.{walkable_units};
+ghost use Rattle.imdf_read.specs.Sound.{AreSound};
+ghost use Rattle.link_graph.specs.Nodes.{walkable_units};
 ghost use Rattle.venue_build.specs.PlaceFeatures.{feature_place};
 ghost use Rattle.venue_build.specs.Places.{places};
 ghost use Rattle.venue_build.specs.Placing.{ArePlaces, can_walk, place_id, place_ordinal, walkable_indexes};
 
 use crate::ordinals::Ordinals;
 use crate::place_feature::PlaceFeature;
-use feature_rows::Index;
 use imdf_access::walkable;
+use imdf_read::Index;
 use rule_reports::add;
 use std::alloc::Global;
 use venue_types::{FeatureId, Features, OutOfMemory, UnitRow};

@@ -2,12 +2,12 @@
 
 ghost use Rattle.std.specs.Prelude.{IfOk};
 ghost use Rattle.rule_reports.specs.Reports.{IsReport};
-ghost use Rattle.feature_rows.specs.Rows.{HaveOwnIds};
-ghost use Rattle.feature_rows.specs.Sound.{AreSound};
+ghost use Rattle.imdf_read.specs.Rows.{HaveOwnIds};
+ghost use Rattle.imdf_read.specs.Sound.{AreSound};
 ghost use Rattle.venue_build.specs.Phases.{IsPlaneBroken};
 
 use contain_rules::add_hold_findings;
-use imdf_schema::{FeatureAt, File, Rule};
+use imdf_read::{FeatureAt, File, Rule};
 use ring_rules::{add_ring_findings, is_spread};
 use rule_reports::in_order;
 use std::alloc::Global;

@@ -6,7 +6,7 @@ use Rattle.line_forms.specs.Lines.{line}
 use Rattle.feature_rows.specs.Rows.{feature_count}
 use Rattle.route_certificate.specs.Forms.{table_text}
 use Rattle.route_answers.specs.Tables.{table_of}
-use Rattle.venue_build.specs.Venues.{SeenVenue as Venue}
+use Rattle.venue_session.specs.Venues.{SeenVenue as Venue}
 use Rattle.check_text.specs.Text.{accepted_text}
 use Rattle.venue_ports.specs.Files.{StoredFile}
 use Rattle.venue_ports.specs.declared.folders.ReadFault.{ReadFault}

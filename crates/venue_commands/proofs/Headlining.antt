@@ -3,9 +3,9 @@ use Rattle.std.proofs.Common.{◌≡◌, ◌⊎◌, ℕ, List, [], ◌∷◌, �
 use Rattle.std.specs.Prelude.{IfSome}
 use Rattle.std.specs.Io.KnownBytes.{Appends, Consumes}
 use Rattle.venue_ports.specs.Files.{StoredFile}
-use Rattle.venue_hall.specs.Facts.{Facts}
-use Rattle.venue_state.specs.Making.{shelf_of}
-use Rattle.venue_hall.specs.Openings.{opening_history}
+use Rattle.venue_session.specs.Facts.{Facts}
+use Rattle.building_report.specs.Making.{shelf_of}
+use Rattle.venue_session.specs.Openings.{opening_history}
 use Rattle.venue_session.specs.Ends.{Measured, Ended, refused_text, Run as Done_so_far}
 use Rattle.venue_session.specs.Sessions.{IsSession}
 use Rattle.venue_session.specs.declared.ends.End.{End}

@@ -2,7 +2,7 @@
 use Rattle.std.proofs.Common.{◌≡◌, ℕ, List, Option, Some, None, Result, Ok, Err, sym, subst}
 use Rattle.std.specs.Prelude.{IfOk, IfSome}
 use Rattle.std.specs.Arc.{arc_value}
-use Rattle.venue_build.specs.Venues.{SeenVenue as Venue}
+use Rattle.venue_session.specs.Venues.{SeenVenue as Venue}
 use Rattle.venue_ports.specs.Files.{StoredFile}
 use Rattle.venue_ports.specs.declared.folders.ReadFault.{ReadFault}
 use Rattle.venue_commands.specs.declared.printout.Printout.{Printout}

@@ -4,10 +4,10 @@ use Rattle.std.specs.Prelude.{IfOk, IfSome}
 use Rattle.venue_types.specs.declared.feature_id.FeatureId.{FeatureId}
 use Rattle.venue_types.specs.declared.settings.Profile.{Profile}
 use Rattle.venue_types.specs.declared.features.Features.{Features}
-use Rattle.venue_nodes.specs.Nodes.{nodes, place_of}
+use Rattle.route_answers.specs.Nodes.{nodes, place_of}
 use Rattle.line_forms.specs.Lines.{line}
 use Rattle.route_certificate.specs.Answers.{answer_text}
-use Rattle.venue_build.specs.Venues.{SeenVenue as Venue}
+use Rattle.venue_session.specs.Venues.{SeenVenue as Venue}
 use Rattle.venue_ports.specs.Files.{StoredFile}
 use Rattle.venue_ports.specs.declared.folders.ReadFault.{ReadFault}
 use Rattle.venue_commands.specs.declared.printout.Printout.{Printout}

@@ -4,7 +4,7 @@ use Rattle.std.specs.Prelude.{◌≤◌, IfOk, IfErr, IfSome, String, string_byt
 use Rattle.std.specs.declared.alloc.Global.{Global}
 use Rattle.venue_types.specs.declared.files.Files.{Files}
 use Rattle.venue_types.specs.declared.settings.Settings.{Settings}
-use Rattle.venue_build.specs.Built.{IsVenueOf}
+use Rattle.venue_session.specs.Built.{IsVenueOf}
 use Rattle.check_text.specs.Text.{rejected_text}
 use Rattle.venue_ports.specs.Files.{StoredFile, file_at, HasReadCause}
 use Rattle.venue_ports.specs.declared.folders.ReadFault.{ReadFault}

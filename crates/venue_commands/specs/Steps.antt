@@ -9,14 +9,14 @@ use Rattle.venue_types.specs.declared.settings.Profile.{Profile}
 use Rattle.venue_types.specs.declared.settings.Settings.{Settings}
 use Rattle.venue_ports.specs.Files.{StoredFile}
 use Rattle.line_forms.specs.Lines.{line}
-use Rattle.venue_nodes.specs.Nodes.{place_of}
+use Rattle.route_answers.specs.Nodes.{place_of}
 use Rattle.route_certificate.specs.declared.answer.AnswerIn.{AnswerIn}
 use Rattle.route_certificate.specs.Answers.{answer_text}
 use Rattle.route_certificate.specs.Forms.{table_text, FitsTable}
 use Rattle.route_answers.specs.Tables.{table_of}
 use Rattle.route_answers.specs.RouteAnswers.{IsRouteAnswer}
-use Rattle.venue_build.specs.Venues.{SeenVenue as Venue}
-use Rattle.venue_build.specs.Built.{IsRejected, IsVenueOf}
+use Rattle.venue_session.specs.Venues.{SeenVenue as Venue}
+use Rattle.venue_session.specs.Built.{IsRejected, IsVenueOf}
 use Rattle.check_text.specs.Text.{rejected_text}
 use Rattle.venue_commands.specs.declared.load.Loaded.{Loaded}
 use Rattle.venue_commands.specs.declared.load.Loaded.TheVariants as loaded

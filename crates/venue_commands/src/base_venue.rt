@@ -10,9 +10,9 @@ use crate::settings::settings_of;
 use crate::status::Status;
 use check_text::rejected_text;
 use std::alloc::Global;
-use venue_build::{Built, Venue, build};
 use venue_folder::files_of;
 use venue_ports::{Folders, ReadFault};
+use venue_session::{Built, Venue, build};
 use venue_types::{Files, OutOfMemory, Settings};
 
 /// What becomes of a folder of a base.

@@ -14,8 +14,8 @@ use crate::status::Status;
 use check_text::accepted_text;
 use feature_rows::feature_count;
 use std::alloc::Global;
-use venue_build::{Venue, every_venue};
 use venue_ports::{Folders, ReadFault};
+use venue_session::{Venue, every_venue};
 
 // The answer where the folder makes this venue.
 fn accepted(alloc: Global, venue: &Venue) -> Result<Printout, ReadFault>

@@ -17,8 +17,8 @@ use crate::status::Status;
 use route_answers::allowed_table;
 use route_certificate::write_table;
 use std::alloc::Global;
-use venue_build::Venue;
 use venue_ports::{Folders, ReadFault};
+use venue_session::Venue;
 use venue_types::{Bytes, OutOfMemory, Profile, Settings};
 
 /// The profile of the settings that has this name.

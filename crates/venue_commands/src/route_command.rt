@@ -1,7 +1,7 @@
 //! The command `route`.
 
 ghost use Rattle.std.specs.Prelude.{◌≡◌, ◌<◌, IfOk, IfErr, IfSome, length};
-ghost use Rattle.venue_nodes.specs.Nodes.{nodes, place_of};
+ghost use Rattle.route_answers.specs.Nodes.{nodes, place_of};
 ghost use Rattle.venue_ports.specs.Files.{HasReadCause};
 ghost use Rattle.venue_ports.specs.declared.folders.ReadFault.TheVariants.{OutOfMemory as NoMemory};
 ghost use Rattle.venue_commands.specs.Routed.{RouteOutput, claim_status};
@@ -11,12 +11,11 @@ use crate::base_venue::{Made, venue_of};
 use crate::links_command::profile_named;
 use crate::printout::{Printout, printed};
 use crate::status::Status;
-use route_answers::route_answer;
+use route_answers::{number_law, route_answer};
 use route_certificate::{Claim, answer_law, write_answer};
 use std::alloc::Global;
-use venue_build::Venue;
-use venue_nodes::number_law;
 use venue_ports::{Folders, ReadFault};
+use venue_session::Venue;
 use venue_types::{FeatureId, OutOfMemory, Profile};
 
 // The status that goes with a claim.

@@ -9,10 +9,10 @@ ghost use Rattle.venue_commands.specs.Served.{end_status};
 
 use crate::start::Start;
 use crate::status::Status;
+use building_report::{Alone, Unopened};
 use std::alloc::Global;
 use venue_ports::{Folders, Stream};
 use venue_session::{End, serve_session};
-use version_board::{Alone, Unopened};
 
 /// How a session ended, and the folders.
 #[derive(Drop)]

@@ -5,7 +5,7 @@ ghost use Rattle.std.specs.Arc.{arc_value};
 
 use std::alloc::Global;
 use std::sync::Arc;
-use venue_build::Venue;
+use venue_session::Venue;
 use venue_types::{OutOfMemory, Settings, Text};
 use venue_wire::Front;
 

@@ -5,7 +5,7 @@ use mathlib.Core.List.{IsPrefix}
 use Rattle.venue_types.specs.declared.query.Change.{Change}
 use Rattle.venue_types.specs.declared.reply.Reply.{Reply}
 use Rattle.venue_types.specs.declared.reply.Reply.TheVariants as reply
-use Rattle.venue_folder.specs.Shelves.{Shelf}
+use Rattle.venue_history.specs.Shelves.{Shelf}
 use Rattle.venue_history.specs.declared.entry.Entry.{Entry}
 use Rattle.venue_history.specs.Changes.{Changes, IsAccepted}
 use Rattle.venue_history.specs.Replies.{told}

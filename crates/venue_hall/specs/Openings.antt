@@ -2,7 +2,7 @@
 use Rattle.std.specs.Prelude.{List, [], ◌∷◌}
 use Rattle.std.specs.declared.alloc.Global.{Global}
 use Rattle.std.specs.declared.sync.Arc.{Arc}
-use Rattle.venue_build.specs.Venues.{SeenVenue as Venue}
+use Rattle.venue_history.specs.Venues.{SeenVenue as Venue}
 use Rattle.venue_history.specs.declared.entry.Act.TheVariants.{Published}
 use Rattle.venue_history.specs.declared.entry.Entry.{Entry}
 

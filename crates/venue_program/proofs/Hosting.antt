@@ -8,7 +8,7 @@ use Rattle.std.specs.Arc.{arc_value}
 use Rattle.venue_ports.specs.Files.{StoredFile}
 use Rattle.venue_ports.specs.declared.stream.Failed.{Failed}
 use Rattle.venue_ports.specs.Causes.{Rose}
-use Rattle.venue_session.specs.Ends.{Measured}
+use Rattle.venue_service.specs.Ends.{Measured}
 use Rattle.venue_service.specs.declared.service.Counts.{Counts}
 use Rattle.venue_service.specs.Desks.{raised}
 use Rattle.venue_service.specs.Services.{AreCounts}

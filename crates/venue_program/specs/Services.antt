@@ -4,8 +4,8 @@ use Rattle.std.specs.Fmt.{decimal}
 use Rattle.line_forms.specs.Lines.{line}
 use Rattle.venue_ports.specs.Causes.{Rose}
 use Rattle.venue_ports.specs.Files.{StoredFile}
-use Rattle.venue_build.specs.Venues.{SeenVenue as Venue}
-use Rattle.venue_session.specs.Ends.{Measured}
+use Rattle.venue_service.specs.Venues.{SeenVenue as Venue}
+use Rattle.venue_service.specs.Ends.{Measured}
 use Rattle.venue_service.specs.declared.service.Counts.{Counts}
 use Rattle.venue_service.specs.Desks.{raised}
 use Rattle.venue_service.specs.Services.{AreCounts}

@@ -2,14 +2,14 @@
 
 ghost use Rattle.std.specs.Prelude.{◌≡◌, ◌≤◌, length, string_bytes, IfOk};
 ghost use Rattle.std.specs.Arc.{arc_value};
-ghost use Rattle.venue_hall.specs.Openings.{opening_history};
-ghost use Rattle.shared_hall.specs.Copied.{entries_in};
+ghost use Rattle.venue_service.specs.Openings.{opening_history};
+ghost use Rattle.venue_service.specs.Copied.{entries_in};
 ghost use Rattle.venue_program.specs.Services.{listening_line};
 
-use shared_hall::{Copies, opening_entries};
 use std::alloc::{AllocError, Global};
 use std::sync::Wait;
 use venue_commands::Start;
+use venue_service::{Copies, opening_entries};
 use venue_types::{OutOfMemory, Text};
 use venue_wire::Front;
 

@@ -4,7 +4,7 @@ ghost use Rattle.std.specs.Prelude.{◌≡◌, ◌⊎◌, ◌≤◌, ℕ, List, 
 ghost use Rattle.std.specs.Fmt.{decimal};
 ghost use Rattle.venue_ports.specs.Files.{StoredFile};
 ghost use Rattle.venue_ports.specs.Causes.{Rose};
-ghost use Rattle.venue_session.specs.Ends.{link_between};
+ghost use Rattle.venue_service.specs.Ends.{link_between};
 ghost use Rattle.venue_service.specs.Desks.{raised};
 ghost use Rattle.venue_service.specs.Services.{AreCounts};
 ghost use Rattle.venue_commands.specs.Openings.{IsOpeningOf};

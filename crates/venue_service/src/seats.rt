@@ -2,7 +2,7 @@
 
 ghost use Rattle.std.specs.Prelude.{◌≡◌, ◌⊎◌, ◌<◌, ◌≤◌, ℕ, length, true, IfSome};
 ghost use Rattle.venue_types.specs.Room.{HasRoom};
-ghost use Rattle.venue_hall.specs.Facts.{IsSameHall};
+ghost use Rattle.shared_hall.specs.Facts.{IsSameHall};
 ghost use Rattle.shared_hall.specs.Offices.{parts_of};
 
 use crate::desk::{DoorDesk, Next};

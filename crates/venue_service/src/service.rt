@@ -3,7 +3,7 @@
 ghost use Rattle.std.specs.Prelude.{◌≡◌, ◌⊎◌, ◌+◌, ◌<◌, ◌≤◌, length, true, false, IfSome, IfNone, IsSome, IsNone};
 ghost use Rattle.venue_types.specs.Room.{HasRoom};
 ghost use Rattle.venue_ports.specs.Causes.{Rose};
-ghost use Rattle.venue_state.specs.Making.{shelf_of};
+ghost use Rattle.shared_hall.specs.Making.{shelf_of};
 ghost use Rattle.shared_hall.specs.Copied.{entries_in, book_in};
 ghost use Rattle.shared_hall.specs.Offices.{parts_of, HasShelf};
 ghost use Rattle.venue_service.specs.Desks.{raised};
@@ -11,12 +11,13 @@ ghost use Rattle.venue_service.specs.Services.{AreCounts};
 
 use crate::desk::DoorDesk;
 use crate::seats::{leave_all, sit_all, work_all};
-use shared_hall::{Closed, Copies, HallName, Office, Opened, Pass, Seat, close_hall, open_hall};
+use shared_hall::{
+    Closed, Copies, HallName, Office, Opened, Pass, Seat, Unopened, close_hall, open_hall,
+};
 use std::alloc::Global;
 use std::sync::ledger::Blank;
 use std::sync::{Mutex, Wait};
 use std::thread::Threads;
-use venue_hall::Unopened;
 use venue_ports::{Doors, Folders};
 use venue_types::{Text, reserve};
 use venue_wire::Front;

@@ -1,7 +1,7 @@
 //! One worker.
 
 ghost use Rattle.std.specs.Prelude.{◌≡◌};
-ghost use Rattle.venue_hall.specs.Facts.{IsSameHall};
+ghost use Rattle.shared_hall.specs.Facts.{IsSameHall};
 
 use crate::desk::{DoorDesk, Next};
 use shared_hall::{HallName, Seat};

@@ -12,17 +12,17 @@ use Rattle.venue_types.specs.declared.reply.Reply.{Reply}
 use Rattle.venue_types.specs.declared.reply.Reply.TheVariants as reply
 use Rattle.venue_types.specs.declared.reply.Which.TheVariants as which
 use Rattle.venue_types.specs.declared.settings.Settings.{Settings}
-use Rattle.venue_build.specs.Venues.{SeenVenue as Venue}
-use Rattle.venue_build.specs.Built.{IsRejected, IsVenueOf}
+use Rattle.venue_hall.specs.Venues.{SeenVenue as Venue}
+use Rattle.venue_hall.specs.Built.{IsRejected, IsVenueOf}
 use Rattle.venue_folder.specs.Shelves.{Shelf}
-use Rattle.venue_history.specs.declared.entry.Act.{Act}
-use Rattle.venue_history.specs.declared.entry.Act.TheVariants as act
-use Rattle.venue_history.specs.declared.entry.Entry.{Entry}
-use Rattle.venue_history.specs.Answers.{IsTooEarly, AnswersAsk, Answers}
-use Rattle.venue_history.specs.Changes.{Makes, Breaks, IsActOf, TellsOf, Refuses, StandsSo, Changes}
-use Rattle.venue_history.specs.Closed.{Version}
-use Rattle.venue_history.specs.Histories.{Replays}
-use Rattle.venue_history.specs.Replies.{kind_of, closure_done, out_of_memory}
+use Rattle.venue_hall.specs.Act.{Act}
+use Rattle.venue_hall.specs.Act.TheVariants as act
+use Rattle.venue_hall.specs.Entry.{Entry}
+use Rattle.venue_hall.specs.Answers.{IsTooEarly, AnswersAsk, Answers}
+use Rattle.venue_hall.specs.Changes.{Makes, Breaks, IsActOf, TellsOf, Refuses, StandsSo, Changes}
+use Rattle.venue_hall.specs.Closed.{Version}
+use Rattle.venue_hall.specs.Histories.{Replays}
+use Rattle.venue_hall.specs.Replies.{kind_of, closure_done, out_of_memory}
 use Rattle.venue_session.specs.Complete.{CanBeMade, HasRoom, IsMadeKind, IsOfKind, IsThere}
 
 told_kind : (v : Version) (asked : Ask) (r : Reply) → IsThere v asked → AnswersAsk v asked r → IsOfKind asked (kind_of r)

@@ -1,6 +1,6 @@
 -- What a session makes of the hall.
 use Rattle.std.proofs.Common.{◌≡◌, ◌⊎◌, ℕ, ◌∙◌, inl, inr, List, [], ◌∷◌, drop, sym, ap, subst, arith}
-use Rattle.venue_history.specs.Histories.{IsLegal}
+use Rattle.venue_hall.specs.Histories.{IsLegal}
 use Rattle.venue_ports.specs.Causes.{Rose}
 use Rattle.venue_hall.specs.Facts.{Facts}
 use Rattle.venue_wire.specs.declared.messages.Message.{Message}

@@ -9,14 +9,14 @@ use Rattle.venue_types.specs.declared.reply.Mark.{Mark}
 use Rattle.venue_types.specs.declared.reply.Reply.TheVariants as reply
 use Rattle.venue_types.specs.declared.reply.StepRow.{StepRow}
 use Rattle.venue_types.specs.declared.settings.Profile.{Profile}
-use Rattle.venue_nodes.specs.Nodes.{place_of}
+use Rattle.venue_hall.specs.Nodes.{place_of}
 use Rattle.venue_folder.specs.Shelves.{Shelf}
-use Rattle.venue_history.specs.declared.entry.Entry.{Entry}
-use Rattle.venue_history.specs.Answers.{AnswersAsk, IsTrip, RepeatsTrip}
-use Rattle.venue_history.specs.Changes.{Refuses}
-use Rattle.venue_history.specs.Closed.{Version}
-use Rattle.venue_history.specs.Histories.{Replays}
-use Rattle.venue_history.specs.Ways.{profile_of}
+use Rattle.venue_hall.specs.Entry.{Entry}
+use Rattle.venue_hall.specs.Answers.{AnswersAsk, IsTrip, RepeatsTrip}
+use Rattle.venue_hall.specs.Changes.{Refuses}
+use Rattle.venue_hall.specs.Closed.{Version}
+use Rattle.venue_hall.specs.Histories.{Replays}
+use Rattle.venue_hall.specs.Ways.{profile_of}
 use Rattle.venue_hall.specs.Facts.{Facts}
 use Rattle.venue_wire.specs.declared.messages.Message.{Message}
 use Rattle.wire_replies.specs.declared.response.Response.{Response}

@@ -4,13 +4,13 @@ use Rattle.venue_types.specs.declared.query.Ask.{Ask}
 use Rattle.venue_types.specs.declared.query.Ask.TheVariants as ask
 use Rattle.venue_types.specs.declared.query.Change.{Change}
 use Rattle.venue_types.specs.declared.query.Change.TheVariants as change
-use Rattle.venue_nodes.specs.Nodes.{closables}
-use Rattle.venue_build.specs.Venues.{SeenVenue as Venue}
+use Rattle.venue_hall.specs.Nodes.{closables}
+use Rattle.venue_hall.specs.Venues.{SeenVenue as Venue}
 use Rattle.venue_folder.specs.Shelves.{Shelf}
-use Rattle.venue_history.specs.Answers.{HasProfile, IsPlace}
-use Rattle.venue_history.specs.Changes.{Makes}
-use Rattle.venue_history.specs.Closed.{Version}
-use Rattle.venue_history.specs.Replies.{ReplyKind, version, places, place, closures, route, no_route, closure_done, published, folder_fault}
+use Rattle.venue_hall.specs.Answers.{HasProfile, IsPlace}
+use Rattle.venue_hall.specs.Changes.{Makes}
+use Rattle.venue_hall.specs.Closed.{Version}
+use Rattle.venue_hall.specs.Replies.{ReplyKind, version, places, place, closures, route, no_route, closure_done, published, folder_fault}
 
 -- what a question names is there: a place, and for a route a profile and both places
 abbrev pub IsThere : Version → Ask → Type 0

@@ -1,7 +1,7 @@
 -- A session under way, between two calls.
 use Rattle.std.specs.Prelude.{◌≡◌, ◌<◌, ◌≤◌, ◌+◌, ℕ, List, ◌++◌, length, Option, Some, None}
 use Rattle.std.specs.Io.KnownBytes.{Appends, Consumes}
-use Rattle.venue_history.specs.Histories.{IsLegal}
+use Rattle.venue_hall.specs.Histories.{IsLegal}
 use Rattle.venue_hall.specs.Facts.{Facts}
 use Rattle.wire_frames.specs.Frames.{IsShort}
 use Rattle.venue_session.specs.Acting.{Acted, AreOpen, Acts}

@@ -6,14 +6,14 @@ use Rattle.venue_types.specs.declared.link.Link.{Link}
 use Rattle.venue_types.specs.declared.reply.Reply.TheVariants as reply
 use Rattle.venue_types.specs.declared.settings.Profile.{Profile}
 use Rattle.walk_laws.specs.Walks.{HasNoWalk, IsLeast}
-use Rattle.link_graph.specs.Views.{link_view}
+use Rattle.venue_hall.specs.Views.{link_view}
 use Rattle.venue_folder.specs.Shelves.{Shelf}
-use Rattle.venue_history.specs.declared.entry.Entry.{Entry}
-use Rattle.venue_history.specs.Answers.{IsTrip}
-use Rattle.venue_history.specs.Changes.{Changes}
-use Rattle.venue_history.specs.Closed.{Version}
-use Rattle.venue_history.specs.Histories.{IsLegal, Replays}
-use Rattle.venue_history.specs.Ways.{Usable, step_of}
+use Rattle.venue_hall.specs.Entry.{Entry}
+use Rattle.venue_hall.specs.Answers.{IsTrip}
+use Rattle.venue_hall.specs.Changes.{Changes}
+use Rattle.venue_hall.specs.Closed.{Version}
+use Rattle.venue_hall.specs.Histories.{IsLegal, Replays}
+use Rattle.venue_hall.specs.Ways.{Usable, step_of}
 use Rattle.venue_hall.specs.Facts.{IsAnswered}
 use Rattle.wire_frames.specs.Frames.{IsShort, IsRefused}
 use Rattle.wire_frames.specs.declared.refusals.Refusal.{Refusal}

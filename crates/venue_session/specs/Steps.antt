@@ -3,8 +3,8 @@ use Rattle.std.specs.Prelude.{◌≡◌, ◌≢◌, ◌⊎◌, ℕ, ◌+◌, ◌
 use mathlib.Core.List.{IsPrefix}
 use Rattle.venue_types.specs.declared.reply.Reply.TheVariants as reply
 use Rattle.venue_ports.specs.Causes.{Rose}
-use Rattle.venue_history.specs.Histories.{IsLegal}
-use Rattle.venue_history.specs.Replies.{told, IsAhead, IsOutsideFault}
+use Rattle.venue_hall.specs.Histories.{IsLegal}
+use Rattle.venue_hall.specs.Replies.{told, IsAhead, IsOutsideFault}
 use Rattle.venue_hall.specs.Facts.{Facts, IsSameHall, IsAnswered, IsChanged}
 use Rattle.venue_wire.specs.declared.messages.Message.{Message}
 use Rattle.wire_replies.specs.declared.response.Response.{Response}

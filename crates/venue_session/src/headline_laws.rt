@@ -7,12 +7,12 @@ ghost use Rattle.venue_types.specs.declared.query.Change.TheVariants.{Closure};
 ghost use Rattle.venue_types.specs.declared.query.Query.{Query};
 ghost use Rattle.venue_types.specs.declared.reply.Reply.{Reply};
 ghost use Rattle.venue_folder.specs.Shelves.{Shelf};
-ghost use Rattle.venue_history.specs.declared.entry.Entry.{Entry};
-ghost use Rattle.venue_history.specs.Answers.{Answers, IsTooEarly};
-ghost use Rattle.venue_history.specs.Changes.{Changes, StandsSo};
-ghost use Rattle.venue_history.specs.Closed.{Version};
-ghost use Rattle.venue_history.specs.Histories.{Replays};
-ghost use Rattle.venue_history.specs.Replies.{kind_of, closure_done, out_of_memory};
+ghost use Rattle.venue_hall.specs.Entry.{Entry};
+ghost use Rattle.venue_hall.specs.Answers.{Answers, IsTooEarly};
+ghost use Rattle.venue_hall.specs.Changes.{Changes, StandsSo};
+ghost use Rattle.venue_hall.specs.Closed.{Version};
+ghost use Rattle.venue_hall.specs.Histories.{Replays};
+ghost use Rattle.venue_hall.specs.Replies.{kind_of, closure_done, out_of_memory};
 ghost use Rattle.venue_hall.specs.Facts.{Facts};
 ghost use Rattle.venue_session.specs.Ends.{Measured};
 ghost use Rattle.venue_session.specs.Sessions.{IsSession};
@@ -20,7 +20,7 @@ ghost use Rattle.venue_session.specs.declared.ends.End.{End};
 ghost use Rattle.venue_session.specs.Headline.{Headline, IsWhole};
 ghost use Rattle.venue_session.specs.Complete.{CanBeMade, HasRoom, IsMadeKind, IsOfKind, IsThere};
 
-use venue_build::one_outcome;
+use venue_hall::one_outcome;
 
 /// The bytes that a session wrote answer its messages, one for one and in order, none left over, each at a legal history that begins
 /// with the one before; a route costs what it says and no way costs less, and where it is said that there is none there is none. That

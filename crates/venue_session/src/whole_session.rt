@@ -1,7 +1,7 @@
 //! A whole session.
 
 ghost use Rattle.std.specs.Prelude.{◌≡◌, ◌≤◌, ℕ, [], List};
-ghost use Rattle.venue_history.specs.Histories.{IsLegal};
+ghost use Rattle.venue_hall.specs.Histories.{IsLegal};
 ghost use Rattle.venue_session.specs.Ends.{link_between};
 ghost use Rattle.venue_session.specs.Going.{Moment, moment, IsGoing, StaysShort, HasEnded, WaitsOrEnded};
 ghost use Rattle.venue_session.specs.Sessions.{IsSession, HasServed};

@@ -5,7 +5,7 @@ use Rattle.venue_types.specs.declared.query.Change.{Change}
 use Rattle.venue_types.specs.declared.query.Change.TheVariants as change
 use Rattle.venue_types.specs.declared.reply.Reply.{Reply}
 use Rattle.venue_types.specs.declared.reply.Reply.TheVariants as reply
-use Rattle.venue_folder.specs.Shelves.{Shelf}
+use Rattle.venue_history.specs.Shelves.{Shelf}
 use Rattle.venue_history.specs.declared.entry.Act.{Act}
 use Rattle.venue_history.specs.declared.entry.Act.TheVariants as act
 use Rattle.venue_history.specs.declared.entry.Entry.{Entry}

@@ -6,10 +6,10 @@ use Rattle.venue_types.specs.declared.feature_id.FeatureId.{FeatureId}
 use Rattle.venue_types.specs.declared.files.Files.{Files}
 use Rattle.venue_types.specs.declared.query.Change.TheVariants.{Closure, Publish}
 use Rattle.venue_types.specs.declared.reply.Reply.TheVariants as reply
-use Rattle.venue_nodes.specs.Nodes.{closables}
-use Rattle.venue_build.specs.Venues.{SeenVenue as Venue}
-use Rattle.venue_build.specs.Built.{IsVenueOf}
-use Rattle.venue_folder.specs.Shelves.{Shelf}
+use Rattle.route_search.specs.Nodes.{closables}
+use Rattle.venue_history.specs.Venues.{SeenVenue as Venue}
+use Rattle.venue_history.specs.Built.{IsVenueOf}
+use Rattle.venue_history.specs.Shelves.{Shelf}
 use Rattle.venue_history.specs.declared.entry.Act.{Act}
 use Rattle.venue_history.specs.Changes.{AreRead, StandsOtherwise, TellsOf}
 use Rattle.venue_history.specs.Closed.{Version, is_closed, closed_ids}

@@ -10,8 +10,8 @@ use Rattle.venue_types.specs.declared.reply.Reply.TheVariants as reply
 use Rattle.venue_types.specs.declared.settings.Settings.{Settings}
 use Rattle.venue_ports.specs.Causes.{Rose}
 use Rattle.venue_ports.specs.Files.{StoredFile}
-use Rattle.venue_build.specs.Built.{IsRejected, IsVenueOf}
-use Rattle.venue_folder.specs.Shelves.{Shelf}
+use Rattle.venue_history.specs.Built.{IsRejected, IsVenueOf}
+use Rattle.venue_history.specs.Shelves.{Shelf}
 use Rattle.venue_history.specs.declared.entry.Act.{Act}
 use Rattle.venue_history.specs.declared.entry.Act.TheVariants as act
 use Rattle.venue_history.specs.Changes.{AreRead, IsActOf, TellsOf, Refuses}

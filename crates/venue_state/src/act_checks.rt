@@ -6,8 +6,7 @@ ghost use Rattle.venue_state.specs.Preparing.{HasSettings, IsDue, IsUnready};
 
 use crate::board::Board;
 use crate::unready::Unready;
-use venue_build::every_venue;
-use venue_history::Act;
+use venue_history::{Act, every_venue};
 
 /// The number of the version after an act at that of a board, or why it can't be done there.
 pub(crate) fn judge(board: &Board, act: &Act) -> Result<u32, Unready>

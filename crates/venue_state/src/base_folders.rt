@@ -2,12 +2,12 @@
 
 ghost use Rattle.std.specs.Prelude.{◌≡◌, IfOk, string_bytes};
 ghost use Rattle.venue_ports.specs.Files.{HasReadCause};
-ghost use Rattle.venue_folder.specs.Shelves.{folder_path};
+ghost use Rattle.venue_history.specs.Shelves.{folder_path};
 ghost use Rattle.venue_history.specs.Changes.{AreRead};
 ghost use Rattle.venue_state.specs.Making.{shelf_of};
 
 use std::alloc::{AllocError, Global};
-use venue_folder::files_of;
+use venue_history::files_of;
 use venue_ports::{Folders, ReadFault};
 use venue_types::{Files, Text};
 

@@ -2,8 +2,8 @@
 
 ghost use Rattle.std.specs.Prelude.{◌≡◌, ◌+◌, ◌≤◌, IfOk, [], filter};
 ghost use Rattle.std.specs.Arc.{arc_value};
-ghost use Rattle.venue_nodes.specs.Nodes.{closables};
-ghost use Rattle.link_graph.specs.Marking.{chosen};
+ghost use Rattle.route_search.specs.Nodes.{closables};
+ghost use Rattle.route_search.specs.Marking.{chosen};
 ghost use Rattle.venue_history.specs.Changes.{dropped_ids};
 ghost use Rattle.venue_history.specs.Closed.{is_one_of};
 ghost use Rattle.venue_history.specs.Versions.{after, still_closed};
@@ -16,8 +16,7 @@ use crate::stand::Stand;
 use crate::tally::{Tally, mark};
 use std::alloc::Global;
 use std::sync::Arc;
-use venue_build::Venue;
-use venue_history::Act;
+use venue_history::{Act, Venue};
 use venue_types::{FeatureId, List, OutOfMemory};
 
 /// The board after an act, and the closed features that the act drops.

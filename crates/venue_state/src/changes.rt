@@ -3,9 +3,9 @@
 ghost use Rattle.std.specs.Prelude.{◌≡◌, ℕ, ◌+◌, ◌<◌, ◌≤◌, List as AList, Option as AnOption, IfOk, IfErr, OnOk, All, Contains, length};
 ghost use Rattle.std.specs.Arc.{arc_value};
 ghost use Rattle.venue_types.specs.declared.query.Change.TheVariants.{Closure, Publish};
-ghost use Rattle.venue_nodes.specs.Nodes.{closables};
-ghost use Rattle.venue_build.specs.Built.{IsVenueOf};
-ghost use Rattle.venue_folder.specs.Shelves.{Shelf};
+ghost use Rattle.route_search.specs.Nodes.{closables};
+ghost use Rattle.venue_history.specs.Built.{IsVenueOf};
+ghost use Rattle.venue_history.specs.Shelves.{Shelf};
 ghost use Rattle.venue_history.specs.Changes.{AreRead};
 ghost use Rattle.venue_state.specs.Making.{shelf_of, closure_act, IsOutcome, CountsOutcome, IsUnread, IsUnmade};
 
@@ -15,8 +15,7 @@ use crate::prepared::Prepared;
 use crate::unready::Unready;
 use std::alloc::Global;
 use std::sync::Arc;
-use venue_build::{Built, Venue, build};
-use venue_history::{Act, closed_law};
+use venue_history::{Act, Built, Venue, build, closed_law};
 use venue_ports::{Folders, ReadFault};
 use venue_types::{Change, FeatureId, Files, List, OutOfMemory, Reply, Settings, Text};
 

@@ -1,15 +1,15 @@
 //! What is closed at a board's version.
 
 ghost use Rattle.std.specs.Prelude.{◌≡◌, ◌≢◌, IfOk, IfSome, IfNone, AllPairs, Contains, filter};
-ghost use Rattle.link_graph.specs.Graphs.{network};
-ghost use Rattle.link_graph.specs.Marking.{AreMarksOf, chosen};
-ghost use Rattle.venue_nodes.specs.Nodes.{closables};
+ghost use Rattle.route_search.specs.Graphs.{network};
+ghost use Rattle.route_search.specs.Marking.{AreMarksOf, chosen};
+ghost use Rattle.route_search.specs.Nodes.{closables};
 ghost use Rattle.venue_history.specs.Closed.{is_closed, is_one_of};
 ghost use Rattle.venue_state.specs.Tallies.{IsTally, gone_from};
 
 use crate::board::Board;
 use crate::tally::{Tally, mark};
-use link_graph::{Graph, Marks};
+use route_search::{Graph, Marks};
 use std::alloc::Global;
 use venue_types::{FeatureId, List, OutOfMemory};
 

@@ -21,3 +21,4 @@ pub use board::Board;
 pub use changes::{Outcome, ready_change};
 pub use prepared::Prepared;
 pub use unready::Unready;
+pub use venue_history::{Act, Entry, Venue, entry_law, every_venue, number_law};

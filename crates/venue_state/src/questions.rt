@@ -2,13 +2,13 @@
 
 ghost use Rattle.std.specs.Prelude.{◌≡◌, ◌<◌, IfOk, IfSome, IfNone, Some};
 ghost use Rattle.venue_types.specs.declared.query.Ask.TheVariants as ask;
-ghost use Rattle.venue_build.specs.Places.{places};
+ghost use Rattle.venue_history.specs.Places.{places};
 ghost use Rattle.venue_history.specs.Answers.{Answers, AnswersAsk, IsTooEarly};
 ghost use Rattle.venue_history.specs.Closed.{is_closed};
 
 use crate::board::Board;
 use std::alloc::Global;
-use venue_build::{Venue, every_name};
+use venue_history::{Venue, every_name};
 use venue_types::{Ask, FeatureId, List, OutOfMemory, PlaceRow, Query, Reply, Which};
 
 impl Board {

@@ -5,14 +5,13 @@ ghost use Rattle.std.specs.Option.{option_copied};
 ghost use Rattle.venue_types.specs.declared.link.Link.{Link};
 ghost use Rattle.venue_types.specs.declared.query.Ask.TheVariants as ask;
 ghost use Rattle.venue_types.specs.declared.settings.Profile.{Profile as AProfile};
-ghost use Rattle.venue_nodes.specs.Nodes.{nodes, place_of};
+ghost use Rattle.route_search.specs.Nodes.{nodes, place_of};
 ghost use Rattle.route_search.specs.Answers.{IsAnswer};
 ghost use Rattle.venue_history.specs.Answers.{AnswersAsk, IfAsked, IsTrip};
 ghost use Rattle.venue_history.specs.Ways.{Usable, profile_of, name_of, mark_of};
 
 use crate::board::Board;
-use link_graph::passable_law;
-use route_search::{Found, least};
+use route_search::{Found, least, passable_law};
 use std::alloc::Global;
 use std::marker::Brand;
 use std::sync::ledger::{Blank, Ledger};

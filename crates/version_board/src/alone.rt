@@ -4,24 +4,21 @@ ghost use Rattle.std.specs.Prelude.{◌≡◌, ◌+◌, ◌≤◌, [], ◌∷◌
 ghost use Rattle.std.specs.Arc.{arc_value};
 ghost use mathlib.Core.List.{IsPrefix};
 ghost use Rattle.venue_ports.specs.Causes.{Rose};
-ghost use Rattle.venue_history.specs.Changes.{Changes};
-ghost use Rattle.venue_history.specs.Histories.{IsLegal};
-ghost use Rattle.venue_history.specs.Replies.{told, IsOutsideFault};
-ghost use Rattle.venue_history.specs.Versions.{MayFollow, after};
+ghost use Rattle.venue_hall.specs.Changes.{Changes};
+ghost use Rattle.venue_hall.specs.Histories.{IsLegal};
+ghost use Rattle.venue_hall.specs.Replies.{told, IsOutsideFault};
+ghost use Rattle.venue_hall.specs.Versions.{MayFollow, after};
 ghost use Rattle.board_copies.specs.Stamps.{entries_of};
 ghost use Rattle.venue_hall.specs.Facts.{IsSameHall, IsChanged};
 ghost use Rattle.version_board.specs.OneThread.{one_thread};
 ghost use Rattle.venue_hall.specs.Openings.{opening_history};
-ghost use Rattle.venue_state.specs.Making.{shelf_of, CountsFault};
+ghost use Rattle.board_copies.specs.Making.{shelf_of, CountsFault};
 
-use board_copies::{Held, Roll};
+use board_copies::{BaseFolders, Held, Outcome, Prepared, Roll, ready_change};
 use std::alloc::Global;
 use std::sync::Arc;
-use venue_build::Venue;
-use venue_hall::{Asks, Hall, Unopened};
-use venue_history::{change_law, number_law, version_law};
+use venue_hall::{Asks, Hall, Unopened, Venue, change_law, number_law, version_law};
 use venue_ports::Folders;
-use venue_state::{BaseFolders, Outcome, Prepared, ready_change};
 use venue_types::{Change, OutOfMemory, Query, Reply, Settings, Text};
 
 /// One history that one thread serves: it answers at the newest version, and whatever it makes it sees at once. Of its entries it keeps

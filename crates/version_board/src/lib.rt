@@ -4,5 +4,8 @@
 mod alone;
 
 pub use alone::Alone;
-pub use venue_hall::{Asks, Hall, Unopened, answered_law, changed_law};
-pub use venue_state::{BaseFolders, Outcome, ready_change};
+pub use board_copies::{BaseFolders, Outcome, ready_change};
+pub use venue_hall::{
+    Asks, Built, Hall, Unopened, Venue, answered_law, build, change_law, changed_law, entry_law,
+    every_venue, legal_law, number_law,
+};

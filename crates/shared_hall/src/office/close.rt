@@ -1,17 +1,16 @@
 //! A hall closed.
 
 ghost use Rattle.std.specs.Prelude.{◌≡◌, ◌+◌, ◌<◌, ◌≤◌, length, All};
-ghost use Rattle.venue_history.specs.Histories.{IsLegal};
+ghost use Rattle.venue_hall.specs.Histories.{IsLegal};
 ghost use Rattle.shared_hall.specs.Offices.{parts_of, made_of, Begins, HasShelf, IsOneHistory};
 
 use super::{Office, OfficeOf, Pass, PassOf};
 use crate::name::HallName;
-use board_copies::Keeper;
+use board_copies::{BaseFolders, Keeper};
 use std::sync::ledger::Share;
 use std::sync::{Mutex, Wait};
-use venue_history::{legal_law, number_law};
+use venue_hall::{legal_law, number_law};
 use venue_ports::Folders;
-use venue_state::BaseFolders;
 
 /// What a hall ends with.
 #[derive(Drop)]

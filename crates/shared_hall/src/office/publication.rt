@@ -2,16 +2,15 @@
 
 ghost use Rattle.std.specs.Prelude.{◌≡◌, [], ◌∷◌, ◌++◌, drop, OnOk, OnErr};
 ghost use Rattle.std.specs.Arc.{arc_value};
-ghost use Rattle.venue_history.specs.Versions.{MayFollow, after};
+ghost use Rattle.venue_hall.specs.Versions.{MayFollow, after};
 ghost use Rattle.board_copies.specs.Queues.{EndsWith};
 ghost use Rattle.board_copies.specs.Rules.{list_of, book_of, IsOneLonger};
 ghost use Rattle.board_copies.specs.Stamps.{entries_of};
 
-use board_copies::{Held, Keeper, Ready, Roll, SideWriter, queue, show};
+use board_copies::{Held, Keeper, Prepared, Ready, Roll, SideWriter, queue, show};
 use core::mem::replace_with;
 use std::alloc::Global;
 use std::sync::{Arc, Wait};
-use venue_state::Prepared;
 use venue_types::OutOfMemory;
 
 // Queues what is ready in place.

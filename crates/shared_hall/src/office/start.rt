@@ -4,21 +4,19 @@ ghost use Rattle.std.specs.Prelude.{◌≡◌, ◌+◌, ◌<◌, ◌≤◌, leng
 ghost use Rattle.left_right.specs.Sides.{view};
 ghost use Rattle.board_copies.specs.Rules.{list_of, book_of, whole, Knows};
 ghost use Rattle.board_copies.specs.Stamps.{entries_of};
-ghost use Rattle.venue_state.specs.Making.{shelf_of};
+ghost use Rattle.board_copies.specs.Making.{shelf_of};
 ghost use Rattle.shared_hall.specs.Copied.{entries_in, book_in};
 ghost use Rattle.shared_hall.specs.Offices.{parts_of, AreNumbered, IsNew};
 
 use super::{Office, OfficeOf, Pass, PassOf};
 use crate::copies::Copies;
 use crate::name::HallName;
-use board_copies::{Held, SideReader, SideWriter, make_reader};
+use board_copies::{BaseFolders, Held, SideReader, SideWriter, make_reader};
 use std::alloc::Global;
 use std::sync::Mutex;
 use std::sync::ledger::{Blank, Share};
-use venue_hall::Unopened;
-use venue_history::number_law;
+use venue_hall::{Unopened, number_law};
 use venue_ports::Folders;
-use venue_state::BaseFolders;
 use venue_types::{OutOfMemory, Text};
 
 /// What a hall begins with.

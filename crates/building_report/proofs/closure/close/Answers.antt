@@ -2,8 +2,8 @@ use Rattle.std.proofs.Common.{◌≢◌, ◌<◌}
 use Rattle.std.proofs.lemmas.Result.{IfOk-weaker}
 use Rattle.venue_types.specs.declared.reply.Reply.TheVariants as told
 use Rattle.version_board.specs.Halls.{facts_of}
-use Rattle.venue_history.specs.Closed.{Version}
-use Rattle.venue_history.specs.Histories.{Replays}
+use Rattle.version_board.specs.Closed.{Version}
+use Rattle.version_board.specs.Histories.{Replays}
 use Rattle.building_report.specs.Costs.{IsBehindChange}
 use Rattle.building_report.proofs.Behind.{behind_change}
 use Rattle.building_report.proofs.closure.close.Goals as goal

@@ -1,7 +1,7 @@
 use Rattle.std.proofs.Common.{ap, sym, subst, List, ℕ, length, false}
 use Rattle.venue_types.specs.declared.files.Files.{Files}
-use Rattle.venue_build.specs.declared.built.Built.{Built}
-use Rattle.venue_build.specs.Built.{IsBuilt, IsVenueOf, IsRejected}
+use Rattle.version_board.specs.VenueBuildBuilt.{Built}
+use Rattle.version_board.specs.Built.{IsBuilt, IsVenueOf, IsRejected}
 use Rattle.gen_text.specs.Texts.{building_files}
 use Rattle.building_report.specs.BuildingReports.{IsTold, accepted, rejected}
 use Rattle.building_report.proofs.report.tell_building.Goals as goal

@@ -1,6 +1,6 @@
 use Rattle.std.proofs.Common.{string_bytes, List, subst, sym}
-use Rattle.venue_history.specs.declared.entry.Entry.{Entry}
-use Rattle.venue_history.specs.Histories.{Replays}
+use Rattle.version_board.specs.Entry.{Entry}
+use Rattle.version_board.specs.Histories.{Replays}
 use Rattle.building_report.proofs.Summing.{acted}
 use Rattle.building_report.proofs.summary_text.act_lines.Goals as goal
 

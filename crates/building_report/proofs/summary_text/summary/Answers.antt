@@ -1,7 +1,7 @@
 use Rattle.std.proofs.Common.{◌∙◌, ◌<◌, sym, ap, subst, string_bytes}
 use Rattle.std.specs.Arc.{arc_value}
 use Rattle.venue_types.specs.declared.settings.Settings.{Settings}
-use Rattle.venue_history.specs.Histories.{opening_of}
+use Rattle.version_board.specs.Histories.{opening_of}
 use Rattle.version_board.specs.Halls.{facts_of}
 use Rattle.building_report.specs.Costs.{size_lines}
 use Rattle.building_report.proofs.Seeing.{opens}

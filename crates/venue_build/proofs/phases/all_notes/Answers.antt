@@ -1,7 +1,7 @@
 use Rattle.std.proofs.Common.{List, subst}
 use Rattle.venue_types.specs.declared.finding.Note.{Note}
 use Rattle.rule_reports.specs.Passes.{Adds}
-use Rattle.venue_nodes.specs.Unplaced.{IsUnplaced}
+use Rattle.link_graph.specs.Unplaced.{IsUnplaced}
 use Rattle.venue_build.proofs.Noting.{added_notes}
 use Rattle.venue_build.proofs.phases.all_notes.Goals as goal
 

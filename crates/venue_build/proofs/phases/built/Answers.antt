@@ -3,7 +3,7 @@ use Rattle.std.specs.Prelude.{Contains}
 use Rattle.venue_types.specs.declared.settings.Settings.{Settings}
 use Rattle.venue_types.specs.declared.finding.Note.{Note}
 use Rattle.rule_reports.specs.Reports.{IsNoteList}
-use Rattle.venue_nodes.specs.Unplaced.{IsUnplaced}
+use Rattle.link_graph.specs.Unplaced.{IsUnplaced}
 use Rattle.venue_build.specs.Ground.{IsJudged}
 use Rattle.link_graph.specs.Graphs.{network}
 use Rattle.venue_build.specs.Kept.{IsKept}

@@ -1,6 +1,6 @@
 use Rattle.std.proofs.Common.{length, get_or, arith, ap, refl, ◌∙◌}
 use Rattle.std.proofs.lemmas.Option.{slice_get_read}
-use Rattle.venue_nodes.proofs.Places.{places_within}
+use Rattle.link_graph.proofs.Places.{places_within}
 use Rattle.venue_build.specs.Placing.{can_walk}
 use Rattle.venue_build.proofs.PlaceRanges.{as_many, unit_there, index_there}
 use Rattle.venue_build.proofs.place_table.unit_at.Goals as goal

@@ -1,6 +1,6 @@
 use Rattle.std.proofs.Common.{arith}
 use Rattle.std.proofs.lemmas.Grind.{common_steps}
-use Rattle.venue_nodes.proofs.Places.{places_more}
+use Rattle.link_graph.proofs.Places.{places_more}
 use Rattle.venue_build.specs.Placing.{can_walk}
 use Rattle.venue_build.proofs.place_table.walkable_indexes.Goals as goal
 

@@ -1,5 +1,5 @@
 use Rattle.std.proofs.Common.{◌∙◌}
-use Rattle.venue_build.specs.Built.{IsRejected}
+use Rattle.venue_session.specs.Built.{IsRejected}
 use Rattle.venue_commands.proofs.base_venue.made_of.Goals as goal
 
 pub returns-in_ok-text-in-Ok-Rejected-clause-told : goal.returns-in_ok-text-in-Ok-Rejected-clause-told

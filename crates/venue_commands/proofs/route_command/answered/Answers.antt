@@ -1,7 +1,7 @@
 use Rattle.std.proofs.Common.{List, length, subst}
 use Rattle.std.specs.Prelude.{◌≤◌}
 use Rattle.venue_types.specs.declared.link.Node.{Node}
-use Rattle.venue_nodes.specs.Nodes.{nodes}
+use Rattle.route_answers.specs.Nodes.{nodes}
 use Rattle.venue_commands.proofs.route_command.answered.Goals as goal
 
 pub write_answer-requires : goal.write_answer-requires

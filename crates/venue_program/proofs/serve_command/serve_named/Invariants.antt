@@ -1,6 +1,6 @@
 use Rattle.std.proofs.Common.{length}
-use Rattle.venue_state.specs.Making.{shelf_of}
-use Rattle.shared_hall.specs.Copied.{entries_in, book_in}
+use Rattle.venue_service.specs.Making.{shelf_of}
+use Rattle.venue_service.specs.Copied.{entries_in, book_in}
 use Rattle.venue_program.proofs.serve_command.serve_named.Given as goal
 
 abbrev pub ghosts-serve_hall-N-HallName : goal.ghosts-serve_hall-N-HallName

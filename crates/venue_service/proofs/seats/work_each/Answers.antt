@@ -1,5 +1,5 @@
 use Rattle.std.proofs.Common.{rules, ◌≡◌, ◌<◌, ℕ, sym, length, slice_index_or}
-use Rattle.venue_hall.specs.Facts.{Facts}
+use Rattle.shared_hall.specs.Facts.{Facts}
 use Rattle.shared_hall.proofs.Passes.{same_parts}
 use Rattle.venue_service.proofs.seats.work_each.Goals as goal
 

@@ -1,4 +1,4 @@
-use Rattle.venue_hall.specs.Facts.{IsSameHall}
+use Rattle.shared_hall.specs.Facts.{IsSameHall}
 use Rattle.venue_service.proofs.seats.work_rest.Given as goal
 
 abbrev pub invariant-loop-alloc : goal.invariant-loop-alloc

@@ -1,5 +1,5 @@
 -- A worker serves at one hall.
-use Rattle.venue_hall.specs.Facts.{IsSameHall}
+use Rattle.shared_hall.specs.Facts.{IsSameHall}
 use Rattle.venue_service.proofs.worker.work.Given as goal
 
 abbrev pub invariant-loop : goal.invariant-loop

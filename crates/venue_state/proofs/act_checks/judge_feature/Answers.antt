@@ -2,8 +2,8 @@
 use Rattle.std.proofs.Common.{◌≡◌, sym, subst}
 use Rattle.std.specs.Arc.{arc_value}
 use Rattle.venue_types.specs.declared.settings.Settings.{Settings}
-use Rattle.venue_build.specs.Venues.{SeenVenue}
-use Rattle.venue_build.specs.Report.{AreValid}
+use Rattle.venue_history.specs.Venues.{SeenVenue}
+use Rattle.venue_history.specs.Report.{AreValid}
 use Rattle.venue_history.specs.declared.entry.Act.{Act}
 use Rattle.venue_history.specs.Versions.{Fits}
 use Rattle.venue_state.specs.Preparing.{HasSettings}

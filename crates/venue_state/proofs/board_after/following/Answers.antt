@@ -1,5 +1,5 @@
 -- What is left of what is closed at a reopening.
-use Rattle.venue_nodes.specs.Nodes.{closables}
+use Rattle.route_search.specs.Nodes.{closables}
 use Rattle.venue_state.proofs.Changing.{reopened_so}
 use Rattle.venue_state.proofs.board_after.following.Goals as goal
 

@@ -1,5 +1,5 @@
 use Rattle.std.specs.Arc.{arc_value}
-use Rattle.venue_build.specs.Built.{IsVenueOf}
+use Rattle.venue_history.specs.Built.{IsVenueOf}
 use Rattle.venue_history.specs.declared.entry.Act.TheVariants.{Published}
 use Rattle.venue_state.specs.Preparing.{IsUnready}
 use Rattle.venue_state.specs.declared.unready.Unready.TheVariants as unready

@@ -4,9 +4,9 @@ use Rattle.std.specs.List.{filter}
 use Rattle.venue_types.specs.declared.feature_id.FeatureId.{FeatureId}
 use Rattle.venue_history.specs.Closed.{is_one_of}
 use Rattle.venue_history.proofs.Identities.{filter_none}
-use Rattle.link_graph.specs.Graphs.{network}
-use Rattle.link_graph.specs.Marking.{chosen, marked}
-use Rattle.link_graph.specs.Networks.{Network}
+use Rattle.route_search.specs.Graphs.{network}
+use Rattle.route_search.specs.Marking.{chosen, marked}
+use Rattle.route_search.specs.Networks.{Network}
 use Rattle.venue_state.specs.Tallies.{gone_from}
 use Rattle.venue_state.proofs.Carrying.{carried_mark, gone_one, gone_not}
 use Rattle.venue_state.proofs.closures.carry_over.Goals as goal

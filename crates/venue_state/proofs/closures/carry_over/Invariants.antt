@@ -1,6 +1,6 @@
 use Rattle.std.proofs.Common.{◌≡◌, ◌++◌, drop, take, filter}
-use Rattle.link_graph.specs.Graphs.{network}
-use Rattle.link_graph.specs.Marking.{chosen}
+use Rattle.route_search.specs.Graphs.{network}
+use Rattle.route_search.specs.Marking.{chosen}
 use Rattle.venue_history.specs.Closed.{is_one_of}
 use Rattle.venue_state.specs.Tallies.{IsTally, gone_from}
 use Rattle.venue_state.proofs.closures.carry_over.Given as goal

@@ -1,6 +1,6 @@
 -- What was taken and what the rest chooses is what is chosen.
 use Rattle.std.proofs.Common.{◌∙◌, ◌<◌, length, sym, arith}
-use Rattle.link_graph.specs.Graphs.{network}
+use Rattle.route_search.specs.Graphs.{network}
 use Rattle.venue_state.proofs.Carrying.{listed_one, listed_not}
 use Rattle.venue_state.proofs.closures.marked_ids.Goals as goal
 use Rattle.venue_state.proofs.closures.marked_ids.Goals.{then-is_marked+in_ok-push, else-is_marked}

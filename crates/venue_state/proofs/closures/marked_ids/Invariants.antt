@@ -1,6 +1,6 @@
 use Rattle.std.proofs.Common.{◌≡◌, ◌++◌, drop}
-use Rattle.link_graph.specs.Graphs.{network}
-use Rattle.link_graph.specs.Marking.{chosen}
+use Rattle.route_search.specs.Graphs.{network}
+use Rattle.route_search.specs.Marking.{chosen}
 use Rattle.venue_state.proofs.closures.marked_ids.Given as goal
 
 -- what was taken and what the rest chooses

@@ -1,6 +1,6 @@
 -- One row more.
 use Rattle.std.proofs.Common.{◌∙◌, ◌<◌, length, arith}
-use Rattle.venue_build.specs.Places.{places}
+use Rattle.venue_history.specs.Places.{places}
 use Rattle.venue_state.proofs.Names.{copied_more}
 use Rattle.venue_state.proofs.questions.place_rows.Goals as goal
 

@@ -1,8 +1,8 @@
 -- What can be passed over the graph is what can be used at the version.
 use Rattle.std.proofs.lemmas.Result.{IfOk-weaker}
-use Rattle.link_graph.specs.Graphs.{network}
-use Rattle.link_graph.specs.Marking.{marked}
-use Rattle.link_graph.specs.Networks.{IsPassable}
+use Rattle.route_search.specs.Graphs.{network}
+use Rattle.route_search.specs.Marking.{marked}
+use Rattle.route_search.specs.Networks.{IsPassable}
 use Rattle.route_search.specs.Answers.{IsAnswer}
 use Rattle.venue_history.specs.Ways.{Usable}
 use Rattle.venue_state.proofs.Routes.{version_answer}

@@ -2,8 +2,8 @@
 use Rattle.std.proofs.Common.{rules, ◌≡◌, ◌∙◌, ap}
 use Rattle.std.specs.Arc.{arc_value}
 use Rattle.board_copies.specs.declared.held.Held.{Held}
-use Rattle.venue_history.specs.Closed.{Version}
-use Rattle.venue_state.proofs.Entering.{same_settings}
+use Rattle.venue_hall.specs.Closed.{Version}
+use Rattle.board_copies.proofs.Entering.{same_settings}
 use Rattle.shared_hall.proofs.office.publication.publish_entry.Goals as goal
 
 pub returns-clause-settings : goal.returns-clause-settings
