@@ -10,6 +10,7 @@ proved the others are stopped, the lines of its error are printed, and the statu
 out/build/NAME: the sources of the crate and of those below it, and their libraries, under second names of the same files. `rt lib` finds
 everything below built, so it reads none of it again, and what it makes is moved back to the crate's own out/.
 """
+import fcntl
 import os
 import re
 import shutil
@@ -26,10 +27,11 @@ ONE_JOB, MORE_JOBS = 3, 1.8
 
 
 def listed():
-    """The crates of crates.txt, each with what its line names."""
+    """The crates of crates.txt, each with its line and with what that names."""
     with open(os.path.join(TOP, "crates.txt"), encoding="utf-8") as file:
-        rows = [line.partition("#")[0].partition(":") for line in file]
-    return {name.split()[0]: names.split() for name, _, names in rows if name.strip()}
+        rows = [line.partition("#")[0].strip() for line in file]
+    found = {row.partition(":")[0].split()[0]: row for row in rows if row}
+    return found, {name: row.partition(":")[2].split() for name, row in found.items()}
 
 
 def below(name, crates, found=None):
@@ -94,7 +96,7 @@ def put_back():
     shutil.rmtree(TREES, ignore_errors=True)
 
 
-def plant(name, crates):
+def plant(name, crates, rows):
     """Makes the crate's tree."""
     tree, under = os.path.join(TREES, name), below(name, crates)
     for it in under + [name]:
@@ -104,13 +106,13 @@ def plant(name, crates):
         linked(os.path.join(TOP, "crates", it, "out", "rlib"), os.path.join(tree, "crates", it, "out", "rlib"))
     moved(name, tree, False)
     with open(os.path.join(tree, "crates.txt"), "w", encoding="utf-8") as file:
-        file.writelines(f"{it}: {' '.join(crates[it])}\n" for it in under + [name])
+        file.writelines(f"{rows[it]}\n" for it in under + [name])
     return os.path.join(tree, "crates", name)
 
 
 class Build:
-    def __init__(self, program, crates):
-        self.program, self.crates, self.left = program, crates, below(program, crates)
+    def __init__(self, program, crates, rows):
+        self.program, self.crates, self.rows, self.left = program, crates, rows, below(program, crates)
         self.total, self.started = len(self.left) + 1, time.monotonic()
         # The longest way from a crate up to the program, in lines: of those that may start, the one with most behind it is first.
         self.behind = {it: lines_of(it) for it in self.left}
@@ -131,7 +133,7 @@ class Build:
         self.running[name] = process, jobs
 
     def begin_ready(self):
-        """Starts what may start. Where fewer may than there are processors, each gets its share of them."""
+        """Starts what may start. Where fewer may than there are processors, these are shared out, the one that is left over to the longest way."""
         ready = [it for it in self.left if all(other in self.done for other in self.crates[it] if other in self.crates)]
         ready.sort(key=lambda it: -self.behind[it])
         while ready:
@@ -139,10 +141,10 @@ class Build:
             room = self.memory - sum(ONE_JOB + MORE_JOBS * (jobs - 1) for _, jobs in self.running.values())
             if idle < 1 or self.running and room < ONE_JOB:
                 return
-            jobs = max(1, min(idle // len(ready), 1 + int((room - ONE_JOB) / MORE_JOBS)))
+            jobs = max(1, min(-(-idle // len(ready)), 1 + int((room - ONE_JOB) / MORE_JOBS)))
             name = ready.pop(0)
             self.left.remove(name)
-            self.begin(name, plant(name, self.crates), ["lib"], jobs)
+            self.begin(name, plant(name, self.crates, self.rows), ["lib"], jobs)
 
     def wait(self):
         """Waits until something has ended, and returns the name of what failed, if it did."""
@@ -190,11 +192,20 @@ def tell_failure(name):
 
 
 def main(words):
-    crates, program = listed(), words[0] if words else "venue_cli"
+    program = words[0] if words else "venue_cli"
+    rows, crates = listed()
+    os.makedirs(os.path.dirname(TREES), exist_ok=True)
+    # Held until this build ends.
+    alone = open(os.path.join(TOP, "out", "build.lock"), "w", encoding="ascii")
+    try:
+        fcntl.flock(alone, fcntl.LOCK_EX | fcntl.LOCK_NB)
+    except BlockingIOError:
+        print("venue: waiting for another build to end", file=sys.stderr, flush=True)
+        fcntl.flock(alone, fcntl.LOCK_EX)
     put_back()
     shutil.rmtree(LOGS, ignore_errors=True)
     os.makedirs(LOGS)
-    build = Build(program, crates)
+    build = Build(program, crates, rows)
     # A build that is ended leaves what it made where the next one finds it.
     for it in (signal.SIGTERM, signal.SIGHUP):
         signal.signal(it, lambda number, _: sys.exit(128 + number))
