@@ -1,7 +1,7 @@
 #!/usr/bin/python3
-"""Opens the page of examples/web in a browser, as a visitor with a phone and one at a desk do, over a copy of the example station that `venue serve` serves
-behind nginx: ways by keyboard alone, what is closed meanwhile, replies with something exchanged, files that are missing or broken. And has
-check.js judge the made answers of compare_checkers.py, and replies with their certificates, beside the checkers in Python.
+"""Opens the page of examples/web in a browser, as a visitor with a phone and one at a desk do, over a copy of the example station that
+`venue serve` serves behind nginx: ways by keyboard alone, what is closed meanwhile, replies with something exchanged, files that are missing
+or broken. And has check.js judge the made answers of compare_checkers.py, and replies with their certificates, beside the checkers in Python.
 
 usage: web_page.py [PROGRAM]   (without PROGRAM the launcher ./venue, which builds the program if need be)
 It prints one line, and ends with status 1 at a difference. Pictures of the page go to out/pages. Where chromium, its driver, nginx or
