@@ -4,7 +4,7 @@ operation is sent through `venue session` with each parameter and each member of
 are refused, and every reply is judged by the schemas. A member that a schema doesn't name is a mistake, a status that the operation doesn't
 list is one, and so is what is listed and no reply was. Only want of memory isn't asked for.
 
-usage: check_openapi.py [PROGRAM]   (without PROGRAM the launcher ./venue, which builds the program if need be)
+usage: openapi_replies.py [PROGRAM]   (without PROGRAM the launcher ./venue, which builds the program if need be)
 It prints each mistake and a line at the end, and ends with status 1 at a mistake.
 """
 import json
@@ -16,7 +16,8 @@ import sys
 import tempfile
 from urllib.parse import quote
 
-HERE = os.path.dirname(os.path.abspath(__file__))
+TOP = os.path.dirname(os.path.dirname(os.path.abspath(__file__)))
+EXAMPLES = os.path.join(TOP, "examples")
 KEY = "x-staff-key: desk-key-1"
 # The words of schemas that `faults_of` judges, or that say nothing of a value.
 WORDS = {"$ref", "type", "description", "enum", "const", "pattern", "minimum", "maximum", "minItems", "maxItems", "uniqueItems", "minProperties",
@@ -91,7 +92,7 @@ def check_examples(document):
     for where, content in objects(document):
         for story, example in content.get("examples", {}).items() if "schema" in content else ():
             file = "request" if "requestBody" in where else "reply"
-            with open(os.path.join(HERE, "sessions", story, file), encoding="utf-8", newline="") as text:
+            with open(os.path.join(EXAMPLES, "sessions", story, file), encoding="utf-8", newline="") as text:
                 need("\r\n\r\n" + compact(example["value"]) in text.read(), f"{where}: the example {story} isn't in that story")
             need(not faults_of(document, content["schema"], example["value"]), f"{where}: the example {story} isn't of its schema")
 
@@ -265,7 +266,7 @@ def check_others(document, program, base):
 
 def make_base(folder, name, more):
     """The example folders, with a file in the place of a folder, and something more in the settings."""
-    base = shutil.copytree(HERE, os.path.join(folder, name), ignore=shutil.ignore_patterns("sessions", "*.py", "*.sh"))
+    base = shutil.copytree(EXAMPLES, os.path.join(folder, name), ignore=shutil.ignore_patterns("sessions", "*.py", "*.sh"))
     for file, text in (("plan", "A file where a folder should be.\n"), ("venue.toml", more)):
         with open(os.path.join(base, file), "a", encoding="utf-8") as it:
             it.write(text)
@@ -273,8 +274,8 @@ def make_base(folder, name, more):
 
 
 def main():
-    program = sys.argv[1] if len(sys.argv) > 1 else os.path.join(HERE, "..", "venue")
-    with open(os.path.join(HERE, "..", "docs", "openapi.json"), encoding="utf-8") as file:
+    program = sys.argv[1] if len(sys.argv) > 1 else os.path.join(TOP, "venue")
+    with open(os.path.join(TOP, "docs", "openapi.json"), encoding="utf-8") as file:
         document = json.load(file)
     check_references(document)
     if not mistakes:
@@ -292,7 +293,7 @@ def main():
         need(not unused, f"no reply was of the schemas {sorted(unused)}")
     for mistake in mistakes:
         print(mistake, file=sys.stderr)
-    print(f"check_openapi: {judged} replies, {len(mistakes)} mistakes")
+    print(f"openapi_replies: {judged} replies, {len(mistakes)} mistakes")
     return 1 if mistakes else 0
 
 

@@ -1,9 +1,9 @@
 #!/usr/bin/python3
-"""Opens the page in a browser, as a visitor with a phone and one at a desk do, over a copy of the example station that `venue serve` serves
-behind nginx: ways by keyboard alone, what is closed meanwhile, replies with something exchanged, files that are missing or broken. And has
-check.js judge the made answers of compare_checkers.py, and replies with their certificates, beside the checkers in Python.
+"""Opens the page of examples/web in a browser, as a visitor with a phone and one at a desk do, over a copy of the example station that
+`venue serve` serves behind nginx: ways by keyboard alone, what is closed meanwhile, replies with something exchanged, files that are missing
+or broken. And has check.js judge the made answers of compare_checkers.py, and replies with their certificates, beside the checkers in Python.
 
-usage: test_page.py [PROGRAM]   (without PROGRAM the launcher ./venue, which builds the program if need be)
+usage: web_page.py [PROGRAM]   (without PROGRAM the launcher ./venue, which builds the program if need be)
 It prints one line, and ends with status 1 at a difference. Pictures of the page go to out/pages. Where chromium, its driver, nginx or
 Debian's python3-selenium is missing it says so, and ends with status 0.
 """
@@ -36,7 +36,8 @@ except ImportError:
     webdriver = None
 
 HERE = os.path.dirname(os.path.abspath(__file__))
-EXAMPLES, TOP = os.path.dirname(HERE), os.path.dirname(os.path.dirname(HERE))
+TOP = os.path.dirname(HERE)
+EXAMPLES = os.path.join(TOP, "examples")
 PICTURES = os.path.join(TOP, "out", "pages")
 SIZES = {"phone": (390, 844), "desk": (1280, 900)}
 ID = "00000000-0000-4000-8000-{:0>12}"
@@ -99,7 +100,7 @@ class Site:
         self.second = int(time.time())
         self.start([program, "serve", self.base, "station", f"127.0.0.1:{self.server}", "4", "100000"], self.server)
         self.between = Between(between, self.server)
-        words = [sys.executable, os.path.join(HERE, "site.py"), self.base, "station", self.files, str(self.port), f"127.0.0.1:{between}"]
+        words = [sys.executable, os.path.join(EXAMPLES, "web", "site.py"), self.base, "station", self.files, str(self.port), f"127.0.0.1:{between}"]
         subprocess.run(words, check=True, stdout=subprocess.DEVNULL, env=os.environ | {"VENUE": program})
         self.start(["nginx", "-p", self.files, "-e", "error.log", "-c", "nginx.conf", "-g", "daemon off;"], self.port)
 
@@ -112,7 +113,7 @@ class Site:
             if process.poll() is not None:
                 break
             time.sleep(0.1)
-        sys.exit(f"test_page: {words[0]} doesn't listen")
+        sys.exit(f"web_page: {words[0]} doesn't listen")
 
     def stop(self):
         for process in self.served:
@@ -371,7 +372,7 @@ def names_as_the_visitor_reads(page):
 
 def judged_alike(page):
     """check.js beside check_route.py over the made answers, and beside route_reply.py over replies of the server: how many, and the differences."""
-    spec = importlib.util.spec_from_file_location("compare_checkers", os.path.join(EXAMPLES, "compare_checkers.py"))
+    spec = importlib.util.spec_from_file_location("compare_checkers", os.path.join(HERE, "compare_checkers.py"))
     made = importlib.util.module_from_spec(spec)
     spec.loader.exec_module(made)
     page.open()
@@ -456,7 +457,7 @@ def printed(path, words):
 def main(words):
     lacking = [name for name in ("chromium", "chromedriver", "nginx") if not shutil.which(name)] + ([] if webdriver else ["python3-selenium"])
     if lacking:
-        print(f"test_page: skipped, since there is no {' or '.join(lacking)}")
+        print(f"web_page: skipped, since there is no {' or '.join(lacking)}")
         return 0
     program, checks, differences, judged = os.path.abspath(words[0] if words else os.path.join(TOP, "venue")), 0, [], (0, 0)
     with tempfile.TemporaryDirectory() as folder:
@@ -482,7 +483,7 @@ def main(words):
             site.stop()
     for line in differences:
         print(line, file=sys.stderr)
-    print(f"test_page: {checks} checks at two sizes, {judged[0]} made answers and {judged[1]} replies judged alike, {len(differences)} differences")
+    print(f"web_page: {checks} checks at two sizes, {judged[0]} made answers and {judged[1]} replies judged alike, {len(differences)} differences")
     return 1 if differences else 0
 
 

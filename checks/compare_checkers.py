@@ -1,5 +1,5 @@
 #!/usr/bin/env python3
-"""Compares `venue verify` with check_route.py over the examples, over what `venue route` prints between places of the station, and
+"""Compares `venue verify` with examples/check_route.py over the examples, over what `venue route` prints between places of the station, and
 over some hundred made answers, right and wrong. The costs of the routes are compared with a plain search over the printed table.
 
 usage: compare_checkers.py [PROGRAM]   (without PROGRAM the launcher ./venue, which builds the program if need be)
@@ -12,8 +12,9 @@ import subprocess
 import sys
 import tempfile
 
-HERE = os.path.dirname(os.path.abspath(__file__))
-CHECKER = [sys.executable, os.path.join(HERE, "check_route.py")]
+TOP = os.path.dirname(os.path.dirname(os.path.abspath(__file__)))
+EXAMPLES = os.path.join(TOP, "examples")
+CHECKER = [sys.executable, os.path.join(EXAMPLES, "check_route.py")]
 NODE = "00000000-0000-4000-8000-{:012x}"
 TABLES, ANSWERS = 25, 14
 # Places of the station by the last digits of their identifiers, and how many pairs of them are asked for each profile.
@@ -116,11 +117,11 @@ def station_bases(program, folder, chance):
     """Bases with what `links` and `route` print of the station, and those of them whose cost isn't least."""
     bases, wrong = [], []
     for profile in ("walk", "wheelchair"):
-        table = printed(program, ["links", HERE, "station", profile])
+        table = printed(program, ["links", EXAMPLES, "station", profile])
         nodes, links = links_in(table)
         for number in range(PAIRS):
             places = [NODE.format(place) for place in chance.sample(PLACES, 2)]
-            answer = printed(program, ["route", HERE, "station", profile] + places)
+            answer = printed(program, ["route", EXAMPLES, "station", profile] + places)
             base = os.path.join(folder, f"{profile}-{number}")
             os.mkdir(base)
             for name, text in (("links.txt", table), ("answer.txt", answer)):
@@ -163,11 +164,11 @@ def made_bases(folder):
 
 
 def main():
-    program = [sys.argv[1]] if len(sys.argv) > 1 else [os.path.join(HERE, "..", "venue")]
+    program = [sys.argv[1]] if len(sys.argv) > 1 else [os.path.join(TOP, "venue")]
     seen, differ = {}, 0
     with tempfile.TemporaryDirectory() as folder:
         routes, wrong = station_bases(program, folder, random.Random(11))
-        bases = sorted(entry.path for entry in os.scandir(HERE) if entry.is_dir()) + routes + made_bases(folder)
+        bases = sorted(entry.path for entry in os.scandir(EXAMPLES) if entry.is_dir()) + routes + made_bases(folder)
         for base in bases:
             found, wanted = answers_of(program + ["verify"], base), answers_of(CHECKER, base)
             kind = b" ".join(wanted[0].split()[:2]).decode() if wanted[0] else ""

@@ -5,7 +5,7 @@
 #
 # usage: serve_sessions.sh [PROGRAM]   (without PROGRAM the launcher ./venue, which builds the program if need be)
 # It prints a line for each difference and one at the end, and ends with status 1 at a difference.
-here=$(cd "$(dirname "$0")" && pwd) || exit 1
+here=$(cd "$(dirname "$0")/../examples" && pwd) || exit 1
 program=${1-$here/../venue}
 work=$(mktemp -d) || exit 1
 trap 'rm -rf "$work"' EXIT
