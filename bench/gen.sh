@@ -23,7 +23,7 @@ cat >"$work/crates/time_parts/src/main.rt" <<'END'
 
 use building_report::tell_building;
 use gen_text::gen_files;
-use station_folder::station_settings;
+use test_station::station_settings;
 use std::io::{self, Error};
 use std::time::Instant;
 use venue_build::build;

@@ -15,7 +15,7 @@ rustc --edition 2021 -O -C codegen-units=1 -o "$work/time_rows" bench/time_rows.
 gcc -O2 -shared -fPIC -o "$work/count_bytes.so" bench/count_bytes.c
 
 # A repository of its own, with a program that times the call.
-lay_out "$work" time_graph link_graph venue_folder venue_ports station_folder imdf_read reading_laws imdf_refs ring_rules opening_match
+lay_out "$work" time_graph link_graph venue_folder venue_ports test_station imdf_read reading_laws imdf_refs ring_rules opening_match
 mkdir -p "$work/crates/time_graph/proofs/judged"
 cat >"$work/crates/time_graph/src/main.rt" <<'END'
 //! Times the making of the graph of a folder, so many times, and prints the least milliseconds and the number of its nodes:
@@ -33,9 +33,9 @@ use imdf_read::{ReadOut, read_folder};
 use imdf_refs::{own_ids_law, reference_findings};
 use link_graph::Graph;
 use opening_match::touches;
-use reading_laws::sound_reading_law;
+use imdf_read::sound_reading_law;
 use ring_rules::is_spread;
-use station_folder::station_settings;
+use test_station::station_settings;
 use std::alloc::Global;
 use std::env;
 use std::io::{self, BufWriter, Error, Write};

@@ -1,5 +1,5 @@
 # Sourced by benchmarks, behind `lay_out.sh`: parts that several of their programs have. `write_opening FOLDER PROGRAM` gives the program the
-# module `opening`, which opens a folder's venue; it wants `venue_build`, `venue_folder` and `station_folder`. `write_sound_reading FOLDER PROGRAM`
+# module `opening`, which opens a folder's venue; it wants `venue_build`, `venue_folder` and `test_station`. `write_sound_reading FOLDER PROGRAM`
 # gives it the proof of a function `read` that hands the rows of a folder to `judged` where nothing is broken, and beside it in
 # `proofs/Silent.antt` that an empty report says so.
 write_opening() {
@@ -9,7 +9,7 @@ write_opening() {
 ghost use Rattle.std.specs.Prelude.{◌≡◌, IfSome};
 ghost use Rattle.std.specs.Arc.{arc_value};
 
-use station_folder::station_settings;
+use test_station::station_settings;
 use std::alloc::Global;
 use std::fs::Files;
 use std::sync::Arc;
@@ -50,8 +50,8 @@ write_sound_reading() {
 use Rattle.std.proofs.Common.{◌≡◌, List, [], subst}
 use Rattle.std.specs.Prelude.{Contains}
 use Rattle.venue_types.specs.declared.finding.Finding.{Finding}
-use Rattle.report_laws.specs.Reports.{IsReport}
-use Rattle.report_laws.proofs.Members.{Contains-nil}
+use Rattle.rule_reports.specs.Reports.{IsReport}
+use Rattle.rule_reports.proofs.Members.{Contains-nil}
 
 pub nothing : (P : Finding → Type 0) (findings : List Finding) → findings ≡ [] → IsReport P findings → (x : Finding) → ¬ P x
 nothing P findings empty report x breaks = Contains-nil x (subst (λ (xs : List Finding). Contains xs x) empty (report.whole x breaks))

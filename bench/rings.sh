@@ -12,7 +12,7 @@ geos=()
 g++ -O3 -DNDEBUG -std=c++17 -o "$work/rings" bench/rings.cpp "${geos[@]}"
 
 # A repository of its own, with a program that times the calls.
-lay_out "$work" time_rings plane_bands
+lay_out "$work" time_rings plane_trees
 proofs="$work/crates/time_rings/proofs"
 mkdir -p "$proofs"/{is_found,ready,crossing,ring}
 cat >"$work/crates/time_rings/src/main.rt" <<'END'
@@ -22,7 +22,7 @@ cat >"$work/crates/time_rings/src/main.rt" <<'END'
 ghost use Rattle.std.specs.Prelude.{All, IfOk};
 ghost use Rattle.plane_exact.specs.Testing.{IsInBox};
 
-use plane_bands::{RingBands, ring_crosses};
+use plane_trees::{RingBands, ring_crosses};
 use std::alloc::Global;
 use std::env;
 use std::fs;

@@ -4,7 +4,7 @@
 
 build_calls() {
     local work=$1
-    lay_out "$work" venue_calls route_search venue_build venue_folder venue_ports station_folder
+    lay_out "$work" venue_calls route_search venue_build venue_folder venue_ports test_station
     cat >"$work/crates/venue_calls/src/main.rt" <<'END'
 //! What the benchmarks ask of a venue: `venue_calls FOLDER` prints the nodes, the members of the units that one may walk across, and the
 //! links by relationships, for programs that make links themselves. `venue_calls FOLDER PROFILE FROM TO ROUNDS` times the search from
@@ -17,14 +17,14 @@ ghost use Rattle.link_graph.specs.Marking.{AreMarksOf};
 
 use link_graph::{Area, Graph, Marks};
 use route_search::{Found, least};
-use station_folder::station_settings;
+use test_station::station_settings;
 use std::alloc::Global;
 use std::env;
 use std::io::{self, BufWriter, Error, Write};
 use std::marker::Brand;
 use std::sync::ledger::{Blank, Ledger};
 use std::time::Instant;
-use step_count::Steps;
+use walk_laws::Steps;
 use venue_build::{Built, Venue, build};
 use venue_folder::files_of;
 use venue_ports::DirFolders;

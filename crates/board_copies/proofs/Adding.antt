@@ -1,5 +1,5 @@
 -- What the one exchange of the book does: it adds the list that was asked for, or it finds a longer log and adds nothing.
-use Rattle.board_copies.specs.declared.counting.Tried.{Tried}
+use Rattle.board_copies.specs.declared.counter.Tried.{Tried}
 use Rattle.board_copies.specs.Lists.{IsCounted, Adds}
 use Rattle.board_copies.proofs.Fronts.{prefix_whole}
 use Rattle.logbook.specs.Pages.{Cell, cell, keeps, no_nib, step, Moves, Goes}

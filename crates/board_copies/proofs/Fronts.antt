@@ -2,8 +2,8 @@
 use Rattle.std.proofs.Common.{◌≡◌, ℕ, zero, suc, ◌<◌, ◌≤◌, List, [], ◌∷◌, ◌++◌, length, ap, sym, refl, ◌∙◌, arith, length-append, append_assoc}
 use Rattle.std.proofs.lemmas.List.{append-nil}
 use mathlib.Core.List.{IsPrefix}
-use Rattle.board_copies.specs.declared.counting.Tried.{Tried}
-use Rattle.venue_history.specs.declared.entry.Entry.{Entry}
+use Rattle.board_copies.specs.declared.counter.Tried.{Tried}
+use Rattle.venue_state.specs.Entry.{Entry}
 use Rattle.board_copies.specs.Lists.{listed}
 use Rattle.board_copies.specs.Rules.{IsOneLonger}
 

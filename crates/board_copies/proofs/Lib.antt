@@ -3,3 +3,4 @@ pub mod Adding
 pub mod Steps
 pub mod Queued
 pub mod Standing
+pub use Rattle.venue_state.proofs.Entering

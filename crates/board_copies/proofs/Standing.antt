@@ -4,13 +4,13 @@ use Rattle.std.specs.Arc.{arc_value}
 use Rattle.std.specs.declared.alloc.Global.{Global}
 use Rattle.std.specs.declared.sync.Arc.{Arc}
 use Rattle.venue_types.specs.declared.settings.Settings.{Settings}
-use Rattle.venue_build.specs.Venues.{SeenVenue as Venue}
-use Rattle.venue_build.specs.Report.{AreValid}
-use Rattle.venue_history.specs.declared.entry.Act.TheVariants.{Published}
-use Rattle.venue_history.specs.declared.entry.Entry.{Entry}
-use Rattle.venue_history.specs.Closed.{Version}
-use Rattle.venue_history.specs.Histories.{Replays}
-use Rattle.venue_history.specs.Versions.{opening}
+use Rattle.venue_state.specs.Venues.{SeenVenue as Venue}
+use Rattle.venue_state.specs.Report.{AreValid}
+use Rattle.venue_state.specs.Act.TheVariants.{Published}
+use Rattle.venue_state.specs.Entry.{Entry}
+use Rattle.venue_state.specs.Closed.{Version}
+use Rattle.venue_state.specs.Histories.{Replays}
+use Rattle.venue_state.specs.Versions.{opening}
 
 -- a history and its version, by other names
 pub replays_so : (h k : List Entry) (v w : Version) → Replays h v → k ≡ h → w ≡ v → Replays k w

@@ -6,7 +6,7 @@ use lib.ListN.{get_elem?}
 use Rattle.crossbeam_utils.specs.Register.{Admits, Turns, TurnsAt, Forks, Merges}
 use Rattle.atomic_table.proofs.Lists.{at_set, at_snoc}
 use Rattle.logbook.specs.Pages.{Book}
-use Rattle.venue_history.specs.declared.entry.Entry.{Entry}
+use Rattle.venue_state.specs.Entry.{Entry}
 use Rattle.board_copies.specs.declared.view.View.{View}
 use Rattle.board_copies.specs.declared.held.Side.{Side}
 use Rattle.board_copies.specs.Rules.{Kept, Fits, list_of, book_of, nobody, whole, informed, Sees, Publishes}

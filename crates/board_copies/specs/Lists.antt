@@ -1,8 +1,8 @@
 -- The book of the lists that somebody meant to publish: a log of them, of which the first word is the length.
 use Rattle.std.specs.Prelude.{ℕ, zero, suc, ◌≡◌, ◌==◌, true, List, [], ◌∷◌, ◌++◌, length, MatchBool}
 use Rattle.logbook.specs.Pages.{Cell, Step, View, Book, Named}
-use Rattle.venue_history.specs.declared.entry.Entry.{Entry}
-use Rattle.board_copies.specs.declared.counting.Tried.{Tried}
+use Rattle.venue_state.specs.Entry.{Entry}
+use Rattle.board_copies.specs.declared.counter.Tried.{Tried}
 
 -- the list with this number
 abbrev pub listed : List Tried → ℕ → List Entry

@@ -5,7 +5,7 @@ use mathlib.Core.Option.{some}
 use mathlib.Core.List.{IsPrefix}
 use lib.ListN.{get_elem?}
 use Rattle.logbook.specs.Pages.{Book}
-use Rattle.venue_history.specs.declared.entry.Entry.{Entry}
+use Rattle.venue_state.specs.Entry.{Entry}
 use Rattle.board_copies.specs.declared.view.View.{View}
 use Rattle.board_copies.specs.declared.held.Side.{Side}
 use Rattle.board_copies.specs.Stamps.{entries_of}

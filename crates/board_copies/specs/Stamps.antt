@@ -1,6 +1,6 @@
 -- What a stamp stands for.
 use Rattle.std.specs.Prelude.{List, [], Option, Some, None}
-use Rattle.venue_history.specs.declared.entry.Entry.{Entry}
+use Rattle.venue_state.specs.Entry.{Entry}
 use Rattle.board_copies.specs.declared.stamp.Stamp.{Stamp}
 use Rattle.board_copies.specs.Lists.{listed}
 

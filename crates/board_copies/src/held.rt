@@ -1,7 +1,7 @@
 //! A board beside the stamp of its entries.
 
 ghost use Rattle.std.specs.Prelude.{◌≡◌};
-ghost use Rattle.venue_history.specs.Histories.{Replays};
+ghost use Rattle.venue_state.specs.Histories.{Replays};
 ghost use Rattle.board_copies.specs.Stamps.{entries_of};
 
 use crate::stamp::Stamp;

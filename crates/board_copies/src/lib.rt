@@ -1,36 +1,35 @@
 //! Two copies of the board under one rule: readers that wait for nobody, and a writer that changes one copy while they read the other.
 #![tactic(auto)]
 
-mod absorbing;
-mod counting;
-mod crossing;
+mod copies;
+mod counter;
+mod endless_wait;
 mod ends;
-mod entering;
-mod found;
+mod first_board;
 mod held;
+mod intake;
 mod keeper;
-mod making;
-mod opening;
-mod reading;
+mod next_held;
+mod reader_side;
 mod roll;
 mod rule;
-mod showing;
+mod seen;
 mod stamp;
-#[cfg(test)]
-mod tests;
+mod thread_bounds;
 mod view;
-mod waiting;
+mod writer_side;
 
-pub use counting::{Counting, Tried};
+pub use copies::{make_reader, make_writer};
+pub use counter::{Counting, Tried};
+pub use endless_wait::wait_for_ever;
 pub use ends::{Reads, Writes};
-pub use found::Found;
 pub use held::{Held, Ready, Side};
 pub use keeper::{Keep, Keeper};
-pub use making::{make_reader, make_writer};
-pub use reading::{meet, meet_in, read, read_in};
+pub use reader_side::{meet, meet_in, read, read_in};
 pub use roll::Roll;
 pub use rule::{Law, Notes, Publishing, Seeing, SideReader, SideWriter};
-pub use showing::{publish, queue, settle, show};
+pub use seen::Seen;
 pub use stamp::Stamp;
+pub use venue_state::{BaseFolders, Outcome, Prepared, Unready, ready_change};
 pub use view::View;
-pub use waiting::wait_for_ever;
+pub use writer_side::{publish, queue, settle, show};

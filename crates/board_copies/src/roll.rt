@@ -3,10 +3,10 @@
 ghost use Rattle.std.specs.Prelude.{◌≡◌, ◌≢◌, ◌≤◌, ◌^◌, ◌⊎◌, length, IfNone, IfSome};
 ghost use Rattle.board_copies.specs.Lists.{head_of};
 
-use crate::counting::{Adding, Counting, Nothing, Tried};
+use crate::counter::{Adding, Counting, Nothing, Tried};
 use crate::stamp::Stamp;
 use logbook::{Offer, Plain, Seen, Start, Word};
-use venue_history::Entry;
+use venue_state::Entry;
 
 /// The book, with all that was written into it. It has room for 2^62 lists, and keeps none of them.
 #[derive(Drop)]
@@ -20,7 +20,7 @@ pub struct Roll {
 
 /// The list that is to be added: that of an earlier stamp, or none, and one entry more.
 #[derive(Drop)]
-pub struct Longer {
+pub(crate) struct Longer {
     pub after: Option<Stamp>,
     pub entry: Entry,
 }

@@ -2,7 +2,7 @@
 
 ghost use Rattle.std.specs.Prelude.{◌≡◌, ◌<◌, ◌↔◌, length, IsTrue};
 
-use crate::counting::{Counting, Tried};
+use crate::counter::{Counting, Tried};
 use logbook::Seen;
 
 /// The number of a list in the book, with what was seen of the book. No other list has the number.

@@ -1,6 +1,6 @@
 //! What a reader knows, in proofs alone.
 
-use venue_history::Entry;
+use venue_state::Entry;
 
 /// The entries that were seen; and, where it is `bound`, which book the copies' lists are in, by the three numbers of its name. No value
 /// of it is made.

@@ -5,13 +5,13 @@ use Rattle.venue_types.specs.declared.query.Change.TheVariants as change
 use Rattle.venue_types.specs.declared.reply.Reply.{Reply}
 use Rattle.venue_types.specs.declared.reply.Reply.TheVariants as reply
 use Rattle.venue_folder.specs.Shelves.{Shelf}
-use Rattle.venue_history.specs.declared.entry.Act.{Act}
-use Rattle.venue_history.specs.declared.entry.Act.TheVariants as act
-use Rattle.venue_history.specs.declared.entry.Entry.{Entry}
-use Rattle.venue_history.specs.Changes.{Changes, IsAccepted, IsActOf, TellsOf}
-use Rattle.venue_history.specs.Closed.{Version, is_closed}
-use Rattle.venue_history.specs.Histories.{Replays}
-use Rattle.venue_history.specs.Versions.{after, Fits, MayFollow}
+use Rattle.version_board.specs.Act.{Act}
+use Rattle.version_board.specs.Act.TheVariants as act
+use Rattle.version_board.specs.Entry.{Entry}
+use Rattle.version_board.specs.Changes.{Changes, IsAccepted, IsActOf, TellsOf}
+use Rattle.version_board.specs.Closed.{Version, is_closed}
+use Rattle.version_board.specs.Histories.{Replays}
+use Rattle.version_board.specs.Versions.{after, Fits, MayFollow}
 use Rattle.building_report.specs.BuildingReports.{IsNamed, IsBehindClosing}
 use Rattle.building_report.specs.Costs.{IsBehindChange}
 use Rattle.building_report.proofs.Seeing.{one_version}

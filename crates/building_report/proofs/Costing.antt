@@ -7,11 +7,11 @@ use Rattle.venue_types.specs.declared.reply.Reply.TheVariants as reply
 use Rattle.venue_types.specs.declared.reply.Which.TheVariants as which
 use Rattle.venue_types.specs.declared.settings.Profile.{Profile}
 use Rattle.walk_laws.specs.Walks.{IsWalk, HasNoWalk}
-use Rattle.venue_nodes.specs.Nodes.{place_of}
-use Rattle.link_graph.specs.Views.{link_view}
-use Rattle.venue_history.specs.Answers.{Answers, IsTrip}
-use Rattle.venue_history.specs.Closed.{Version}
-use Rattle.venue_history.specs.Ways.{Usable}
+use Rattle.version_board.specs.Nodes.{place_of}
+use Rattle.version_board.specs.Views.{link_view}
+use Rattle.version_board.specs.Answers.{Answers, IsTrip}
+use Rattle.version_board.specs.Closed.{Version}
+use Rattle.version_board.specs.Ways.{Usable}
 use Rattle.building_report.specs.BuildingReports.{IsNamed, StandsAt, IsWayLine}
 use Rattle.building_report.specs.Costs.{route_query, cost_told, way_line, IsCostBetween, IsCost}
 

@@ -4,11 +4,11 @@ use mathlib.Core.List.{IsPrefix}
 use Rattle.std.specs.Arc.{arc_value}
 use Rattle.std.specs.declared.alloc.Global.{Global}
 use Rattle.std.specs.declared.sync.Arc.{Arc}
-use Rattle.venue_build.specs.Venues.{SeenVenue as Venue}
-use Rattle.venue_history.specs.declared.entry.Entry.{Entry}
-use Rattle.venue_history.specs.Closed.{Version}
-use Rattle.venue_history.specs.Histories.{Replays, replay, opening_of}
-use Rattle.version_board.specs.OneThread.{opening_history}
+use Rattle.version_board.specs.Venues.{SeenVenue as Venue}
+use Rattle.version_board.specs.Entry.{Entry}
+use Rattle.version_board.specs.Closed.{Version}
+use Rattle.version_board.specs.Histories.{Replays, replay, opening_of}
+use Rattle.version_board.specs.Openings.{opening_history}
 
 none_behind : (xs : List Entry) → xs ++ [] ≡ xs
 none_behind [] = refl

@@ -1,9 +1,9 @@
 -- The lines of a building, put together.
 use Rattle.std.proofs.Common.{◌≡◌, ◌∙◌, ap, subst, ℕ, List, ◌++◌, codes, decimal}
 use Rattle.line_forms.specs.Lines.{line}
-use Rattle.venue_build.specs.Venues.{SeenVenue as Venue}
-use Rattle.venue_history.specs.Closed.{Version}
-use Rattle.venue_history.specs.Histories.{opening_of}
+use Rattle.version_board.specs.Venues.{SeenVenue as Venue}
+use Rattle.version_board.specs.Closed.{Version}
+use Rattle.version_board.specs.Histories.{opening_of}
 use Rattle.building_report.specs.BuildingReports.{IsWayLine, IsBehindClosing, IsSummary, first_room, last_room, lowest_lift}
 use Rattle.building_report.specs.Costs.{size_lines, AreLaterLines, AreActLines}
 use Rattle.building_report.proofs.Spelling.{five_parts}

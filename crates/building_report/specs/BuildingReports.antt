@@ -1,4 +1,4 @@
--- What is told of a building that is made by arithmetic: how large it is, and how one gets through it before and after a lift is closed.
+-- What is reported of a building that is made by arithmetic: how large it is, and how one gets through it before and after a lift is closed.
 use Rattle.std.specs.Prelude.{◌≡◌, ◌⊎◌, ℕ, ◌-◌, ◌^◌, List, [], ◌++◌, length, codes, Some, Bool, true, false}
 use Rattle.std.specs.Fmt.{decimal}
 use Rattle.venue_types.specs.declared.feature_id.FeatureId.{FeatureId}
@@ -11,16 +11,16 @@ use Rattle.line_forms.specs.Lines.{line}
 use Rattle.walk_laws.specs.Walks.{IsLeast, IsWalk}
 use Rattle.imdf_access.specs.Profiles.{built_in_profiles}
 use Rattle.feature_rows.specs.Rows.{feature_count}
-use Rattle.venue_nodes.specs.Nodes.{nodes, place_of}
-use Rattle.link_graph.specs.Links.{links}
-use Rattle.link_graph.specs.Views.{link_view}
-use Rattle.venue_build.specs.Venues.{SeenVenue as Venue}
-use Rattle.venue_build.specs.Built.{IsRejected, IsVenueOf}
-use Rattle.venue_history.specs.declared.entry.Act.TheVariants.{Closed}
-use Rattle.venue_history.specs.Closed.{Version}
-use Rattle.venue_history.specs.Histories.{opening_of}
-use Rattle.venue_history.specs.Versions.{after, Fits}
-use Rattle.venue_history.specs.Ways.{Usable, profile_of}
+use Rattle.version_board.specs.Nodes.{nodes, place_of}
+use Rattle.version_board.specs.Links.{links}
+use Rattle.version_board.specs.Views.{link_view}
+use Rattle.version_board.specs.Venues.{SeenVenue as Venue}
+use Rattle.version_board.specs.Built.{IsRejected, IsVenueOf}
+use Rattle.version_board.specs.Act.TheVariants.{Closed}
+use Rattle.version_board.specs.Closed.{Version}
+use Rattle.version_board.specs.Histories.{opening_of}
+use Rattle.version_board.specs.Versions.{after, Fits}
+use Rattle.version_board.specs.Ways.{Usable, profile_of}
 use Rattle.check_text.specs.Text.{rejected_text}
 use Rattle.gen_text.specs.Numbers.{identifier, unit_number, room_unit, lift_unit}
 use Rattle.gen_text.specs.Texts.{building_files}

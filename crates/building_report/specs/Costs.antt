@@ -1,4 +1,4 @@
--- What is asked for a way and told of it, step by step.
+-- What a way costs, step by step.
 use Rattle.std.specs.Prelude.{◌≡◌, ◌⊎◌, ℕ, List, ◌++◌, codes, length, Option, Some, None, false}
 use Rattle.std.specs.Fmt.{decimal}
 use Rattle.venue_types.specs.declared.feature_id.FeatureId.{FeatureId}
@@ -11,15 +11,15 @@ use Rattle.venue_types.specs.declared.settings.Profile.{Profile}
 use Rattle.line_forms.specs.Lines.{line}
 use Rattle.walk_laws.specs.Walks.{IsLeast, IsWalk}
 use Rattle.feature_rows.specs.Rows.{feature_count}
-use Rattle.venue_nodes.specs.Nodes.{nodes}
-use Rattle.link_graph.specs.Links.{links}
-use Rattle.link_graph.specs.Views.{link_view}
-use Rattle.venue_build.specs.Venues.{SeenVenue as Venue}
-use Rattle.venue_history.specs.declared.entry.Act.TheVariants.{Closed}
-use Rattle.venue_history.specs.Answers.{IsTrip}
-use Rattle.venue_history.specs.Closed.{Version}
-use Rattle.venue_history.specs.Versions.{after, Fits}
-use Rattle.venue_history.specs.Ways.{Usable}
+use Rattle.version_board.specs.Nodes.{nodes}
+use Rattle.version_board.specs.Links.{links}
+use Rattle.version_board.specs.Views.{link_view}
+use Rattle.version_board.specs.Venues.{SeenVenue as Venue}
+use Rattle.version_board.specs.Act.TheVariants.{Closed}
+use Rattle.version_board.specs.Answers.{IsTrip}
+use Rattle.version_board.specs.Closed.{Version}
+use Rattle.version_board.specs.Versions.{after, Fits}
+use Rattle.version_board.specs.Ways.{Usable}
 use Rattle.building_report.specs.BuildingReports.{HasCost, HasNone, IsWayLine, IsBehindClosing, first_room, last_room, lowest_lift}
 
 -- the question for a way, at whatever version stands, and without a certificate

@@ -2,18 +2,16 @@
 
 ghost use Rattle.std.specs.Prelude.{◌≡◌, ◌≤◌, IfOk, length};
 ghost use Rattle.std.specs.Arc.{arc_value};
-ghost use Rattle.venue_history.specs.Changes.{Changes};
-ghost use Rattle.version_board.specs.Facts.{IsAnswered};
+ghost use Rattle.version_board.specs.Changes.{Changes};
+ghost use Rattle.version_board.specs.VenueHallFacts.{IsAnswered};
 ghost use Rattle.version_board.specs.Halls.{facts_of};
-ghost use Rattle.version_board.specs.OneThread.{opening_history};
+ghost use Rattle.version_board.specs.Openings.{opening_history};
 
 use std::alloc::Global;
 use std::sync::Arc;
-use venue_build::Venue;
-use venue_history::change_law;
 use venue_ports::QuietFolders;
 use venue_types::{Change, OutOfMemory, Query, Reply, Settings, Text};
-use version_board::{Alone, Asks, Hall, Unopened};
+use version_board::{Alone, Asks, Hall, Unopened, Venue, change_law};
 
 /// A hall of one thread over no folders.
 pub(crate) type OwnHall = Alone<QuietFolders>;

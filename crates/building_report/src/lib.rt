@@ -1,14 +1,13 @@
 //! A building that is made by arithmetic, checked like any folder, and asked for ways before and after its lowest lift is closed.
 #![tactic(auto)]
 
-mod acting;
-mod closing;
-mod counting;
+mod closure;
 mod hall;
+mod report;
 mod settings;
-mod telling;
-#[cfg(test)]
-mod tests;
+mod sizes;
+mod summary_text;
 mod ways;
 
-pub use telling::{Told, tell_building};
+pub use report::{Told, tell_building};
+pub use version_board::{Alone, Unopened};

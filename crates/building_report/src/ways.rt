@@ -3,8 +3,8 @@
 ghost use Rattle.std.specs.Prelude.{◌≡◌, ◌≢◌, ◌≤◌, IfOk, length, string_bytes};
 ghost use Rattle.venue_types.specs.Identifier.{identifier_read};
 ghost use Rattle.venue_types.specs.declared.reply.Reply.TheVariants as told;
-ghost use Rattle.venue_history.specs.Closed.{Version};
-ghost use Rattle.venue_history.specs.Histories.{Replays};
+ghost use Rattle.version_board.specs.Closed.{Version};
+ghost use Rattle.version_board.specs.Histories.{Replays};
 ghost use Rattle.gen_text.specs.Numbers.{identifier};
 ghost use Rattle.version_board.specs.Halls.{facts_of};
 ghost use Rattle.building_report.specs.BuildingReports.{IsWayLine};

@@ -1,6 +1,6 @@
 -- The printed names of rules, notes and files, by their numbers.
 use Rattle.std.specs.Prelude.{ℕ, List, Option, Some, None, slice_get, codes}
-use Rattle.imdf_schema.specs.Files as schema
+use Rattle.venue_types.specs.FolderFiles as schema
 use Rattle.imdf_schema.specs.Rules as rules
 
 -- a name, or what is printed for a number that has none

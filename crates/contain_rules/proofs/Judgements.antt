@@ -4,9 +4,9 @@ use Rattle.std.specs.Prelude.{slice_get, Some}
 use Rattle.std.proofs.lemmas.Option.{slice_get_read, slice_get-get_or}
 use Rattle.venue_types.specs.declared.features.Features.{Features}
 use Rattle.venue_types.specs.declared.finding.Finding.{Finding}
-use Rattle.imdf_schema.specs.Files.{file_number}
-use Rattle.report_laws.specs.Passes.{Adds}
-use Rattle.report_laws.proofs.Adding.{Adds-same, Adds-then, Among}
+use Rattle.venue_types.specs.FolderFiles.{file_number}
+use Rattle.rule_reports.specs.Passes.{Adds}
+use Rattle.rule_reports.proofs.Adding.{Adds-same, Adds-then, Among}
 use Rattle.contain_rules.specs.declared.rules.HoldRule.{HoldRule}
 use Rattle.contain_rules.specs.declared.rules.HoldRule.TheVariants.{K1, K2, K3, K4}
 use Rattle.imdf_schema.specs.Rules.{rule_number}

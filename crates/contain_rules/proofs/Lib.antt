@@ -1,5 +1,4 @@
 mod Bands
-mod Boxes
 mod Closeness
 mod Judgements
 mod Lists

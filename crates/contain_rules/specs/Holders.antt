@@ -4,7 +4,7 @@ use Rattle.std.specs.Prelude.{List}
 use Rattle.venue_types.specs.declared.feature_id.FeatureId.{FeatureId}
 use Rattle.venue_types.specs.declared.features.Features.{Features}
 use Rattle.venue_types.specs.declared.point.Shape.{Shape}
-use Rattle.imdf_schema.specs.declared.files.File.TheVariants as file
+use Rattle.venue_types.specs.declared.folder_file.File.TheVariants as file
 use Rattle.feature_rows.specs.Rows.{ids_of}
 use Rattle.feature_rows.specs.Figures.{shapes_of}
 use Rattle.feature_rows.specs.Indexes.{AreOnce, IsIndex}

@@ -10,11 +10,11 @@ use Rattle.venue_types.specs.declared.features.UnitRow.{UnitRow}
 use Rattle.venue_types.specs.declared.finding.Finding.{Finding}
 use Rattle.venue_types.specs.declared.point.Point.{Point}
 use Rattle.venue_types.specs.declared.point.Shape.{Shape}
-use Rattle.imdf_schema.specs.declared.files.File.{File}
-use Rattle.imdf_schema.specs.declared.files.File.TheVariants as file
+use Rattle.venue_types.specs.declared.folder_file.File.{File}
+use Rattle.venue_types.specs.declared.folder_file.File.TheVariants as file
 use Rattle.imdf_schema.specs.declared.rules.Rule.{Rule}
 use Rattle.imdf_schema.specs.declared.rules.Rule.TheVariants as rule
-use Rattle.imdf_schema.specs.Files.{file_number}
+use Rattle.venue_types.specs.FolderFiles.{file_number}
 use Rattle.imdf_schema.specs.Rules.{rule_number}
 use Rattle.plane_exact.specs.Figure.{IsInside, IsNear, vertices}
 use Rattle.feature_rows.specs.Named.{IsLevel, IsUnit}

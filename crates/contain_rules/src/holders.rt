@@ -8,9 +8,9 @@ ghost use Rattle.plane_exact.specs.Figure.{AllClose};
 ghost use Rattle.contain_rules.specs.Banding.{AreCloseShapes};
 ghost use Rattle.contain_rules.specs.Holders.{IsShapeIndex, AreHolders};
 
-use crate::banding::bands_of;
+use crate::shape_trees::bands_of;
 use feature_rows::{HasId, HasShape, Index, once_law, row_law};
-use plane_bands::Bands;
+use plane_trees::Bands;
 use std::alloc::Global;
 use venue_types::{FeatureId, Features, List, OutOfMemory};
 
@@ -22,7 +22,7 @@ pub(crate) struct ShapeIndex<'a> {
 }
 
 impl<'a> ShapeIndex<'a> {
-    /// Of these rows. Takes n log n time.
+    // Of these rows. Takes n log n time.
     fn of<R: HasId + HasShape>(alloc: Global, rows: &'a [R]) -> Result<ShapeIndex<'a>, OutOfMemory>
         requires once { AreOnce (map R.id_of rows.now) }
         requires close { AreCloseShapes (map R.shape_of rows.now) }

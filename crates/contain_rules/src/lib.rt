@@ -1,14 +1,12 @@
 //! The rules on what holds what: a level its units and openings, a unit its anchors and amenities.
 #![tactic(auto)]
 
-mod banding;
+mod hold_findings;
 mod holders;
-mod holding;
-mod leaving;
+mod outside_positions;
 mod rows;
 mod rules;
-#[cfg(test)]
-mod tests;
+mod shape_trees;
 
-pub use holding::add_hold_findings;
+pub use hold_findings::add_hold_findings;
 pub use rules::HoldRule;

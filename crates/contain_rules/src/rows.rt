@@ -6,7 +6,7 @@ ghost use Rattle.contain_rules.specs.declared.rules.HoldRule.{HoldRule};
 ghost use Rattle.contain_rules.specs.Judging.{CanJudge, UnitHolds, OneHolds};
 
 use crate::holders::Holders;
-use crate::leaving::{figure_leaves, is_held, some_leaves};
+use crate::outside_positions::{figure_leaves, is_held, some_leaves};
 use crate::rules::HoldRule;
 use feature_rows::{amenity_point_law, anchor_point_law, opening_point_law, unit_vertex_law};
 use venue_types::{AmenityRow, AnchorRow, FeatureId, Features, List, OpeningRow, UnitRow};
@@ -93,7 +93,7 @@ impl HasHolder for AnchorRow {
     }
 }
 
-/// Whether the unit holds the amenity's point.
+// Whether the unit holds the amenity's point.
 fn unit_holds(
     features: &Features,
     holders: &Holders,
@@ -112,7 +112,7 @@ fn unit_holds(
     }
 }
 
-/// Whether one of these units holds the amenity's point.
+// Whether one of these units holds the amenity's point.
 fn one_holds(
     features: &Features,
     holders: &Holders,

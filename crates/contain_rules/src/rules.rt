@@ -4,7 +4,7 @@ ghost use Rattle.std.specs.Prelude.{◌≡◌, ◌≤◌};
 ghost use Rattle.contain_rules.specs.Rules.{rule_of, file_judged};
 ghost use Rattle.contain_rules.specs.Judging.{hold_finding};
 
-use imdf_schema::{File, Place, Rule};
+use imdf_schema::{FeatureAt, File, Rule};
 use venue_types::Finding;
 
 /// A rule on a feature and what is to hold it.
@@ -50,7 +50,7 @@ impl HoldRule {
         requires { index ≤ 100000 }
         ensures { result ≡ hold_finding self index }
     {
-        let place = Place {
+        let place = FeatureAt {
             file: self.file(),
             index: index as u32,
         };

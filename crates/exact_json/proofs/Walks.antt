@@ -9,7 +9,7 @@ use Rattle.exact_json.specs.Number.{head}
 use Rattle.exact_json.specs.StringReading.{text_at, is_plain, escape}
 use Rattle.exact_json.specs.Strings.{IsText, IsHex, AreHex}
 use Rattle.exact_json.specs.Grammar.{Padded, MoreElements, Elements, IsPair, Spells, spellings, pair_spellings, IsJson, bare}
-use Rattle.exact_json.specs.Nesting.{Place, outside, in_string, behind_backslash, next_place, open_behind, most_open, nesting}
+use Rattle.exact_json.specs.Nesting.{StringState, outside, in_string, behind_backslash, next_place, open_behind, most_open, nesting}
 use Rattle.exact_json.proofs.Texts.{by_bool, head_cons, none_some, taken_off, text_at-run, text_at-quote, text_at-escape, text_at-no_escape, stopped, string_again}
 use Rattle.exact_json.proofs.Escapes.{escape_forms}
 use Rattle.exact_json.proofs.Chars.{to_reading}
@@ -17,21 +17,21 @@ use Rattle.exact_json.proofs.Fronts.{pair_parts, not_same, quiet_number}
 use Rattle.exact_json.proofs.Quiet.{IsQuiet, AllQuiet, quiet_below, quiet_letter, quiet_space}
 use Rattle.exact_json.proofs.Utf8.{by_option}
 
-at_least : (p : Place) (n : ℕ) (b : List ℕ) → n ≤ most_open p n b
+at_least : (p : StringState) (n : ℕ) (b : List ℕ) → n ≤ most_open p n b
 unfolding most_open
 at_least p n [] = omega arith
 at_least p n (c ∷ b) = omega arith
 
-one_byte : (p : Place) (n c : ℕ) (b : List ℕ) → most_open p n (c ∷ b) ≡ max n (most_open (next_place p c) (open_behind p n c) b)
+one_byte : (p : StringState) (n c : ℕ) (b : List ℕ) → most_open p n (c ∷ b) ≡ max n (most_open (next_place p c) (open_behind p n c) b)
 unfolding most_open
 one_byte p n c b = refl
 
-none_left : (p : Place) (n : ℕ) → most_open p n [] ≡ n
+none_left : (p : StringState) (n : ℕ) → most_open p n [] ≡ n
 unfolding most_open
 none_left p n = refl
 
 -- a byte that opens and closes nothing
-same_count : (p q : Place) (n c : ℕ) (b : List ℕ) → next_place p c ≡ q → open_behind p n c ≡ n → most_open p n (c ∷ b) ≡ most_open q n b
+same_count : (p q : StringState) (n c : ℕ) (b : List ℕ) → next_place p c ≡ q → open_behind p n c ≡ n → most_open p n (c ∷ b) ≡ most_open q n b
 same_count p q n c b next same = one_byte p n c b ∙ ap₂ (λ x y. max n (most_open x y b)) next same ∙ omega (arith, at_least q n b)
 
 five_tests : {A : Type 0} (a b c d : Bool) (x y z : A) → a ≡ false → b ≡ false → c ≡ false → d ≡ false → cond (a || b) x (cond (c || d) y z) ≡ z

@@ -1,4 +1,4 @@
--- The code's own way, and no promise: reading from the front, a value and the bytes behind it.
+-- The code's own way, and no promise: reading from the start, a value and the bytes after it.
 use Rattle.std.specs.Prelude.{◌≡◌, ℕ, zero, suc, ◌-◌, ◌≤◌, List, [], ◌∷◌, length, take, drop, nat_eq, true, false, cond, ◌==◌, Option, Some, None, option_map, option_and_then, Result, Ok, Err}
 use Rattle.std.specs.List.{prefix_len, starts_with}
 use Rattle.exact_json.specs.Json.{Json, null, boolean, number, text, items, object}

@@ -21,12 +21,12 @@ impl Arena {
         }
     }
 
-    // For what is let go before a tree is.
+    /// For what is let go before a tree is.
     pub(crate) fn alloc(&self) -> Global {
         self.alloc
     }
 
-    // A copy of what stands on a stack from `start` on, which is taken off the stack.
+    /// A copy of what stands on a stack from `start` on, which is taken off the stack.
     pub(crate) fn close<'a, T: Copy>(
         &'a self,
         stack: &mut Vec<T>,
@@ -41,7 +41,7 @@ impl Arena {
         Ok(taken)
     }
 
-    // A copy of a text.
+    /// A copy of a text.
     pub(crate) fn keep(&self, text: &[u8]) -> Result<&[u8], AllocError>
         ensures { IfOk result (λ kept. kept.now ≡ text.now) }
     {

@@ -6,13 +6,11 @@ mod fault;
 mod kinds;
 pub mod laws;
 mod number;
-mod reading;
 mod scan;
-#[cfg(test)]
-mod tests;
 mod text;
 mod tree;
 mod unclosed;
+mod values;
 mod whole;
 
 pub use arena::Arena;

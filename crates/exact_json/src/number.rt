@@ -1,4 +1,4 @@
-//! Bytes in front of a text, and number tokens (RFC 8259, section 6).
+//! The first bytes of a text, and number tokens (RFC 8259, section 6).
 
 ghost use Rattle.std.specs.Prelude.{◌≡◌, ◌+◌, ◌≤◌, length, drop, get_or, option_map, IfSome};
 ghost use Rattle.std.specs.List.{prefix_len};

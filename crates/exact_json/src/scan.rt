@@ -9,8 +9,8 @@ ghost use Rattle.exact_json.specs.Scanning.{Scanning, Enters, Leaves, IsShorter,
 use crate::fault::JsonFault;
 use crate::kinds::{Kind, Kinds};
 use crate::number::{after, byte_at};
-use crate::reading::{read_token, skip_spaces};
 use crate::text::pass_text;
+use crate::values::{read_token, skip_spaces};
 use std::alloc::Global;
 
 fn pass_scalar(text: &[u8]) -> Option<&[u8]>
@@ -92,7 +92,7 @@ fn enter<'a>(kinds: &mut Kinds, text: &'a [u8]) -> Result<&'a [u8], JsonFault>
     }
 }
 
-/// What is to come behind a value.
+// What is to come behind a value.
 enum Behind<'a> {
     /// Another element.
     Element(&'a [u8]),

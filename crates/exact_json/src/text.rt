@@ -1,4 +1,4 @@
-//! Strings (RFC 8259, section 7), from behind the opening quote on.
+//! Strings (RFC 8259, section 7), from after the opening quote on.
 
 ghost use Rattle.std.specs.Prelude.{◌≡◌, ◌≢◌, ◌+◌, ◌≤◌, ◌<◌, ◌++◌, [], ◌∷◌, true, drop, length, option_map, IfOk, IfSome, OnOk, SomeIff, encode_utf8};
 ghost use Rattle.std.specs.List.{prefix_len};

@@ -11,13 +11,13 @@ ghost use Rattle.exact_json.specs.Scanning.{Reads};
 use crate::arena::Arena;
 use crate::fault::JsonFault;
 use crate::number::after;
-use crate::reading::{read_value, skip_spaces};
 use crate::scan::scan;
 use crate::tree::Tree;
 use crate::unclosed::Unclosed;
+use crate::values::{read_value, skip_spaces};
 use std::alloc::Global;
 
-/// How deep lists and objects may nest.
+// How deep lists and objects may nest.
 const MAX_DEPTH: usize = 64;
 
 // Why a text is refused whose value nests too deep, if it is one.

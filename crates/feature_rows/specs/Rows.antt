@@ -16,9 +16,9 @@ use Rattle.venue_types.specs.declared.features.PlainRow.{PlainRow}
 use Rattle.venue_types.specs.declared.features.RelationshipRow.{RelationshipRow}
 use Rattle.venue_types.specs.declared.features.UnitRow.{UnitRow}
 use Rattle.venue_types.specs.declared.features.VenueRow.{VenueRow}
-use Rattle.imdf_schema.specs.declared.files.File.{File}
-use Rattle.imdf_schema.specs.declared.files.File.TheVariants as file
-use Rattle.imdf_schema.specs.Files.{feature_files}
+use Rattle.venue_types.specs.declared.folder_file.File.{File}
+use Rattle.venue_types.specs.declared.folder_file.File.TheVariants as file
+use Rattle.venue_types.specs.FolderFiles.{feature_files}
 
 -- the identifiers of a file's features, in file order
 abbrev pub ids_of : File → Features → List FeatureId

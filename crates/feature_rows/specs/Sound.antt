@@ -7,7 +7,7 @@ use Rattle.venue_types.specs.declared.features.Ref.{Ref}
 use Rattle.venue_types.specs.declared.point.Point.{Point}
 use Rattle.venue_types.specs.declared.point.Ring.{Ring}
 use Rattle.venue_types.specs.declared.point.Shape.{Shape}
-use Rattle.imdf_schema.specs.declared.files.File.{File}
+use Rattle.venue_types.specs.declared.folder_file.File.{File}
 use Rattle.plane_exact.specs.Figure.{rings}
 use Rattle.feature_rows.specs.Rows.{feature_count}
 use Rattle.feature_rows.specs.Figures.{shapes_of, positions, judged_positions}

@@ -9,7 +9,7 @@ ghost use Rattle.venue_types.specs.declared.features.LevelRow.{LevelRow};
 ghost use Rattle.venue_types.specs.declared.features.OpeningRow.{OpeningRow};
 ghost use Rattle.venue_types.specs.declared.features.UnitRow.{UnitRow};
 ghost use Rattle.venue_types.specs.declared.point.Point.{Point};
-ghost use Rattle.imdf_schema.specs.declared.files.File.{File};
+ghost use Rattle.venue_types.specs.declared.folder_file.File.{File};
 ghost use Rattle.plane_exact.specs.Figure.{AllClose, vertices};
 ghost use Rattle.feature_rows.specs.declared.index.Index.{Index};
 ghost use Rattle.feature_rows.specs.Rows.{ids_of, HaveOwnIds};

@@ -9,8 +9,6 @@ mod has_id;
 mod has_shape;
 mod index;
 mod laws;
-#[cfg(test)]
-mod tests;
 
 pub use count::feature_count;
 pub use has_id::HasId;

@@ -1,4 +1,4 @@
--- The code's own way, no promise: each item is written with a comma behind it, and the last comma is taken back.
+-- The code's own way, no promise: each item is written with a comma after it, and the last comma is taken back.
 use Rattle.std.specs.Prelude.{◌≡◌, ℕ, List, [], ◌∷◌, ◌++◌, flat_map}
 use Rattle.venue_types.specs.declared.files.Slot.{Slot}
 use Rattle.gen_text.specs.Texts.{collection_front, feature_file}

@@ -1,4 +1,4 @@
-//! Writing features. Each gets a comma behind it.
+//! Writing features. Each gets a comma after it.
 
 ghost use Rattle.std.specs.Prelude.{◌≡◌, ◌<◌, ◌++◌, map, codes, OnOk};
 ghost use Rattle.gen_text.specs.Texts.{item_front, item, ordinal, level_properties, opening_properties, unit_properties, reference, relationship_properties};

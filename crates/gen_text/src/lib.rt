@@ -6,8 +6,6 @@ mod geometry;
 mod identifiers;
 mod items;
 mod numbers;
-#[cfg(test)]
-mod tests;
 
 pub use files::gen_files;
 pub use identifiers::identifier_text;

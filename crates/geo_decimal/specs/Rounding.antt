@@ -1,4 +1,4 @@
--- The code's own way, and no promise: digits read as a number that is cut behind some of them and rounded by the next.
+-- The code's own way, and no promise: digits read as a number that is cut after some of them and rounded by the next.
 use Rattle.std.specs.Prelude.{ℕ, ◌+◌, ◌-◌, ◌*◌, ◌^◌, List, length, take, nat_le, slice_index_or, if◌then◌else◌}
 use Rattle.std.specs.Str.Parse.{digits_value}
 

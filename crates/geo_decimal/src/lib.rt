@@ -9,8 +9,6 @@ mod grammar;
 mod laws;
 mod parts;
 mod size;
-#[cfg(test)]
-mod tests;
 
 pub use coordinate::nano;
 pub use fault::NumberFault;

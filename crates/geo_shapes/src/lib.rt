@@ -8,10 +8,9 @@ mod polygon;
 mod position;
 mod read_geometry;
 mod ring;
-#[cfg(test)]
-mod tests;
 mod values;
 
+pub use exact_json::{Members, Pair, Tree};
 pub use geometry::{line, point, shape};
 pub use laws::{decimals_law, one_line_law, one_point_law, one_shape_law, same_numbers_law};
 pub use read_geometry::ReadGeometry;

@@ -5,8 +5,6 @@ mod category;
 mod meaning;
 mod parts;
 mod profile;
-#[cfg(test)]
-mod tests;
 
 pub use category::{known_unit, passage, unit_kind, walkable};
 pub use meaning::before_dot;

@@ -7,7 +7,7 @@ ghost use Rattle.imdf_access.specs.Profiles.{built_in_profiles, walk_profile, wh
 use std::alloc::Global;
 use venue_types::{Kind, LinkFacts, List, OutOfMemory, Profile, Text};
 
-// Whether the profile passes links of the kind.
+/// Whether the profile passes links of the kind.
 pub fn passes_kind(profile: &Profile, kind: Kind) -> bool
     ensures { result ≡ passes profile.now kind }
 {
@@ -21,7 +21,7 @@ pub fn passes_kind(profile: &Profile, kind: Kind) -> bool
     }
 }
 
-// Whether what is asked, if it is asked, is granted.
+/// Whether what is asked, if it is asked, is granted.
 pub fn is_granted(asked: bool, granted: bool) -> bool
     ensures granted { IsTrue result ↔ (IsTrue asked → IsTrue granted) }
     ensures test { result ≡ (not asked || granted) }

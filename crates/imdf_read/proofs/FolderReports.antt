@@ -10,12 +10,12 @@ use Rattle.venue_types.specs.declared.files.Slot.{Slot}
 use Rattle.venue_types.specs.declared.features.Features.{Features}
 use Rattle.venue_types.specs.declared.finding.Finding.{Finding}
 use Rattle.venue_types.specs.declared.finding.Note.{Note}
-use Rattle.report_laws.specs.Reports.{IsReport, IsNoteList}
-use Rattle.report_laws.proofs.Phases.{Lists-same}
-use Rattle.report_laws.specs.Order.{finding_cmp, note_cmp}
-use Rattle.imdf_schema.specs.declared.files.File.{File}
-use Rattle.imdf_schema.specs.declared.files.File.TheVariants as file
-use Rattle.imdf_schema.specs.Files.{file_number, feature_files}
+use Rattle.rule_reports.specs.Reports.{IsReport, IsNoteList}
+use Rattle.rule_reports.proofs.Phases.{Lists-same}
+use Rattle.rule_reports.specs.Order.{finding_cmp, note_cmp}
+use Rattle.venue_types.specs.declared.folder_file.File.{File}
+use Rattle.venue_types.specs.declared.folder_file.File.TheVariants as file
+use Rattle.venue_types.specs.FolderFiles.{file_number, feature_files}
 use Rattle.imdf_schema.specs.Contents.{IsContent, content_items}
 use Rattle.imdf_rows.specs.Folder.{AreRows, AreFeatures}
 use Rattle.imdf_read.specs.declared.rules.ReadingRule.{ReadingRule}
@@ -28,12 +28,12 @@ use Rattle.imdf_read.specs.Rules.{rule_of, note_of}
 use Rattle.imdf_read.specs.Counts.{collected, total_positions}
 use Rattle.imdf_read.specs.Broken.{FolderBreaks, BreaksInFolder, BreaksInFile, BreaksInItem, IsBroken}
 use Rattle.imdf_read.specs.Noted.{ItemNotes, IsNoted}
-use Rattle.report_laws.specs.Passes.{Adds}
+use Rattle.rule_reports.specs.Passes.{Adds}
 use Rattle.imdf_schema.specs.Places.{finding_at, note_at}
 use Rattle.imdf_read.specs.Gathering.{FindsInFile}
 use Rattle.imdf_read.specs.Progress.{FoundUpTo, NotedUpTo, CountsUpTo, IsUpTo, HasRows, HaveRows}
-use Rattle.report_laws.proofs.Adding.{Adds-then}
-use Rattle.imdf_schema.proofs.FileNumbers.{up_to_16}
+use Rattle.rule_reports.proofs.Adding.{Adds-then}
+use Rattle.venue_types.proofs.FileNumbers.{up_to_16}
 use Rattle.imdf_read.proofs.Folders.{finds_at}
 
 at_most_16 : (f : File) → file_number f ≤ 16

@@ -10,19 +10,19 @@ use Rattle.exact_json.specs.Json.{Json}
 use Rattle.venue_types.specs.declared.files.Slot.{Slot}
 use Rattle.venue_types.specs.declared.finding.Finding.{Finding}
 use Rattle.venue_types.specs.declared.finding.Note.{Note}
-use Rattle.imdf_schema.specs.declared.files.File.{File}
-use Rattle.imdf_schema.specs.declared.files.File.TheVariants as file
-use Rattle.imdf_schema.specs.Files.{file_number, feature_files}
+use Rattle.venue_types.specs.declared.folder_file.File.{File}
+use Rattle.venue_types.specs.declared.folder_file.File.TheVariants as file
+use Rattle.venue_types.specs.FolderFiles.{file_number, feature_files}
 use Rattle.imdf_schema.specs.Contents.{IsContent, content_items}
 use Rattle.imdf_read.specs.declared.items.Taken.{Taken}
 use Rattle.imdf_read.specs.declared.progress.Progress.{Progress}
 use Rattle.imdf_read.specs.Counts.{collected, file_positions, total_positions}
-use Rattle.report_laws.specs.Passes.{Adds}
+use Rattle.rule_reports.specs.Passes.{Adds}
 use Rattle.imdf_read.specs.Gathering.{FindsInSlot, FindsInFile, NotesInFile}
 use Rattle.imdf_read.specs.Progress.{FindsAt, FoundUpTo, NotedUpTo, CountsUpTo, IsUpTo, HasRows}
 use Rattle.imdf_read.specs.Taking.{Takes}
 use Rattle.std.proofs.lemmas.Slice.Zip.{all_zipped_more}
-use Rattle.imdf_schema.proofs.FileNumbers.{same_number, feature_at}
+use Rattle.venue_types.proofs.FileNumbers.{same_number, feature_at}
 use Rattle.imdf_read.proofs.ItemLists.{sum_push}
 
 take_at : {X : Type 0} (xs : List X) (n : ℕ) (x : X) → slice_get xs n ≡ Some x → take (suc n) xs ≡ take n xs ++ x ∷ []

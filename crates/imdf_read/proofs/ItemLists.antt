@@ -7,26 +7,26 @@ use Rattle.std.proofs.lemmas.List.Sums.{sum_by-append}
 use Rattle.std.specs.List.{AllZip}
 use Rattle.imdf_read.specs.declared.items.Taken.{Taken}
 use Rattle.imdf_read.specs.Taking.{TakesItems}
-use Rattle.report_laws.proofs.Adding.{Below}
+use Rattle.rule_reports.proofs.Adding.{Below}
 use Rattle.venue_types.specs.declared.finding.Finding.{Finding}
 use Rattle.venue_types.specs.declared.finding.Note.{Note}
 use Rattle.exact_json.specs.Json.{Json}
-use Rattle.imdf_schema.specs.declared.files.File.{File}
-use Rattle.imdf_schema.specs.declared.files.Geometry.{Geometry}
-use Rattle.imdf_schema.specs.declared.files.Geometry.TheVariants as kind
-use Rattle.imdf_schema.specs.Files.{geometry_of}
+use Rattle.venue_types.specs.declared.folder_file.File.{File}
+use Rattle.venue_types.specs.declared.folder_file.Geometry.{Geometry}
+use Rattle.venue_types.specs.declared.folder_file.Geometry.TheVariants as kind
+use Rattle.venue_types.specs.FolderFiles.{geometry_of}
 use Rattle.imdf_schema.specs.Items.{is_feature, geometry, fits_geometry}
 use Rattle.imdf_rows.specs.declared.figure.Figure.{Figure}
 use Rattle.imdf_rows.specs.Figures.{HasFigure}
 use Rattle.imdf_read.specs.declared.rules.ReadingRule.TheVariants.{C2, C5, G1, G2}
 use Rattle.imdf_read.specs.declared.figures.Judged.{Judged}
 use Rattle.imdf_read.specs.Counts.{places_of, is_judged, item_positions}
-use Rattle.report_laws.specs.Passes.{Adds}
+use Rattle.rule_reports.specs.Passes.{Adds}
 use Rattle.imdf_schema.specs.Places.{finding_at}
 use Rattle.imdf_read.specs.Rules.{rule_of}
 use Rattle.imdf_read.specs.Gathering.{FindsInItem, FindsInItems, NotesInItem, NotesInItems}
 use Rattle.imdf_read.specs.Judging.{IsJudged, StandsFor}
-use Rattle.report_laws.proofs.Adding.{Adds-same, Among}
+use Rattle.rule_reports.proofs.Adding.{Adds-same, Among}
 
 flag_down : (b : Bool) → (b ≡ true → ⊥) → b ≡ false
 flag_down true none = absurd (none refl)

@@ -5,7 +5,7 @@ use Rattle.std.proofs.lemmas.Bool.{cases_Bool}
 use Rattle.std.proofs.lemmas.Bool.Decides.{Decides-ltb}
 use Rattle.venue_types.specs.declared.finding.Finding.{Finding}
 use Rattle.exact_json.specs.Json.{Json}
-use Rattle.imdf_schema.specs.declared.files.File.{File}
+use Rattle.venue_types.specs.declared.folder_file.File.{File}
 use Rattle.imdf_schema.specs.Items.{is_feature}
 use Rattle.imdf_schema.specs.Properties.{properties}
 use Rattle.imdf_read.specs.declared.rules.ReadingRule.{ReadingRule}
@@ -13,12 +13,12 @@ use Rattle.imdf_read.specs.declared.rules.ReadingRule.TheVariants.{F1, F2, F3, F
 use Rattle.imdf_read.specs.declared.figures.Judged.{Judged}
 use Rattle.imdf_read.specs.Counts.{is_judged}
 use Rattle.imdf_read.specs.Broken.{ItemBreaks}
-use Rattle.report_laws.specs.Passes.{Adds}
+use Rattle.rule_reports.specs.Passes.{Adds}
 use Rattle.imdf_schema.specs.Places.{finding_at}
 use Rattle.imdf_read.specs.Rules.{rule_of}
 use Rattle.imdf_read.specs.Gathering.{FindsBy, FindsRule, FindsInGeometry, FindsInItem, FindsMisformedOf, plain_rules}
 use Rattle.imdf_read.specs.Judging.{IsJudged, IsPassed}
-use Rattle.report_laws.proofs.Adding.{Adds-same, Adds-then}
+use Rattle.rule_reports.proofs.Adding.{Adds-same, Adds-then}
 
 -- a test of a rule that is told of the feature itself
 pub adds_one : (r : ReadingRule) (f : File) (i : ℕ) (item : Json) (broken : Bool) (place : Finding) (old new : List Finding)

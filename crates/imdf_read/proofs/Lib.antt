@@ -8,3 +8,13 @@ mod NoteRules
 mod PlainRules
 mod PropertyRule
 mod Slots
+mod Lists
+mod Nothing
+mod Figures
+mod Elements
+mod Shapes
+mod Counts
+mod ReadFolders
+mod SameRows
+mod Unique
+mod OneReading

@@ -4,18 +4,18 @@ use Rattle.venue_types.specs.declared.finding.Finding.{Finding}
 use Rattle.venue_types.specs.declared.files.Slot.{Slot}
 use Rattle.venue_types.specs.declared.files.Slot.TheVariants.{Absent}
 use Rattle.exact_json.specs.Json.{Json, member}
-use Rattle.imdf_schema.specs.declared.files.File.TheVariants as file
+use Rattle.venue_types.specs.declared.folder_file.File.TheVariants as file
 use Rattle.imdf_schema.specs.Values.{is_null, is_object, is_text, is_word}
 use Rattle.imdf_schema.specs.Contents.{HasValue, IsLarge, IsNoText, IsDeep}
 use Rattle.imdf_read.specs.declared.rules.ReadingRule.{ReadingRule}
 use Rattle.imdf_read.specs.declared.rules.ReadingRule.TheVariants.{F1, F2, F3, F4, M1, M2, M3, C1, C2, C3, C4, C5, C6, V1, L1, Q1, S1, S2, S3, S4, G1, G2}
 use Rattle.imdf_read.specs.Broken.{FileBreaks}
-use Rattle.report_laws.specs.Passes.{Adds}
+use Rattle.rule_reports.specs.Passes.{Adds}
 use Rattle.imdf_schema.specs.Places.{finding_at}
 use Rattle.imdf_read.specs.Rules.{rule_of}
 use Rattle.imdf_read.specs.Gathering.{FindsInSlot}
 use Rattle.imdf_read.specs.Taking.{HasOnlyValue, HasFault}
-use Rattle.report_laws.proofs.Adding.{Adds-same, Adds-then}
+use Rattle.rule_reports.proofs.Adding.{Adds-same, Adds-then}
 use Rattle.imdf_read.proofs.Slots.{Whole, adds_whole, text_of, not_absent, not_large, some_text, not_deep, fault_value, fault_there, large_text, large_deep, text_deep}
 
 abbrev One : Slot → ReadingRule → Finding → Type 0

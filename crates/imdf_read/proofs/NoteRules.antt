@@ -4,16 +4,16 @@ use Rattle.std.specs.Prelude.{Contains}
 use Rattle.venue_types.proofs.Items.{at_member, member_at}
 use Rattle.venue_types.specs.declared.finding.Note.{Note}
 use Rattle.exact_json.specs.Json.{Json}
-use Rattle.imdf_schema.specs.declared.files.File.{File}
+use Rattle.venue_types.specs.declared.folder_file.File.{File}
 use Rattle.imdf_schema.specs.Items.{is_feature}
 use Rattle.imdf_read.specs.declared.rules.ReadingNote.{ReadingNote}
 use Rattle.imdf_read.specs.declared.rules.ReadingNote.TheVariants.{N1, N2, N5}
 use Rattle.imdf_read.specs.Noted.{ItemNotes}
-use Rattle.report_laws.specs.Passes.{Adds}
+use Rattle.rule_reports.specs.Passes.{Adds}
 use Rattle.imdf_schema.specs.Places.{note_at}
 use Rattle.imdf_read.specs.Rules.{note_of}
 use Rattle.imdf_read.specs.Gathering.{NotesBy, NotesInItem}
-use Rattle.report_laws.proofs.Adding.{Adds-same, Adds-none, Among}
+use Rattle.rule_reports.proofs.Adding.{Adds-same, Adds-none, Among}
 
 -- a note of this kind is due
 abbrev pub Due : File → ℕ → Json → ReadingNote → Note → Type 0

@@ -4,18 +4,18 @@ use Rattle.std.specs.List.{list_all}
 use Rattle.venue_types.proofs.Items.{at_member, member_at}
 use Rattle.venue_types.specs.declared.finding.Finding.{Finding}
 use Rattle.exact_json.specs.Json.{Json}
-use Rattle.imdf_schema.specs.declared.files.File.{File}
-use Rattle.imdf_schema.specs.declared.files.File.TheVariants as file
+use Rattle.venue_types.specs.declared.folder_file.File.{File}
+use Rattle.venue_types.specs.declared.folder_file.File.TheVariants as file
 use Rattle.imdf_schema.specs.Items.{is_feature, unlisted_property}
 use Rattle.imdf_rows.specs.Fields.{IsOrdinal}
 use Rattle.imdf_read.specs.declared.rules.ReadingRule.{ReadingRule}
 use Rattle.imdf_read.specs.declared.rules.ReadingRule.TheVariants.{F1, F2, F3, F4, M1, M2, M3, C1, C2, C3, C4, C5, C6, V1, L1, Q1, S1, S2, S3, S4, G1, G2}
 use Rattle.imdf_read.specs.Broken.{ItemBreaks}
-use Rattle.report_laws.specs.Passes.{Adds}
+use Rattle.rule_reports.specs.Passes.{Adds}
 use Rattle.imdf_schema.specs.Places.{finding_at}
 use Rattle.imdf_read.specs.Rules.{rule_of}
 use Rattle.imdf_read.specs.Gathering.{FindsBy, FindsRule, is_plain}
-use Rattle.report_laws.proofs.Adding.{Adds-same, Among}
+use Rattle.rule_reports.proofs.Adding.{Adds-same, Among}
 
 -- a plain rule is broken by the feature itself
 at_zero : (r : ReadingRule) (f : File) (item : Json) (place : ℕ) → is_plain r ≡ true → ItemBreaks r f item place → (place ≡ 0) × ItemBreaks r f item 0

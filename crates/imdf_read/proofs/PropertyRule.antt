@@ -4,17 +4,17 @@ use Rattle.std.specs.Prelude.{slice_get}
 use Rattle.venue_types.proofs.Items.{at_member, member_at}
 use Rattle.venue_types.specs.declared.finding.Finding.{Finding}
 use Rattle.exact_json.specs.Json.{Json}
-use Rattle.imdf_schema.specs.declared.files.File.{File}
+use Rattle.venue_types.specs.declared.folder_file.File.{File}
 use Rattle.imdf_schema.specs.declared.table.PropertyRow.{PropertyRow}
 use Rattle.imdf_schema.specs.Properties.{property_number}
 use Rattle.imdf_schema.specs.Forms.{Fits, items_of, item_fits}
 use Rattle.imdf_schema.specs.Items.{property}
 use Rattle.imdf_read.specs.declared.rules.ReadingRule.TheVariants.{C6}
-use Rattle.report_laws.specs.Passes.{Adds}
+use Rattle.rule_reports.specs.Passes.{Adds}
 use Rattle.imdf_schema.specs.Places.{finding_at}
 use Rattle.imdf_read.specs.Rules.{rule_of}
 use Rattle.imdf_read.specs.Gathering.{FindsBadItem, FindsMisformed, FindsMisformedOf}
-use Rattle.report_laws.proofs.Adding.{Adds-same, Adds-then, Among, Adds-none}
+use Rattle.rule_reports.proofs.Adding.{Adds-same, Adds-then, Among, Adds-none}
 
 -- an item of the list at this place in it isn't of its form
 abbrev pub BadItem : PropertyRow → File → ℕ → ℕ → Json → Finding → Type 0

@@ -8,20 +8,20 @@ use Rattle.venue_types.specs.declared.files.Slot.{Slot}
 use Rattle.venue_types.specs.declared.files.Slot.TheVariants.{Absent, Held}
 use Rattle.exact_json.specs.Json.{Json, depth}
 use Rattle.exact_json.specs.Grammar.{IsJson}
-use Rattle.imdf_schema.specs.declared.files.File.{File}
-use Rattle.imdf_schema.specs.declared.files.File.TheVariants as file
+use Rattle.venue_types.specs.declared.folder_file.File.{File}
+use Rattle.venue_types.specs.declared.folder_file.File.TheVariants as file
 use Rattle.imdf_schema.specs.Items.{is_collection, items_in}
 use Rattle.imdf_schema.specs.Contents.{IsContent, content_items, HasValue, IsLarge, IsNoText, IsDeep}
 use Rattle.imdf_read.specs.declared.items.Taken.{Taken}
 use Rattle.imdf_read.specs.declared.rules.ReadingRule.{ReadingRule}
 use Rattle.imdf_read.specs.declared.rules.ReadingRule.TheVariants.{F1, F2, F3, F4, M1, M2, M3, C1, C2, C3, C4, C5, C6, V1, L1, Q1, S1, S2, S3, S4, G1, G2}
 use Rattle.imdf_read.specs.Broken.{FileBreaks}
-use Rattle.report_laws.specs.Passes.{Adds}
+use Rattle.rule_reports.specs.Passes.{Adds}
 use Rattle.imdf_schema.specs.Places.{finding_at}
 use Rattle.imdf_read.specs.Rules.{rule_of}
 use Rattle.imdf_read.specs.Gathering.{FindsInSlot, FindsInItems, FindsInFile, NotesInItems, NotesInFile}
 use Rattle.imdf_read.specs.Taking.{Takes, TakesItems, TakesNothing, HasOnlyValue, HasFault, IsTextOf}
-use Rattle.report_laws.proofs.Adding.{Adds-same, Adds-then, Adds-none}
+use Rattle.rule_reports.proofs.Adding.{Adds-same, Adds-then, Adds-none}
 
 -- one rule on the file
 abbrev pub Whole : File → Slot → ReadingRule → Finding → Type 0

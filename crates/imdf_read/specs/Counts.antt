@@ -4,11 +4,11 @@ use Rattle.std.specs.List.{AllZip}
 use Rattle.exact_json.specs.Json.{Json}
 use Rattle.geo_shapes.specs.Geometry.{point_places, line_places, shape_places, ring_places, longest_of}
 use Rattle.venue_types.specs.declared.files.Files.{Files}
-use Rattle.imdf_schema.specs.declared.files.File.{File}
-use Rattle.imdf_schema.specs.declared.files.Geometry.{Geometry}
-use Rattle.imdf_schema.specs.declared.files.Geometry.TheVariants as kind
+use Rattle.venue_types.specs.declared.folder_file.File.{File}
+use Rattle.venue_types.specs.declared.folder_file.Geometry.{Geometry}
+use Rattle.venue_types.specs.declared.folder_file.Geometry.TheVariants as kind
 use Rattle.imdf_schema.specs.declared.table.Property.TheVariants as property
-use Rattle.imdf_schema.specs.Files.{geometry_of}
+use Rattle.venue_types.specs.FolderFiles.{geometry_of}
 use Rattle.imdf_schema.specs.Values.{is_null, listed}
 use Rattle.imdf_schema.specs.Items.{is_collection, is_feature, items_in, geometry, fits_geometry}
 use Rattle.imdf_schema.specs.Items as item

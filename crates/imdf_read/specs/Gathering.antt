@@ -4,7 +4,7 @@ use Rattle.exact_json.specs.Json.{Json, IsNarrow}
 use Rattle.venue_types.specs.declared.files.Slot.{Slot}
 use Rattle.venue_types.specs.declared.finding.Finding.{Finding}
 use Rattle.venue_types.specs.declared.finding.Note.{Note}
-use Rattle.imdf_schema.specs.declared.files.File.{File}
+use Rattle.venue_types.specs.declared.folder_file.File.{File}
 use Rattle.imdf_schema.specs.declared.table.PropertyRow.{PropertyRow}
 use Rattle.imdf_schema.specs.Properties.{property_number}
 use Rattle.imdf_schema.specs.Forms.{item_fits}

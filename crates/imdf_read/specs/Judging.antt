@@ -2,10 +2,10 @@
 use Rattle.std.specs.Prelude.{◌≡◌, ◌^◌, ◌-◌, true, false, IsTrue, ◌↔◌, min, length}
 use Rattle.exact_json.specs.Json.{Json}
 use Rattle.geo_shapes.specs.Position.{BreaksPositions}
-use Rattle.imdf_schema.specs.declared.files.File.{File}
-use Rattle.imdf_schema.specs.declared.files.Geometry.{Geometry}
-use Rattle.imdf_schema.specs.declared.files.Geometry.TheVariants as kind
-use Rattle.imdf_schema.specs.Files.{geometry_of}
+use Rattle.venue_types.specs.declared.folder_file.File.{File}
+use Rattle.venue_types.specs.declared.folder_file.Geometry.{Geometry}
+use Rattle.venue_types.specs.declared.folder_file.Geometry.TheVariants as kind
+use Rattle.venue_types.specs.FolderFiles.{geometry_of}
 use Rattle.imdf_schema.specs.Items.{geometry}
 use Rattle.imdf_rows.specs.declared.figure.Figure.{Figure}
 use Rattle.imdf_rows.specs.Figures.{HasPointFigure, HasLineFigure, HasShapeFigure}

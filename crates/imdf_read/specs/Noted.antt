@@ -4,10 +4,10 @@ use Rattle.exact_json.specs.Json.{Json, text_bytes}
 use Rattle.venue_types.specs.declared.files.Files.{Files}
 use Rattle.venue_types.specs.declared.finding.Note.{Note}
 use Rattle.imdf_access.specs.Categories.{is_known_unit, passage_of}
-use Rattle.imdf_schema.specs.declared.files.File.{File}
-use Rattle.imdf_schema.specs.declared.files.File.TheVariants as file
+use Rattle.venue_types.specs.declared.folder_file.File.{File}
+use Rattle.venue_types.specs.declared.folder_file.File.TheVariants as file
 use Rattle.imdf_schema.specs.declared.table.Property.TheVariants as property
-use Rattle.imdf_schema.specs.Files.{file_number}
+use Rattle.venue_types.specs.FolderFiles.{file_number}
 use Rattle.imdf_schema.specs.Items.{is_feature}
 use Rattle.imdf_schema.specs.Items as item
 use Rattle.imdf_schema.specs.Contents.{HasContent, content_items}

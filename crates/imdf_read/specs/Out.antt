@@ -1,7 +1,7 @@
 -- What reading a folder gives.
 use Rattle.std.specs.Prelude.{◌≡◌, []}
 use Rattle.venue_types.specs.declared.files.Files.{Files}
-use Rattle.report_laws.specs.Reports.{IsReport, IsNoteList}
+use Rattle.rule_reports.specs.Reports.{IsReport, IsNoteList}
 use Rattle.imdf_rows.specs.Folder.{AreFeatures}
 use Rattle.imdf_read.specs.declared.read_out.ReadOut.{ReadOut}
 use Rattle.imdf_read.specs.Broken.{IsBroken}

@@ -9,8 +9,8 @@ use Rattle.std.specs.Borrow.{Bor}
 use Rattle.venue_types.specs.declared.files.Slot.{Slot}
 use Rattle.venue_types.specs.declared.files.Slot.TheVariants.{Absent, Held}
 use Rattle.venue_types.specs.declared.finding.Finding.{Finding}
-use Rattle.imdf_schema.specs.declared.files.File.{File}
-use Rattle.imdf_schema.specs.declared.files.Geometry.{Geometry}
+use Rattle.venue_types.specs.declared.folder_file.File.{File}
+use Rattle.venue_types.specs.declared.folder_file.Geometry.{Geometry}
 use Rattle.imdf_schema.specs.Contents.{IsContent, content_items, HasValue, IsLarge, IsNoText, IsDeep}
 use Rattle.imdf_read.specs.declared.rules.ReadingRule.{ReadingRule}
 use Rattle.imdf_read.specs.declared.rules.ReadingRule.TheVariants.{F2, F3, F4}

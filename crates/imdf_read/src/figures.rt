@@ -28,7 +28,7 @@ pub(crate) struct Judged {
 }
 
 impl Judged {
-    // Of a geometry that isn't read.
+    /// Of a geometry that isn't read.
     pub(crate) fn nothing() -> Judged
         ensures { result ≡ record { figure = Figure.Nothing; bad_position = false; bad_form = false; positions = 0; longest = 0 } }
     {
@@ -132,7 +132,7 @@ fn read_figure(alloc: Global, kind: Geometry, tree: &Tree) -> Result<Judged, Out
     }
 }
 
-// Reads the geometry of an item, if it is judged.
+/// Reads the geometry of an item, if it is judged.
 pub(crate) fn judged_geometry(alloc: Global, file: File, item: &Tree) -> Result<Judged, OutOfMemory>
     ensures { IfOk result (IsJudged file (tree_view item.now)) }
 {

@@ -5,8 +5,8 @@ ghost use Rattle.exact_json.specs.Json.{HasTexts};
 ghost use Rattle.exact_json.specs.View.{tree_view};
 ghost use Rattle.venue_types.specs.declared.files.Slot.{Slot as ASlot};
 ghost use Rattle.venue_types.specs.declared.files.Slot.TheVariants.{Absent};
-ghost use Rattle.imdf_schema.specs.Files.{geometry_of};
-ghost use Rattle.report_laws.specs.Passes.{Adds};
+ghost use Rattle.venue_types.specs.FolderFiles.{geometry_of};
+ghost use Rattle.rule_reports.specs.Passes.{Adds};
 ghost use Rattle.imdf_schema.specs.Places.{finding_at};
 ghost use Rattle.imdf_read.specs.Rules.{rule_of};
 ghost use Rattle.imdf_read.specs.Gathering.{FindsInFile, FindsInItems, NotesInFile, NotesInItems, IsShort};
@@ -16,18 +16,18 @@ use crate::items::{Gathered, Taken, take_items};
 use crate::rules::ReadingRule;
 use exact_json::{Arena, JsonFault, Tree, read};
 use imdf_rows::FeatureRow;
-use imdf_schema::{File, Place, is_collection, items};
-use report_laws::add;
+use imdf_schema::{FeatureAt, File, is_collection, items};
+use rule_reports::add;
 use std::alloc::Global;
 use venue_types::{Finding, OutOfMemory, Slot};
 
 pub(crate) const MAX_BYTES: usize = 33_554_432;
 
-// The finding of a rule on a file as a whole.
+/// The finding of a rule on a file as a whole.
 pub(crate) fn whole(rule: ReadingRule, file: File) -> Finding
     ensures { result ≡ finding_at (rule_of rule) file 0 0 }
 {
-    Place { file, index: 0 }.finding(rule.rule(), 0)
+    FeatureAt { file, index: 0 }.finding(rule.rule(), 0)
 }
 
 impl<R: FeatureRow> Taken<R> {
@@ -152,7 +152,7 @@ fn take_fault<R: FeatureRow>(
     Ok(Taken::nothing(alloc))
 }
 
-// Reads a feature file.
+/// Reads a feature file.
 pub(crate) fn read_file<R: FeatureRow>(
     alloc: Global,
     gathered: &mut Gathered,

@@ -10,7 +10,7 @@ use crate::read_out::ReadOut;
 use crate::rows::read_rows;
 use crate::rules::ReadingRule;
 use imdf_schema::File;
-use report_laws::{add, in_order, notes_in_order};
+use rule_reports::{add, in_order, notes_in_order};
 use std::alloc::Global;
 use venue_types::{Files, OutOfMemory};
 

@@ -3,7 +3,7 @@
 ghost use Rattle.std.specs.Prelude.{◌≡◌, OnOk, IfOk, true, nat_lt};
 ghost use Rattle.exact_json.specs.View.{tree_view};
 ghost use Rattle.imdf_schema.specs.Items.{is_feature as feature_is};
-ghost use Rattle.report_laws.specs.Passes.{Adds};
+ghost use Rattle.rule_reports.specs.Passes.{Adds};
 ghost use Rattle.imdf_read.specs.Gathering.{FindsRule, FindsInGeometry, FindsInItem, IsShort};
 ghost use Rattle.imdf_read.specs.Judging.{IsJudged};
 
@@ -11,8 +11,8 @@ use crate::figures::{Judged, judged_geometry};
 use crate::plain_rules::judge_plain;
 use crate::property_rule::judge_properties;
 use exact_json::Tree;
-use imdf_schema::{Place, Rule, is_feature};
-use report_laws::add;
+use imdf_schema::{FeatureAt, Rule, is_feature};
+use rule_reports::add;
 use std::alloc::Global;
 use venue_types::{Finding, OutOfMemory};
 
@@ -21,7 +21,7 @@ const MAX_RING: u64 = 20_000;
 // The rules on a geometry.
 fn judge_figure(
     findings: &mut Vec<Finding>,
-    place: Place,
+    place: FeatureAt,
     item: &Tree,
     judged: &Judged,
 ) -> Result<(), OutOfMemory>
@@ -42,7 +42,7 @@ fn judge_figure(
 fn judge_feature(
     alloc: Global,
     findings: &mut Vec<Finding>,
-    place: Place,
+    place: FeatureAt,
     item: &Tree,
 ) -> Result<Judged, OutOfMemory>
     requires feature { feature_is (tree_view item.now) ≡ true }
@@ -57,11 +57,11 @@ fn judge_feature(
     Ok(judged)
 }
 
-// The rules on an item, and what was read of its geometry.
+/// The rules on an item, and what was read of its geometry.
 pub(crate) fn judge_item(
     alloc: Global,
     findings: &mut Vec<Finding>,
-    place: Place,
+    place: FeatureAt,
     item: &Tree,
 ) -> Result<Judged, OutOfMemory>
     requires { IsShort (tree_view item.now) }

@@ -5,9 +5,9 @@ ghost use Rattle.std.specs.List.{AllZip};
 ghost use Rattle.exact_json.specs.Json.{Json, HasTexts};
 ghost use Rattle.exact_json.specs.View.{tree_view};
 ghost use Rattle.venue_types.specs.declared.finding.Finding.{Finding as AFinding};
-ghost use Rattle.imdf_schema.specs.Files.{geometry_of};
+ghost use Rattle.venue_types.specs.FolderFiles.{geometry_of};
 ghost use Rattle.imdf_read.specs.Counts.{item_positions};
-ghost use Rattle.report_laws.specs.Passes.{Adds};
+ghost use Rattle.rule_reports.specs.Passes.{Adds};
 ghost use Rattle.imdf_read.specs.Gathering.{FindsInItem, FindsInItems, NotesInItem, NotesInItems, IsShort};
 ghost use Rattle.imdf_read.specs.Taking.{Serves, AreShort, AreTexts, TakesItems};
 
@@ -16,7 +16,7 @@ use crate::item::judge_item;
 use crate::note_rules::judge_notes;
 use exact_json::Tree;
 use imdf_rows::{FeatureRow, push_row};
-use imdf_schema::{File, Place};
+use imdf_schema::{FeatureAt, File};
 use std::alloc::Global;
 use venue_types::{Finding, Note, OutOfMemory};
 
@@ -32,7 +32,7 @@ fn take_item<R: FeatureRow>(
     alloc: Global,
     gathered: &mut Gathered,
     rows: &mut Vec<R>,
-    place: Place,
+    place: FeatureAt,
     item: &Tree,
 ) -> Result<u64, OutOfMemory>
     requires short { IsShort (tree_view item.now) }
@@ -66,7 +66,7 @@ pub(crate) struct Taken<R> {
     pub positions: u64,
 }
 
-// The items of a feature file. Their number is given as that of a collection.
+/// The items of a feature file. Their number is given as that of a collection.
 pub(crate) fn take_items<R: FeatureRow>(
     alloc: Global,
     gathered: &mut Gathered,
@@ -84,7 +84,7 @@ pub(crate) fn take_items<R: FeatureRow>(
     let mut rows = Vec::new(alloc);
     let mut positions = 0u64;
     for (k, item) in items.iter().enumerate() {
-        let place = Place {
+        let place = FeatureAt {
             file,
             index: k as u32,
         };

@@ -6,6 +6,7 @@ mod file;
 mod folder;
 mod item;
 mod items;
+mod laws;
 mod manifest;
 mod note_rules;
 mod plain_rules;
@@ -14,9 +15,10 @@ mod property_rule;
 mod read_out;
 mod rows;
 mod rules;
-#[cfg(test)]
-mod tests;
 
+pub use feature_rows::{HasId, Index};
 pub use folder::read_folder;
+pub use imdf_schema::{FeatureAt, File, Rule};
+pub use laws::{one_reading_law, ordinals_law, sound_reading_law};
 pub use read_out::ReadOut;
 pub use rules::{ReadingNote, ReadingRule};

@@ -6,7 +6,7 @@ ghost use Rattle.exact_json.specs.View.{tree_view};
 ghost use Rattle.imdf_schema.specs.Values as values;
 ghost use Rattle.venue_types.specs.declared.files.Slot.{Slot as ASlot};
 ghost use Rattle.venue_types.specs.declared.files.Slot.TheVariants.{Absent};
-ghost use Rattle.report_laws.specs.Passes.{Adds};
+ghost use Rattle.rule_reports.specs.Passes.{Adds};
 ghost use Rattle.imdf_read.specs.Gathering.{FindsInSlot};
 ghost use Rattle.imdf_read.specs.Taking.{HasOnlyValue, HasFault};
 
@@ -14,7 +14,7 @@ use crate::file::{MAX_BYTES, whole};
 use crate::rules::ReadingRule;
 use exact_json::{Arena, JsonFault, Tree, read};
 use imdf_schema::{File, is_null, is_object, is_text, is_word, member};
-use report_laws::add;
+use rule_reports::add;
 use std::alloc::Global;
 use venue_types::{Finding, OutOfMemory, Slot};
 
@@ -72,7 +72,7 @@ fn judge_absent(findings: &mut Vec<Finding>) -> Result<(), OutOfMemory>
     add(findings, true, whole(ReadingRule::F1, File::Manifest))
 }
 
-// The rules on the manifest.
+/// The rules on the manifest.
 pub(crate) fn judge_manifest(
     alloc: Global,
     findings: &mut Vec<Finding>,

@@ -6,14 +6,14 @@ ghost use Rattle.exact_json.specs.View.{tree_view};
 ghost use Rattle.imdf_access.specs.Categories.{is_known_unit, passage_of};
 ghost use Rattle.imdf_schema.specs.Values.{seen};
 ghost use Rattle.imdf_read.specs.Noted.{ItemNotes};
-ghost use Rattle.report_laws.specs.Passes.{Adds};
+ghost use Rattle.rule_reports.specs.Passes.{Adds};
 ghost use Rattle.imdf_read.specs.Gathering.{NotesBy, NotesInItem};
 
 use crate::rules::ReadingNote;
 use exact_json::Tree;
 use imdf_access::{known_unit, passage};
-use imdf_schema::{File, Place, Property, is_feature, property, text};
-use report_laws::add;
+use imdf_schema::{FeatureAt, File, Property, is_feature, property, text};
+use rule_reports::add;
 use venue_types::{Note, OutOfMemory};
 
 static KINDS: [ReadingNote; 3] = [ReadingNote::N1, ReadingNote::N2, ReadingNote::N5];
@@ -63,7 +63,7 @@ fn is_due(kind: ReadingNote, file: File, item: &Tree) -> bool
 // Each note of a feature.
 fn judge_kinds(
     notes: &mut Vec<Note>,
-    place: Place,
+    place: FeatureAt,
     item: &Tree,
     kinds: &[ReadingNote],
 ) -> Result<(), OutOfMemory>
@@ -76,10 +76,10 @@ fn judge_kinds(
     Ok(())
 }
 
-// The notes on an item.
+/// The notes on an item.
 pub(crate) fn judge_notes(
     notes: &mut Vec<Note>,
-    place: Place,
+    place: FeatureAt,
     item: &Tree,
 ) -> Result<(), OutOfMemory>
     ensures { OnOk result (Adds (NotesInItem place.file place.index (tree_view item.now)) notes.old.items notes.new.items) }

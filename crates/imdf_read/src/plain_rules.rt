@@ -8,17 +8,17 @@ ghost use Rattle.imdf_schema.specs.Values.{seen, is_word as word_is};
 ghost use Rattle.imdf_rows.specs.Fields.{IsOrdinal};
 ghost use Rattle.imdf_read.specs.Counts.{one_unless_null as one_of, elements as elements_of};
 ghost use Rattle.imdf_read.specs.Broken.{ItemBreaks};
-ghost use Rattle.report_laws.specs.Passes.{Adds};
+ghost use Rattle.rule_reports.specs.Passes.{Adds};
 ghost use Rattle.imdf_read.specs.Gathering.{FindsBy, IsShort, is_plain, plain_rules};
 
 use crate::rules::ReadingRule;
 use exact_json::Tree;
 use imdf_rows::ordinal;
 use imdf_schema::{
-    File, Place, Property, fits_geometry, geometry, is_id, is_null, is_word, list, member,
+    FeatureAt, File, Property, fits_geometry, geometry, is_id, is_null, is_word, list, member,
     property, unlisted_property,
 };
-use report_laws::add;
+use rule_reports::add;
 use venue_types::{Finding, OutOfMemory};
 
 const MAX_ELEMENTS: usize = 65;
@@ -123,7 +123,7 @@ fn breaks(rule: ReadingRule, file: File, item: &Tree) -> bool
 // Each of these rules.
 fn judge_rules(
     findings: &mut Vec<Finding>,
-    place: Place,
+    place: FeatureAt,
     item: &Tree,
     rules: &[ReadingRule],
 ) -> Result<(), OutOfMemory>
@@ -139,10 +139,10 @@ fn judge_rules(
     Ok(())
 }
 
-// Each rule that takes one test of a feature.
+/// Each rule that takes one test of a feature.
 pub(crate) fn judge_plain(
     findings: &mut Vec<Finding>,
-    place: Place,
+    place: FeatureAt,
     item: &Tree,
 ) -> Result<(), OutOfMemory>
     requires feature { is_feature (tree_view item.now) ≡ true }

@@ -1,7 +1,7 @@
 //! One file after another.
 
 ghost use Rattle.std.specs.Prelude.{◌≡◌, ◌≢◌, ◌+◌, ℕ, OnOk, IfOk, Some, length, slice_get};
-ghost use Rattle.imdf_schema.specs.Files.{file_number, geometry_of};
+ghost use Rattle.venue_types.specs.FolderFiles.{file_number, geometry_of};
 ghost use Rattle.imdf_read.specs.Progress.{IsUpTo, HasRows};
 ghost use Rattle.imdf_read.specs.Taking.{Serves};
 
@@ -30,7 +30,7 @@ fn slot_of(slots: &[Slot], file: File) -> &Slot
     &slots[file.number() as usize]
 }
 
-// Reads the manifest.
+/// Reads the manifest.
 pub(crate) fn read_manifest(alloc: Global, slots: &[Slot]) -> Result<Progress, OutOfMemory>
     requires { length slots.now ≡ 17 }
     ensures { IfOk result (IsUpTo slots.now 0) }
@@ -47,7 +47,7 @@ pub(crate) fn read_manifest(alloc: Global, slots: &[Slot]) -> Result<Progress, O
     })
 }
 
-// Reads the next file.
+/// Reads the next file.
 pub(crate) fn read_next_file<R: FeatureRow>(
     alloc: Global,
     progress: &mut Progress,

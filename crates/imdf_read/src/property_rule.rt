@@ -3,19 +3,19 @@
 ghost use Rattle.std.specs.Prelude.{◌≡◌, ◌≤◌, ◌^◌, OnOk, map, length};
 ghost use Rattle.exact_json.specs.View.{tree_view};
 ghost use Rattle.imdf_schema.specs.Properties.{properties};
-ghost use Rattle.report_laws.specs.Passes.{Adds};
+ghost use Rattle.rule_reports.specs.Passes.{Adds};
 ghost use Rattle.imdf_read.specs.Gathering.{FindsBadItem, FindsMisformed, FindsMisformedOf, IsShort};
 
 use exact_json::Tree;
-use imdf_schema::{Place, PropertyRow, Rule, fits, item_fits, list_of, properties, property};
-use report_laws::add;
+use imdf_schema::{FeatureAt, PropertyRow, Rule, fits, item_fits, list_of, properties, property};
+use rule_reports::add;
 use std::alloc::Global;
 use venue_types::{Finding, OutOfMemory};
 
 // At each item of a list.
 fn judge_list(
     findings: &mut Vec<Finding>,
-    place: Place,
+    place: FeatureAt,
     row: &PropertyRow,
     items: &[Tree],
 ) -> Result<(), OutOfMemory>
@@ -34,7 +34,7 @@ fn judge_list(
 fn judge_property(
     alloc: Global,
     findings: &mut Vec<Finding>,
-    place: Place,
+    place: FeatureAt,
     item: &Tree,
     row: &PropertyRow,
 ) -> Result<(), OutOfMemory>
@@ -58,7 +58,7 @@ fn judge_property(
 fn judge_table(
     alloc: Global,
     findings: &mut Vec<Finding>,
-    place: Place,
+    place: FeatureAt,
     item: &Tree,
     table: &[PropertyRow],
 ) -> Result<(), OutOfMemory>
@@ -71,11 +71,11 @@ fn judge_table(
     Ok(())
 }
 
-// At each property of the item.
+/// At each property of the item.
 pub(crate) fn judge_properties(
     alloc: Global,
     findings: &mut Vec<Finding>,
-    place: Place,
+    place: FeatureAt,
     item: &Tree,
 ) -> Result<(), OutOfMemory>
     requires { IsShort (tree_view item.now) }

@@ -2,7 +2,7 @@
 
 ghost use Rattle.std.specs.Prelude.{◌≡◌, OnOk, IfOk, length};
 ghost use Rattle.imdf_rows.specs.Rows.{IsAmenityRow, IsAnchorRow, IsBuildingRow, IsDetailRow, IsFixtureRow, IsFootprintRow, IsKioskRow, IsLevelRow, IsOccupantRow, IsOpeningRow, IsPlainRow, IsRelationshipRow, IsUnitRow, IsVenueRow};
-ghost use Rattle.imdf_schema.specs.declared.files.File.TheVariants as file;
+ghost use Rattle.venue_types.specs.declared.folder_file.File.TheVariants as file;
 ghost use Rattle.imdf_read.specs.Progress.{IsUpTo, HasRows, HaveRows};
 
 use crate::progress::{Progress, read_next_file};
@@ -110,7 +110,7 @@ fn relationships_to_venues(
     Ok((relationships, sections, units, venues))
 }
 
-// The rows of all feature files.
+/// The rows of all feature files.
 pub(crate) fn read_rows(
     alloc: Global,
     progress: &mut Progress,

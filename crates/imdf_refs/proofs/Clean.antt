@@ -8,20 +8,20 @@ use Rattle.venue_types.specs.declared.features.Features.{Features}
 use Rattle.venue_types.specs.declared.features.AnchorRow.{AnchorRow}
 use Rattle.venue_types.specs.declared.features.LevelRow.{LevelRow}
 use Rattle.venue_types.specs.declared.features.UnitRow.{UnitRow}
-use Rattle.imdf_schema.specs.declared.files.File.{File}
-use Rattle.imdf_schema.specs.declared.files.File.TheVariants as file
+use Rattle.venue_types.specs.declared.folder_file.File.{File}
+use Rattle.venue_types.specs.declared.folder_file.File.TheVariants as file
 use Rattle.imdf_schema.specs.declared.forms.Form.TheVariants as form
 use Rattle.imdf_schema.specs.declared.table.Property.TheVariants as property
 use Rattle.imdf_schema.specs.declared.table.ReferenceTarget.TheVariants as named
 use Rattle.imdf_schema.specs.declared.table.PropertyRow.{PropertyRow}
-use Rattle.imdf_schema.specs.Files.{file_number}
+use Rattle.venue_types.specs.FolderFiles.{file_number}
 use Rattle.imdf_schema.specs.Properties.{properties}
 use Rattle.feature_rows.specs.Rows.{ids_of, IsFeature, HaveOwnIds}
 use Rattle.feature_rows.specs.Named.{IsLevel, IsUnit, IsAnchor}
 use Rattle.imdf_refs.specs.References.{Refers, by_id, file_named, references_in, opening_references, unit_references, anchor_references, amenity_references, occupant_references}
 use Rattle.imdf_refs.specs.Rules.{IsTyped}
 use Rattle.imdf_refs.specs.Laws.{FindsNothing, HasOne, OpeningsHaveLevels, UnitsHaveLevels, AnchorsHaveUnits, AmenitiesHaveUnits, OccupantsHaveAnchors}
-use Rattle.imdf_schema.proofs.FileNumbers.{same_number}
+use Rattle.venue_types.proofs.FileNumbers.{same_number}
 use Rattle.imdf_refs.proofs.OwnIds.{each_its_own}
 use Rattle.imdf_refs.proofs.Typed.{name_their_types}
 

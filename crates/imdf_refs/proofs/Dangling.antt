@@ -5,10 +5,10 @@ use Rattle.venue_types.specs.declared.feature_id.FeatureId.{FeatureId}
 use Rattle.venue_types.specs.declared.features.Features.{Features}
 use Rattle.venue_types.specs.declared.finding.Finding.{Finding}
 use Rattle.imdf_schema.specs.declared.table.PropertyRow.{PropertyRow}
-use Rattle.report_laws.specs.Passes.{Adds, found}
-use Rattle.report_laws.proofs.Adding.{Adds-same, Adds-found, Adds-then, Among}
+use Rattle.rule_reports.specs.Passes.{Adds, found}
+use Rattle.rule_reports.proofs.Adding.{Adds-same, Adds-found, Adds-then, Among}
 use Rattle.imdf_refs.specs.declared.known.Known.{Known}
-use Rattle.imdf_schema.specs.declared.place.Place.{Place}
+use Rattle.imdf_schema.specs.declared.feature_at.FeatureAt.{FeatureAt}
 use Rattle.imdf_schema.specs.declared.rules.Rule.TheVariants.{X1, X2}
 use Rattle.imdf_schema.specs.Places.{finding_at}
 use Rattle.imdf_refs.specs.References.{Reference}
@@ -16,7 +16,7 @@ use Rattle.imdf_refs.specs.Index.{has_id, has_typed}
 use Rattle.imdf_refs.specs.Gathering.{Dangles, DanglesAt, DanglesAmong, DanglesInRows, DanglesInProperty, DanglesInTable}
 
 -- two tests, one after the other
-pub at_one : (known : Known) (place : Place) (member : ℕ) (id : FeatureId) (f : Option ℕ) (named right : Bool) (one two : Finding) (a b c : List Finding)
+pub at_one : (known : Known) (place : FeatureAt) (member : ℕ) (id : FeatureId) (f : Option ℕ) (named right : Bool) (one two : Finding) (a b c : List Finding)
     → named ≡ has_id known id → right ≡ has_typed known id f → one ≡ finding_at X1 place.file place.index member → two ≡ finding_at X2 place.file place.index member
     → b ≡ a ++ found (not named) one → c ≡ b ++ found (named && not right) two → Adds (Dangles known place member id f) a c
 at_one known place member id f named right one two a b c names types first second added more =

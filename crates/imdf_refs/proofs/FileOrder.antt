@@ -3,10 +3,10 @@ use Rattle.std.proofs.Common.{◌≡◌, ℕ, ◌≤◌, Some, length, refl, ari
 use Rattle.std.specs.Prelude.{slice_get}
 use Rattle.venue_types.specs.declared.feature_id.FeatureId.{FeatureId}
 use Rattle.venue_types.specs.declared.features.Features.{Features}
-use Rattle.imdf_schema.specs.declared.files.File.{File}
-use Rattle.imdf_schema.specs.declared.files.File.TheVariants as file
-use Rattle.imdf_schema.specs.Files.{file_number, feature_files}
-use Rattle.imdf_schema.proofs.FileNumbers.{nth_number}
+use Rattle.venue_types.specs.declared.folder_file.File.{File}
+use Rattle.venue_types.specs.declared.folder_file.File.TheVariants as file
+use Rattle.venue_types.specs.FolderFiles.{file_number, feature_files}
+use Rattle.venue_types.proofs.FileNumbers.{nth_number}
 use Rattle.feature_rows.specs.Rows.{ids_of, IsFeature, feature_count}
 
 -- the manifest has no features, and each other file is a feature file

@@ -7,12 +7,12 @@ use Rattle.std.proofs.lemmas.Bool.{eqb-true, cases_lt}
 use Rattle.std.proofs.lemmas.Option.{slice_get_within, same_Some}
 use Rattle.venue_types.specs.declared.feature_id.FeatureId.{FeatureId}
 use Rattle.venue_types.specs.declared.features.Features.{Features}
-use Rattle.imdf_schema.specs.declared.files.File.{File}
-use Rattle.imdf_schema.specs.Files.{file_number}
+use Rattle.venue_types.specs.declared.folder_file.File.{File}
+use Rattle.venue_types.specs.FolderFiles.{file_number}
 use Rattle.feature_rows.specs.Rows.{ids_of, IsFeature}
 use Rattle.imdf_refs.specs.declared.known.Known.{Known}
 use Rattle.imdf_refs.specs.Index.{pair_cmp, HasBefore, HasAll}
-use Rattle.imdf_schema.proofs.FileNumbers.{same_number, up_to_16}
+use Rattle.venue_types.proofs.FileNumbers.{same_number, up_to_16}
 use Rattle.imdf_refs.proofs.FileOrder.{from_one}
 
 either : (a b : Bool) → (a || b) ≡ true → (a ≡ true) ⊎ (b ≡ true)

@@ -4,18 +4,18 @@ use Rattle.std.specs.Prelude.{slice_get}
 use Rattle.venue_types.specs.declared.feature_id.FeatureId.{FeatureId}
 use Rattle.venue_types.specs.declared.features.Features.{Features}
 use Rattle.venue_types.specs.declared.finding.Finding.{Finding}
-use Rattle.imdf_schema.specs.declared.files.File.{File}
-use Rattle.imdf_schema.specs.Files.{file_number, feature_files}
+use Rattle.venue_types.specs.declared.folder_file.File.{File}
+use Rattle.venue_types.specs.FolderFiles.{file_number, feature_files}
 use Rattle.feature_rows.specs.Rows.{ids_of, IsFeature}
-use Rattle.report_laws.specs.Passes.{Adds}
-use Rattle.report_laws.proofs.Adding.{Adds-same, Among}
+use Rattle.rule_reports.specs.Passes.{Adds}
+use Rattle.rule_reports.proofs.Adding.{Adds-same, Among}
 use Rattle.imdf_refs.specs.declared.known.Known.{Known}
 use Rattle.imdf_schema.specs.declared.rules.Rule.TheVariants as rule
 use Rattle.imdf_schema.specs.Places.{finding_at}
 use Rattle.imdf_refs.specs.Rules.{RepeatsEarlier}
 use Rattle.imdf_refs.specs.Index.{has_id, IsNamedBefore, HasBefore}
 use Rattle.imdf_refs.specs.Gathering.{RepeatsIn, Repeats}
-use Rattle.imdf_schema.proofs.FileNumbers.{same_number}
+use Rattle.venue_types.proofs.FileNumbers.{same_number}
 use Rattle.imdf_refs.proofs.FileOrder.{place_among}
 
 -- the feature at this place has the identifier of an earlier one

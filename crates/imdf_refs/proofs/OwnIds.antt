@@ -4,12 +4,12 @@ use Rattle.std.proofs.lemmas.Bool.{cases_lt}
 use Rattle.venue_types.specs.declared.feature_id.FeatureId.{FeatureId}
 use Rattle.venue_types.specs.declared.features.Features.{Features}
 use Rattle.venue_types.specs.declared.finding.Finding.{Finding}
-use Rattle.imdf_schema.specs.declared.files.File.{File}
-use Rattle.imdf_schema.specs.Files.{file_number}
+use Rattle.venue_types.specs.declared.folder_file.File.{File}
+use Rattle.venue_types.specs.FolderFiles.{file_number}
 use Rattle.feature_rows.specs.Rows.{IsFeature, HaveOwnIds}
 use Rattle.imdf_refs.specs.declared.rules.ReferenceRule.TheVariants.{C7}
 use Rattle.imdf_refs.specs.Rules.{IsMisnamed, IsEarlier}
-use Rattle.imdf_schema.proofs.FileNumbers.{same_number}
+use Rattle.venue_types.proofs.FileNumbers.{same_number}
 
 module _ (features : Features) (none : (x : Finding) → ¬ IsMisnamed features x) where
   -- no feature repeats an earlier one

@@ -5,9 +5,9 @@ use Rattle.std.proofs.lemmas.Bool.{eqb-true, eq-eqb, false≢true}
 use Rattle.std.proofs.lemmas.Option.{same_Some}
 use Rattle.venue_types.specs.declared.feature_id.FeatureId.{FeatureId}
 use Rattle.venue_types.specs.declared.features.Features.{Features}
-use Rattle.imdf_schema.specs.declared.files.File.{File}
+use Rattle.venue_types.specs.declared.folder_file.File.{File}
 use Rattle.imdf_schema.specs.declared.table.PropertyRow.{PropertyRow}
-use Rattle.imdf_schema.specs.Files.{file_number}
+use Rattle.venue_types.specs.FolderFiles.{file_number}
 use Rattle.imdf_schema.specs.Rules.{rule_number}
 use Rattle.imdf_schema.specs.Properties.{property_number}
 use Rattle.feature_rows.specs.Rows.{ids_of}
@@ -16,7 +16,7 @@ use Rattle.imdf_refs.specs.declared.rules.ReferenceRule.TheVariants.{X1, X2}
 use Rattle.imdf_refs.specs.References.{Reference, Refers}
 use Rattle.imdf_refs.specs.Rules.{rule_of, IsTyped, IsOfOtherType, ReferenceBreaks}
 use Rattle.imdf_refs.specs.Laws.{FindsNothing, NameTheirTypes}
-use Rattle.imdf_schema.proofs.FileNumbers.{file_at, at_number, same_number}
+use Rattle.venue_types.proofs.FileNumbers.{file_at, at_number, same_number}
 
 by_bool : {A : Type 0} (b : Bool) → (b ≡ true → A) → (b ≡ false → A) → A
 by_bool true f g = f refl

@@ -3,9 +3,9 @@ use Rattle.std.specs.Prelude.{◌≡◌, ℕ, ◌+◌, ◌*◌, List, [], ◌∷
 use Rattle.venue_types.specs.declared.feature_id.FeatureId.{FeatureId}
 use Rattle.venue_types.specs.declared.features.Features.{Features}
 use Rattle.venue_types.specs.declared.finding.Finding.{Finding}
-use Rattle.imdf_schema.specs.declared.files.File.{File}
+use Rattle.venue_types.specs.declared.folder_file.File.{File}
 use Rattle.imdf_schema.specs.declared.table.PropertyRow.{PropertyRow}
-use Rattle.imdf_schema.specs.declared.place.Place.{Place}
+use Rattle.imdf_schema.specs.declared.feature_at.FeatureAt.{FeatureAt}
 use Rattle.imdf_schema.specs.declared.rules.Rule.TheVariants as rule
 use Rattle.imdf_schema.specs.Places.{finding_at}
 use Rattle.imdf_schema.specs.Properties.{property_number}
@@ -17,7 +17,7 @@ use Rattle.imdf_refs.specs.Rules.{RepeatsEarlier}
 use Rattle.imdf_refs.specs.Index.{has_id, has_typed}
 
 -- the place of the k-th feature of the file
-abbrev pub place_of : File → ℕ → Place
+abbrev pub place_of : File → ℕ → FeatureAt
 place_of f k = record { file = f; index = k }
 
 -- the references as a list
@@ -33,7 +33,7 @@ abbrev pub reference : FeatureId → Option ℕ → Reference
 reference id told = record { id = id; told = told }
 
 -- at a reference, told by the number of its part, that has to name a feature of this file: by the index nothing has the identifier, or nothing of the file
-abbrev pub Dangles : Known → Place → ℕ → FeatureId → Option ℕ → Finding → Type 0
+abbrev pub Dangles : Known → FeatureAt → ℕ → FeatureId → Option ℕ → Finding → Type 0
 Dangles known place member id f x =
     ((not (has_id known id) ≡ true) × (x ≡ finding_at rule.X1 place.file place.index member))
     ⊎ (((has_id known id && not (has_typed known id f)) ≡ true) × (x ≡ finding_at rule.X2 place.file place.index member))

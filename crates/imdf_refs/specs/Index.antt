@@ -5,8 +5,8 @@ use Rattle.std.specs.declared.cmp.Ordering.{Ordering}
 use Rattle.std.specs.BTreeSet.{contains}
 use Rattle.venue_types.specs.declared.feature_id.FeatureId.{FeatureId}
 use Rattle.venue_types.specs.declared.features.Features.{Features}
-use Rattle.imdf_schema.specs.declared.files.File.{File}
-use Rattle.imdf_schema.specs.Files.{file_number}
+use Rattle.venue_types.specs.declared.folder_file.File.{File}
+use Rattle.venue_types.specs.FolderFiles.{file_number}
 use Rattle.feature_rows.specs.Rows.{IsFeature}
 use Rattle.imdf_refs.specs.declared.known.Known.{Known}
 use Rattle.imdf_refs.specs.Rules.{IsNamed, IsTyped}

@@ -16,14 +16,14 @@ use Rattle.venue_types.specs.declared.features.OpeningRow.{OpeningRow}
 use Rattle.venue_types.specs.declared.features.RelationshipRow.{RelationshipRow}
 use Rattle.venue_types.specs.declared.features.UnitRow.{UnitRow}
 use Rattle.venue_types.specs.declared.features.VenueRow.{VenueRow}
-use Rattle.imdf_schema.specs.declared.files.File.{File}
-use Rattle.imdf_schema.specs.declared.files.File.TheVariants as file
+use Rattle.venue_types.specs.declared.folder_file.File.{File}
+use Rattle.venue_types.specs.declared.folder_file.File.TheVariants as file
 use Rattle.imdf_schema.specs.declared.table.Property.{Property}
 use Rattle.imdf_schema.specs.declared.table.Property.TheVariants as property
 use Rattle.imdf_schema.specs.declared.table.ReferenceTarget.{ReferenceTarget}
 use Rattle.imdf_schema.specs.declared.table.ReferenceTarget.TheVariants as named
 use Rattle.imdf_schema.specs.declared.table.PropertyRow.{PropertyRow}
-use Rattle.imdf_schema.specs.Files.{file_number}
+use Rattle.venue_types.specs.FolderFiles.{file_number}
 use Rattle.imdf_schema.specs.Properties.{properties}
 
 -- what names a feature: an identifier, and of a reference object the type that it tells, as the number of the type's file

@@ -1,16 +1,16 @@
 //! The rule on identifiers: each stands for one feature.
 
 ghost use Rattle.std.specs.Prelude.{◌≡◌, ◌+◌, ◌≤◌, IfOk, OnOk, map};
-ghost use Rattle.report_laws.specs.Passes.{Adds};
+ghost use Rattle.rule_reports.specs.Passes.{Adds};
 ghost use Rattle.feature_rows.specs.Rows.{ids_of as ids_in, feature_count};
-ghost use Rattle.imdf_schema.specs.Files.{file_number};
+ghost use Rattle.venue_types.specs.FolderFiles.{file_number};
 ghost use Rattle.imdf_refs.specs.Index.{HasBefore, HasAll};
 ghost use Rattle.imdf_refs.specs.Gathering.{RepeatsIn, Repeats};
 
 use crate::known::Known;
 use crate::row::HasReferences;
-use imdf_schema::{File, Place, Rule, feature_files};
-use report_laws::add;
+use imdf_schema::{FeatureAt, File, Rule, feature_files};
+use rule_reports::add;
 use std::alloc::Global;
 use venue_types::{FeatureId, Features, Finding, OutOfMemory};
 
@@ -66,7 +66,7 @@ fn judge_file(
     let ids = ids_of(alloc, features, file)?;
     for (k, id) in ids.iter().enumerate() {
         let fresh = known.insert(*id, file.number())?;
-        let place = Place {
+        let place = FeatureAt {
             file,
             index: k as u32,
         };

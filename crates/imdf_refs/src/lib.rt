@@ -2,16 +2,14 @@
 #![tactic(auto)]
 
 mod identifiers;
-mod judging;
 mod known;
 mod laws;
 mod place;
 mod references;
 mod row;
 mod rows;
+mod rule_checks;
 mod rules;
-#[cfg(test)]
-mod tests;
 
 pub use laws::{
     amenity_unit_law, anchor_unit_law, occupant_anchor_law, opening_level_law, own_ids_law,

@@ -1,4 +1,4 @@
-//! The part of a feature that a finding tells of.
+//! The part of a feature that a finding names.
 
 ghost use Rattle.std.specs.Prelude.{◌≡◌, ◌+◌, ◌*◌, ◌<◌, ◌^◌, IfOk, IsOk};
 ghost use Rattle.imdf_schema.specs.Properties.{property_number};

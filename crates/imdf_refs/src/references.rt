@@ -2,15 +2,15 @@
 
 ghost use Rattle.std.specs.Prelude.{◌≤◌, ◌↔◌, IfOk, Contains};
 ghost use Rattle.venue_types.specs.declared.finding.Finding.{Finding as FindingOf};
-ghost use Rattle.report_laws.specs.Reports.{IsReport};
+ghost use Rattle.rule_reports.specs.Reports.{IsReport};
 ghost use Rattle.feature_rows.specs.Rows.{feature_count};
 ghost use Rattle.feature_rows.specs.Sound.{AreSound};
 ghost use Rattle.imdf_refs.specs.Rules.{IsMisnamed};
 
 use crate::identifiers::judge_identifiers;
-use crate::judging::judge_properties;
+use crate::rule_checks::judge_properties;
 use imdf_schema::properties;
-use report_laws::in_order;
+use rule_reports::in_order;
 use std::alloc::Global;
 use venue_types::{Features, Finding, List, OutOfMemory};
 

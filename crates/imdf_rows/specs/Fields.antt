@@ -14,8 +14,8 @@ use Rattle.venue_types.specs.declared.features.Ref.{Ref}
 use Rattle.venue_types.specs.declared.kind.Kind.{Kind}
 use Rattle.venue_types.specs.declared.point.Point.{Point}
 use Rattle.imdf_access.specs.Categories.{before_dot, passage_of}
-use Rattle.imdf_schema.specs.declared.files.File.{File}
-use Rattle.imdf_schema.specs.Files.{file_number}
+use Rattle.venue_types.specs.declared.folder_file.File.{File}
+use Rattle.venue_types.specs.FolderFiles.{file_number}
 use Rattle.imdf_schema.specs.Values.{is_word, listed, pairs_of, id_of}
 use Rattle.imdf_schema.specs.Forms.{type_of}
 

@@ -1,8 +1,8 @@
 -- The figure of a feature.
 use Rattle.exact_json.specs.Json.{Json}
 use Rattle.geo_shapes.specs.Geometry.{HasPoint, HasLine, HasShape}
-use Rattle.imdf_schema.specs.declared.files.Geometry.{Geometry}
-use Rattle.imdf_schema.specs.declared.files.Geometry.TheVariants as kind
+use Rattle.venue_types.specs.declared.folder_file.Geometry.{Geometry}
+use Rattle.venue_types.specs.declared.folder_file.Geometry.TheVariants as kind
 use Rattle.imdf_schema.specs.Items.{geometry}
 use Rattle.imdf_rows.specs.declared.figure.Figure.{Figure}
 use Rattle.imdf_rows.specs.declared.figure.Figure.TheVariants as figure

@@ -4,8 +4,8 @@ use Rattle.std.specs.List.{AllZip}
 use Rattle.exact_json.specs.Json.{Json}
 use Rattle.venue_types.specs.declared.files.Files.{Files}
 use Rattle.venue_types.specs.declared.features.Features.{Features}
-use Rattle.imdf_schema.specs.declared.files.File.{File}
-use Rattle.imdf_schema.specs.declared.files.File.TheVariants as file
+use Rattle.venue_types.specs.declared.folder_file.File.{File}
+use Rattle.venue_types.specs.declared.folder_file.File.TheVariants as file
 use Rattle.imdf_schema.specs.Contents.{HasContent, content_items}
 use Rattle.imdf_rows.specs.Rows.{IsPlainRow, IsAmenityRow, IsAnchorRow, IsBuildingRow, IsDetailRow, IsFixtureRow, IsFootprintRow, IsKioskRow, IsLevelRow, IsOccupantRow, IsOpeningRow, IsRelationshipRow, IsUnitRow, IsVenueRow}
 

@@ -7,7 +7,7 @@ use exact_json::Tree;
 use geo_shapes::point;
 use venue_types::Point;
 
-// The point that it stands for.
+/// The point that it stands for.
 pub(crate) fn display_field(value: Option<&Tree>) -> Option<Point>
     ensures { IsDisplay (seen value.entry) result }
 {

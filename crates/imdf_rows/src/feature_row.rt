@@ -3,7 +3,7 @@
 ghost use Rattle.std.specs.Prelude.{IfOk};
 ghost use Rattle.exact_json.specs.View.{tree_view};
 ghost use Rattle.exact_json.specs.Json.{Json, HasTexts};
-ghost use Rattle.imdf_schema.specs.declared.files.Geometry.{Geometry};
+ghost use Rattle.venue_types.specs.declared.folder_file.Geometry.{Geometry};
 ghost use Rattle.imdf_rows.specs.Figures.{HasFigure};
 
 use crate::figure::Figure;

@@ -14,14 +14,14 @@ use imdf_schema::{File, id, is_word, list, member, text, type_of};
 use std::alloc::Global;
 use venue_types::{FeatureId, Kind, List, OutOfMemory, Ref, Text};
 
-// The identifier, 0 where it is none.
+/// The identifier, 0 where it is none.
 pub(crate) fn id_field(value: Option<&Tree>) -> FeatureId
     ensures { result ≡ specs.id_field (values.seen value.entry) }
 {
     id(value).unwrap_or(FeatureId(0))
 }
 
-// The text, empty where it is none, with U+FFFD for what isn't UTF-8.
+/// The text, empty where it is none, with U+FFFD for what isn't UTF-8.
 pub(crate) fn text_field(alloc: Global, value: Option<&Tree>) -> Result<Text, OutOfMemory>
     ensures lossy { IfOk result (λ field. field ≡ utf8_lossy (specs.text_field (values.seen value.entry))) }
     ensures exact { IfOk result (λ field. HasTexts (values.seen value.entry) → field ≡ specs.text_field (values.seen value.entry)) }
@@ -43,7 +43,7 @@ fn ids_among(alloc: Global, items: &[Tree]) -> Result<Vec<FeatureId>, OutOfMemor
     Ok(ids)
 }
 
-// The identifiers of a list.
+/// The identifiers of a list.
 pub(crate) fn ids_field(alloc: Global, value: Option<&Tree>) -> Result<List<FeatureId>, OutOfMemory>
     ensures { IfOk result (λ ids. ids ≡ specs.ids_field (values.seen value.entry)) }
 {
@@ -71,7 +71,7 @@ fn ref_of_both(id: Option<FeatureId>, file: Option<File>) -> Option<Ref>
     }
 }
 
-// The reference that an object is.
+/// The reference that an object is.
 pub(crate) fn ref_of(value: Option<&Tree>) -> Option<Ref>
     ensures { result ≡ specs.ref_of (values.seen value.entry) }
 {
@@ -95,7 +95,7 @@ fn refs_among(alloc: Global, items: &[Tree]) -> Result<Vec<Ref>, OutOfMemory>
     Ok(refs)
 }
 
-// The references of a list.
+/// The references of a list.
 pub(crate) fn refs_field(alloc: Global, value: Option<&Tree>) -> Result<List<Ref>, OutOfMemory>
     ensures { IfOk result (λ refs. refs ≡ specs.refs_field (values.seen value.entry)) }
 {
@@ -116,7 +116,7 @@ fn any_is_word(items: &[Tree], word: &[u8]) -> bool
     false
 }
 
-// Whether the word stands in a list.
+/// Whether the word stands in a list.
 pub(crate) fn lists_word(value: Option<&Tree>, word: &[u8]) -> bool
     ensures { result ≡ specs.lists_word (values.seen value.entry) word.now }
 {
@@ -126,14 +126,14 @@ pub(crate) fn lists_word(value: Option<&Tree>, word: &[u8]) -> bool
     }
 }
 
-// Whether the type of a door, before its first dot, is the word.
+/// Whether the type of a door, before its first dot, is the word.
 pub(crate) fn door_is(door: Option<&Tree>, word: &[u8]) -> bool
     ensures { result ≡ specs.door_is (values.seen door.entry) word.now }
 {
     before_dot(text(member(door, b"type")).unwrap_or(&[])) == word
 }
 
-// The passage that a category makes.
+/// The passage that a category makes.
 pub(crate) fn passage_field(value: Option<&Tree>) -> Option<Kind>
     ensures { result ≡ specs.passage_field (values.seen value.entry) }
 {

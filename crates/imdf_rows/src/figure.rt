@@ -16,7 +16,7 @@ pub enum Figure {
     Shape(Shape),
 }
 
-// The point, or that of longitude and latitude 0 where it is none.
+/// The point, or that of longitude and latitude 0 where it is none.
 pub(crate) fn into_point(figure: Figure) -> Point
     ensures { result ≡ point_or_origin figure }
 {
@@ -26,7 +26,7 @@ pub(crate) fn into_point(figure: Figure) -> Point
     }
 }
 
-// The line, or that of no points where it is none.
+/// The line, or that of no points where it is none.
 pub(crate) fn into_line(alloc: Global, figure: Figure) -> Line
     ensures { result ≡ line_or_empty figure }
 {
@@ -38,7 +38,7 @@ pub(crate) fn into_line(alloc: Global, figure: Figure) -> Line
     }
 }
 
-// The shape, or that of no parts where it is none.
+/// The shape, or that of no parts where it is none.
 pub(crate) fn into_shape(alloc: Global, figure: Figure) -> Shape
     ensures { result ≡ shape_or_empty figure }
 {

@@ -89,7 +89,7 @@ fn labels_of(alloc: Global, members: &Members) -> Result<Vec<Label>, OutOfMemory
     labels_among(alloc, members.as_slice())
 }
 
-// The labels of a name, in ascending order of their tags' bytes. It takes n log n steps for n members.
+/// The labels of a name, in ascending order of their tags' bytes. It takes n log n steps for n members.
 pub(crate) fn labels_field(alloc: Global, value: Option<&Tree>) -> Result<List<Label>, OutOfMemory>
     ensures { IfOk result (λ labels. HasTexts (seen value.entry) → labels ≡ specs.labels_field (seen value.entry)) }
 {

@@ -11,7 +11,7 @@ use std::alloc::Global;
 use venue_types::{LevelRow, OutOfMemory, UnitRow};
 
 impl FeatureRow for LevelRow {
-    ghost use Rattle.imdf_schema.specs.declared.files.Geometry.TheVariants as kind;
+    ghost use Rattle.venue_types.specs.declared.folder_file.Geometry.TheVariants as kind;
     ghost use Rattle.imdf_rows.specs.Rows.{IsLevelRow};
 
     ghost geometry = { kind.Shape };
@@ -30,7 +30,7 @@ impl FeatureRow for LevelRow {
 }
 
 impl FeatureRow for UnitRow {
-    ghost use Rattle.imdf_schema.specs.declared.files.Geometry.TheVariants as kind;
+    ghost use Rattle.venue_types.specs.declared.folder_file.Geometry.TheVariants as kind;
     ghost use Rattle.imdf_rows.specs.Rows.{IsUnitRow};
 
     ghost geometry = { kind.Shape };

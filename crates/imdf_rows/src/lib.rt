@@ -12,8 +12,6 @@ mod levels;
 mod members;
 mod ordinals;
 mod rows;
-#[cfg(test)]
-mod tests;
 mod ways;
 
 pub use feature_row::FeatureRow;

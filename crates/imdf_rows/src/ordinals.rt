@@ -56,7 +56,7 @@ pub fn ordinal(value: Option<&Tree>) -> Option<i16>
     }
 }
 
-// The ordinal, 0 where it is none.
+/// The ordinal, 0 where it is none.
 pub(crate) fn ordinal_field(value: Option<&Tree>) -> i16
     ensures some { (n : ℤ) → IsOrdinal (seen value.entry) n → result ≡ n }
     ensures none { ((n : ℤ) → ¬ IsOrdinal (seen value.entry) n) → result ≡ pos 0 }

@@ -12,7 +12,7 @@ use venue_types::{
 };
 
 impl FeatureRow for PlainRow {
-    ghost use Rattle.imdf_schema.specs.declared.files.Geometry.TheVariants as kind;
+    ghost use Rattle.venue_types.specs.declared.folder_file.Geometry.TheVariants as kind;
     ghost use Rattle.imdf_rows.specs.Rows.{IsPlainRow};
 
     ghost geometry = { kind.Unjudged };
@@ -25,7 +25,7 @@ impl FeatureRow for PlainRow {
 }
 
 impl FeatureRow for AmenityRow {
-    ghost use Rattle.imdf_schema.specs.declared.files.Geometry.TheVariants as kind;
+    ghost use Rattle.venue_types.specs.declared.folder_file.Geometry.TheVariants as kind;
     ghost use Rattle.imdf_rows.specs.Rows.{IsAmenityRow};
 
     ghost geometry = { kind.Point };
@@ -45,7 +45,7 @@ impl FeatureRow for AmenityRow {
 }
 
 impl FeatureRow for AnchorRow {
-    ghost use Rattle.imdf_schema.specs.declared.files.Geometry.TheVariants as kind;
+    ghost use Rattle.venue_types.specs.declared.folder_file.Geometry.TheVariants as kind;
     ghost use Rattle.imdf_rows.specs.Rows.{IsAnchorRow};
 
     ghost geometry = { kind.Point };
@@ -63,7 +63,7 @@ impl FeatureRow for AnchorRow {
 }
 
 impl FeatureRow for BuildingRow {
-    ghost use Rattle.imdf_schema.specs.declared.files.Geometry.TheVariants as kind;
+    ghost use Rattle.venue_types.specs.declared.folder_file.Geometry.TheVariants as kind;
     ghost use Rattle.imdf_rows.specs.Rows.{IsBuildingRow};
 
     ghost geometry = { kind.Null };
@@ -79,7 +79,7 @@ impl FeatureRow for BuildingRow {
 }
 
 impl FeatureRow for DetailRow {
-    ghost use Rattle.imdf_schema.specs.declared.files.Geometry.TheVariants as kind;
+    ghost use Rattle.venue_types.specs.declared.folder_file.Geometry.TheVariants as kind;
     ghost use Rattle.imdf_rows.specs.Rows.{IsDetailRow};
 
     ghost geometry = { kind.Unjudged };
@@ -95,7 +95,7 @@ impl FeatureRow for DetailRow {
 }
 
 impl FeatureRow for FixtureRow {
-    ghost use Rattle.imdf_schema.specs.declared.files.Geometry.TheVariants as kind;
+    ghost use Rattle.venue_types.specs.declared.folder_file.Geometry.TheVariants as kind;
     ghost use Rattle.imdf_rows.specs.Rows.{IsFixtureRow};
 
     ghost geometry = { kind.Shape };
@@ -113,7 +113,7 @@ impl FeatureRow for FixtureRow {
 }
 
 impl FeatureRow for FootprintRow {
-    ghost use Rattle.imdf_schema.specs.declared.files.Geometry.TheVariants as kind;
+    ghost use Rattle.venue_types.specs.declared.folder_file.Geometry.TheVariants as kind;
     ghost use Rattle.imdf_rows.specs.Rows.{IsFootprintRow};
 
     ghost geometry = { kind.Shape };
@@ -130,7 +130,7 @@ impl FeatureRow for FootprintRow {
 }
 
 impl FeatureRow for KioskRow {
-    ghost use Rattle.imdf_schema.specs.declared.files.Geometry.TheVariants as kind;
+    ghost use Rattle.venue_types.specs.declared.folder_file.Geometry.TheVariants as kind;
     ghost use Rattle.imdf_rows.specs.Rows.{IsKioskRow};
 
     ghost geometry = { kind.Unjudged };
@@ -147,7 +147,7 @@ impl FeatureRow for KioskRow {
 }
 
 impl FeatureRow for OccupantRow {
-    ghost use Rattle.imdf_schema.specs.declared.files.Geometry.TheVariants as kind;
+    ghost use Rattle.venue_types.specs.declared.folder_file.Geometry.TheVariants as kind;
     ghost use Rattle.imdf_rows.specs.Rows.{IsOccupantRow};
 
     ghost geometry = { kind.Null };
@@ -164,7 +164,7 @@ impl FeatureRow for OccupantRow {
 }
 
 impl FeatureRow for VenueRow {
-    ghost use Rattle.imdf_schema.specs.declared.files.Geometry.TheVariants as kind;
+    ghost use Rattle.venue_types.specs.declared.folder_file.Geometry.TheVariants as kind;
     ghost use Rattle.imdf_rows.specs.Rows.{IsVenueRow};
 
     ghost geometry = { kind.Shape };

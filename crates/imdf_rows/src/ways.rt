@@ -10,7 +10,7 @@ use std::alloc::Global;
 use venue_types::{OpeningRow, OutOfMemory, RelationshipRow};
 
 impl FeatureRow for OpeningRow {
-    ghost use Rattle.imdf_schema.specs.declared.files.Geometry.TheVariants as kind;
+    ghost use Rattle.venue_types.specs.declared.folder_file.Geometry.TheVariants as kind;
     ghost use Rattle.imdf_rows.specs.Rows.{IsOpeningRow};
 
     ghost geometry = { kind.Line };
@@ -31,7 +31,7 @@ impl FeatureRow for OpeningRow {
 }
 
 impl FeatureRow for RelationshipRow {
-    ghost use Rattle.imdf_schema.specs.declared.files.Geometry.TheVariants as kind;
+    ghost use Rattle.venue_types.specs.declared.folder_file.Geometry.TheVariants as kind;
     ghost use Rattle.imdf_rows.specs.Rows.{IsRelationshipRow};
 
     ghost geometry = { kind.Unjudged };

@@ -1,3 +1,2 @@
 mod Names
-pub mod FileNumbers
 mod RuleNumbers

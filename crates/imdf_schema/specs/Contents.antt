@@ -1,12 +1,12 @@
 -- What a file of a folder holds.
 use Rattle.std.specs.Prelude.{◌≡◌, ◌<◌, ◌≤◌, ◌^◌, List, [], Option, Some, None, length, slice_get}
-use Rattle.exact_json.specs.Json.{Json, depth}
-use Rattle.exact_json.specs.Grammar.{IsJson}
+use Rattle.geo_shapes.specs.Json.{Json, depth}
+use Rattle.geo_shapes.specs.Grammar.{IsJson}
 use Rattle.venue_types.specs.declared.files.Files.{Files}
 use Rattle.venue_types.specs.declared.files.Slot.{Slot}
 use Rattle.venue_types.specs.declared.files.Slot.TheVariants.{Absent, Held}
-use Rattle.imdf_schema.specs.declared.files.File.{File}
-use Rattle.imdf_schema.specs.Files.{file_number}
+use Rattle.venue_types.specs.declared.folder_file.File.{File}
+use Rattle.venue_types.specs.FolderFiles.{file_number}
 use Rattle.imdf_schema.specs.Items.{items_in}
 
 -- the file is there, and has more than 33,554,432 bytes

@@ -1,12 +1,12 @@
 -- The forms of properties.
 use Rattle.std.specs.Prelude.{List, [], ◌∷◌, Option, None, Bool, true, false, is_some, not, ◌||◌, ◌&&◌, option_and_then, unwrap_or, IsTrue, ◌⊎◌, codes}
 use Rattle.venue_types.specs.declared.point.Point.{Point}
-use Rattle.exact_json.specs.Json.{Json, text_bytes, list_values, member}
+use Rattle.geo_shapes.specs.Json.{Json, text_bytes, list_values, member}
 use Rattle.geo_shapes.specs.Geometry.{HasPoint}
-use Rattle.imdf_schema.specs.declared.files.File.{File}
+use Rattle.venue_types.specs.declared.folder_file.File.{File}
 use Rattle.imdf_schema.specs.declared.forms.Form.{Form}
 use Rattle.imdf_schema.specs.declared.forms.Form.TheVariants as form
-use Rattle.imdf_schema.specs.Files.{file_of_type}
+use Rattle.venue_types.specs.FolderFiles.{file_of_type}
 use Rattle.imdf_schema.specs.Values.{is_null, is_object, is_list, is_text, is_word, listed, is_id, has_texts}
 
 -- the file whose feature type it names

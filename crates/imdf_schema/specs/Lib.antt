@@ -1,4 +1,3 @@
-pub mod Files
 pub mod Values
 pub mod Properties
 pub mod Forms

@@ -1,11 +1,11 @@
--- What is told of a place in a folder.
+-- What is reported of a feature in a folder.
 use Rattle.std.specs.Prelude.{ℕ}
 use Rattle.venue_types.specs.declared.finding.Finding.{Finding}
 use Rattle.venue_types.specs.declared.finding.Note.{Note}
-use Rattle.imdf_schema.specs.declared.files.File.{File}
+use Rattle.venue_types.specs.declared.folder_file.File.{File}
 use Rattle.imdf_schema.specs.declared.rules.NoteKind.{NoteKind}
 use Rattle.imdf_schema.specs.declared.rules.Rule.{Rule}
-use Rattle.imdf_schema.specs.Files.{file_number}
+use Rattle.venue_types.specs.FolderFiles.{file_number}
 use Rattle.imdf_schema.specs.Rules.{rule_number, note_number}
 
 -- the finding that the rule is broken by a part of the file's feature at this index

@@ -1,7 +1,7 @@
 -- The table of properties: what is read of a feature beside its identifier and its geometry.
 use Rattle.std.specs.Prelude.{ℕ, List, [], ◌∷◌, codes}
-use Rattle.imdf_schema.specs.declared.files.File.{File}
-use Rattle.imdf_schema.specs.declared.files.File.TheVariants as file
+use Rattle.venue_types.specs.declared.folder_file.File.{File}
+use Rattle.venue_types.specs.declared.folder_file.File.TheVariants as file
 use Rattle.imdf_schema.specs.declared.forms.Form.{Form}
 use Rattle.imdf_schema.specs.declared.forms.Form.TheVariants as form
 use Rattle.imdf_schema.specs.declared.table.Property.{Property}

@@ -3,8 +3,8 @@
 ghost use Rattle.std.specs.Prelude.{◌≡◌};
 ghost use Rattle.imdf_schema.specs.Properties.{property_number, property_name, properties};
 
-use crate::files::File;
 use crate::forms::Form;
+use venue_types::File;
 
 /// A property that is read, by its name in the file.
 #[derive(Clone, Copy, Debug, PartialEq, Eq)]

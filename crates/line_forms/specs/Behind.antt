@@ -1,4 +1,4 @@
--- The code's own way, no promise: the faulty line of a text that stands behind other lines.
+-- The code's own way, no promise: the faulty line of a text that stands after other lines.
 use Rattle.std.specs.Prelude.{◌≡◌, ℕ, ◌+◌, List}
 use Rattle.line_forms.specs.Faults.{IsFaultLine}
 

@@ -1,4 +1,4 @@
--- What stands at the front of a text.
+-- Prefixes of a text.
 use Rattle.std.specs.Prelude.{◌≡◌, ℕ, List, [], ◌∷◌, ◌++◌}
 use Rattle.std.specs.List.{flat_map, AllByRecursion}
 

@@ -1,4 +1,4 @@
-//! Cutting a text at a byte or behind a front.
+//! Cutting a text at a byte or after a prefix.
 
 ghost use Rattle.std.specs.Prelude.{◌≡◌, ℕ, List, ◌++◌, IfSome, IfNone};
 ghost use Rattle.line_forms.specs.Fronts.{Lacks, IsSplitAt};

@@ -1,11 +1,9 @@
-//! Text forms made of lines: their words and numbers, what stands at a front, and where a text stops being of a form.
+//! Text forms made of lines: their words and numbers, prefixes, and where a text stops being of a form.
 #![tactic(auto)]
 
 mod cuts;
 mod laws;
 mod numbers;
-#[cfg(test)]
-mod tests;
 
 pub use cuts::{after, cut_at};
 pub use laws::{Form, Spelled, fault_line_law, front_law};

@@ -11,8 +11,8 @@ use Rattle.venue_types.specs.declared.link.Node.{Node}
 use Rattle.venue_types.specs.declared.point.Spot.{Spot}
 use Rattle.venue_types.specs.declared.settings.Profile.{Profile}
 use Rattle.venue_types.specs.declared.settings.Settings.{Settings}
-use Rattle.feature_rows.specs.Figures.{judged_positions}
-use Rattle.feature_rows.specs.Sound.{AreSound}
+use Rattle.venue_nodes.specs.Figures.{judged_positions}
+use Rattle.venue_nodes.specs.Sound.{AreSound}
 use Rattle.imdf_access.specs.Access.{End, IsAllowed, facts_of}
 use Rattle.imdf_access.specs.Parts.{PassesWay, PassesEnd}
 use Rattle.plane_exact.specs.Figure.{AllClose}

@@ -6,7 +6,7 @@ use Rattle.std.proofs.lemmas.List.Elements.{Contains-append_left, Contains-appen
 use Rattle.std.proofs.lemmas.Option.{same_Some}
 use Rattle.venue_types.specs.declared.kind.Kind.{Kind}
 use Rattle.venue_types.specs.declared.link.Link.{Link}
-use Rattle.report_laws.proofs.Members.{Contains-nil}
+use Rattle.rule_reports.proofs.Members.{Contains-nil}
 use Rattle.venue_nodes.specs.Rows.{row_list}
 use Rattle.venue_nodes.proofs.Judged.{Contains-map}
 use Rattle.venue_nodes.proofs.Spread.{from_map}

@@ -6,7 +6,7 @@ use Rattle.std.proofs.lemmas.List.{length-map}
 use Rattle.std.proofs.lemmas.List.Elements.{All-contains, Contains-append_cases}
 use Rattle.std.proofs.lemmas.List.Sums.{sum_by-cons}
 use Rattle.std.proofs.lemmas.Option.{same_Some, none-some, slice_get_within}
-use Rattle.report_laws.proofs.Members.{Contains-only, Contains-first, Contains-later}
+use Rattle.rule_reports.proofs.Members.{Contains-only, Contains-first, Contains-later}
 use Rattle.venue_types.specs.declared.link.Link.{Link}
 use Rattle.venue_nodes.specs.Rows.{row_list}
 use Rattle.venue_nodes.proofs.Items.{member_at, at_member, at_map}

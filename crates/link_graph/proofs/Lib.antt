@@ -26,3 +26,8 @@ pub mod AskingRanges
 pub mod AskingDoors
 pub mod AreaLinks
 pub mod Detouring
+pub use Rattle.venue_nodes.proofs.Places
+pub use Rattle.venue_nodes.proofs.Finding
+pub use Rattle.venue_nodes.proofs.Limiting
+pub use Rattle.venue_nodes.proofs.Identifiers
+pub use Rattle.venue_nodes.proofs.Placed

@@ -16,9 +16,9 @@ use Rattle.venue_types.specs.declared.features.UnitRow.{UnitRow}
 use Rattle.venue_types.specs.declared.link.Link.{Link}
 use Rattle.venue_types.specs.declared.link.Node.{Node}
 use Rattle.venue_types.specs.declared.settings.Settings.{Settings}
-use Rattle.feature_rows.specs.Indexes.{AreOnce}
-use Rattle.feature_rows.specs.Rows.{HaveOwnIds}
-use Rattle.feature_rows.specs.Sound.{AreSound, element_count}
+use Rattle.venue_nodes.specs.Indexes.{AreOnce}
+use Rattle.venue_nodes.specs.FeatureRowsRows.{HaveOwnIds}
+use Rattle.venue_nodes.specs.Sound.{AreSound, element_count}
 use Rattle.imdf_access.specs.declared.parts.EndFacts.{EndFacts}
 use Rattle.imdf_access.specs.Parts.{end_facts}
 use Rattle.plane_exact.specs.Plane.{IsCloseDoubled}

@@ -6,7 +6,7 @@ use Rattle.std.proofs.lemmas.List.{append-nil}
 use Rattle.std.proofs.lemmas.List.Sums.{sum_by-append, sum_by-cons}
 use Rattle.std.proofs.lemmas.Option.{get_or_from_slice_get}
 use Rattle.std.proofs.Math.Nat.{mul-le-mul}
-use Rattle.report_laws.proofs.Members.{Contains-first, Contains-later}
+use Rattle.rule_reports.proofs.Members.{Contains-first, Contains-later}
 use Rattle.venue_types.specs.declared.link.Link.{Link}
 use Rattle.venue_nodes.specs.declared.members.Membership.{Membership}
 use Rattle.venue_nodes.specs.Crowds.{square_of}

@@ -14,10 +14,10 @@ use Rattle.venue_types.specs.declared.link.Link.{Link}
 use Rattle.venue_types.specs.declared.link.Node.{Node}
 use Rattle.venue_types.specs.declared.point.Spot.{Spot}
 use Rattle.venue_types.specs.declared.settings.Settings.{Settings}
-use Rattle.imdf_schema.specs.declared.table.Property.{Property}
-use Rattle.imdf_schema.specs.declared.table.Property.TheVariants as property
-use Rattle.feature_rows.specs.Sound.{element_count}
-use Rattle.report_laws.proofs.Members.{Contains-first, Contains-later}
+use Rattle.venue_nodes.specs.Property.{Property}
+use Rattle.venue_nodes.specs.Property.TheVariants as property
+use Rattle.venue_nodes.specs.Sound.{element_count}
+use Rattle.rule_reports.proofs.Members.{Contains-first, Contains-later}
 use Rattle.venue_nodes.specs.Nodes.{nodes, place_of}
 use Rattle.venue_nodes.specs.Unplaced.{Element, element_at, elements, one_or_none}
 use Rattle.venue_nodes.proofs.Items.{given_more}

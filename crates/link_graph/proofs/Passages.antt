@@ -7,7 +7,7 @@ use Rattle.venue_types.specs.declared.features.RelationshipRow.{RelationshipRow}
 use Rattle.venue_types.specs.declared.kind.Kind.{Kind}
 use Rattle.venue_types.specs.declared.link.Link.{Link}
 use Rattle.venue_types.specs.declared.settings.Settings.{Settings}
-use Rattle.report_laws.proofs.Members.{Contains-nil, Contains-only, Contains-first, Contains-later, Contains-cons_cases}
+use Rattle.rule_reports.proofs.Members.{Contains-nil, Contains-only, Contains-first, Contains-later, Contains-cons_cases}
 use Rattle.venue_nodes.specs.Nodes.{nodes, place_of}
 use Rattle.venue_nodes.specs.Unplaced.{Element, elements}
 use Rattle.venue_nodes.proofs.Items.{at_member, given_from}

@@ -3,8 +3,8 @@ use Rattle.std.specs.Prelude.{◌≡◌, ℕ, ◌+◌, ◌<◌, ◌≤◌, ◌==
 use Rattle.std.specs.List.{flat_map}
 use Rattle.venue_types.specs.declared.link.Link.{Link}
 use Rattle.venue_nodes.specs.Rows.{row_list}
-use Rattle.link_graph.specs.declared.finding.Lead.{Lead}
-use Rattle.link_graph.specs.declared.finding.Lead.TheVariants.{Across, Passage}
+use Rattle.link_graph.specs.declared.leads.Lead.{Lead}
+use Rattle.link_graph.specs.declared.leads.Lead.TheVariants.{Across, Passage}
 use Rattle.link_graph.specs.declared.parts.Core.{Core}
 use Rattle.link_graph.specs.declared.parts.Seat.{Seat}
 use Rattle.link_graph.specs.Cores.{crossing_at, link_across, links_across_from, others_in}

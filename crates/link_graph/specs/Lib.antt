@@ -14,3 +14,13 @@ pub mod Making
 pub mod Faults
 pub mod Leads
 pub mod Areas
+pub use Rattle.venue_nodes.specs.Unplaced
+pub use Rattle.venue_nodes.specs.Identity
+pub use Rattle.venue_nodes.specs.Nodes
+pub use Rattle.venue_nodes.specs.Limits
+pub use Rattle.venue_nodes.specs.Members
+pub use Rattle.venue_nodes.specs.Views as VenueNodesViews
+pub use Rattle.venue_nodes.specs.Rows
+pub use Rattle.venue_nodes.specs.declared.limits.Crowding
+pub use Rattle.venue_nodes.specs.Crowds
+pub use Rattle.venue_nodes.specs.Numbering

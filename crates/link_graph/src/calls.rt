@@ -1,9 +1,9 @@
 //! What a graph is asked.
 
 ghost use Rattle.std.specs.Prelude.{◌≡◌, ◌↔◌, ◌+◌, ◌<◌, ◌≤◌, ◌^◌, None, length, IsTrue, Contains};
-ghost use Rattle.feature_rows.specs.Figures.{judged_positions};
-ghost use Rattle.feature_rows.specs.Rows.{HaveOwnIds};
-ghost use Rattle.feature_rows.specs.Sound.{AreSound};
+ghost use Rattle.venue_nodes.specs.Figures.{judged_positions};
+ghost use Rattle.venue_nodes.specs.FeatureRowsRows.{HaveOwnIds};
+ghost use Rattle.venue_nodes.specs.Sound.{AreSound};
 ghost use Rattle.plane_exact.specs.Figure.{AllClose};
 ghost use Rattle.venue_nodes.specs.Crowds.{Crowds};
 ghost use Rattle.venue_nodes.specs.Numbering.{number_among};
@@ -15,16 +15,16 @@ ghost use Rattle.link_graph.specs.Lower.{lower_of};
 ghost use Rattle.link_graph.specs.Marking.{AreMarksOf, marked};
 
 use crate::graph::Graph;
-use crate::making::core_of;
+use crate::graph_core::core_of;
 use crate::marks::Marks;
 use crate::stretches::Stretch;
-use crate::{asking, leading, listing, outlook};
+use crate::{link_facts, link_list, out_links, outlook};
 use imdf_access::EndFacts;
 use std::alloc::Global;
 use std::sync::ledger::Ledger;
-use step_count::Steps;
 use venue_nodes::{Nodes, Rows};
 use venue_types::{FeatureId, Features, Link, LinkFacts, List, Node, OutOfMemory, Settings};
+use walk_laws::Steps;
 
 impl Graph {
     ghost use Rattle.std.specs.Prelude.{IfOk, Some, slice_get};
@@ -111,7 +111,7 @@ impl Graph {
         requires { n < length (network self.now).nodes }
         ensures { result ≡ length (links_out (network self.now) n) }
     {
-        leading::out_count(&self.core, n)
+        out_links::out_count(&self.core, n)
     }
 
     /// The link at a place among those that start at a node. Takes time logarithmic in the number of units of the node, and counts a step.
@@ -123,7 +123,7 @@ impl Graph {
         ensures step { steps.new ≡ steps.old + 1 }
     {
         steps.tick();
-        leading::out_link(&self.core, n, place)
+        out_links::out_link(&self.core, n, place)
     }
 
     /// That link, where from a node that costs `base` it leads to its end at less than is listed there, else nothing. Its length is computed
@@ -145,7 +145,7 @@ impl Graph {
         ensures step { steps.new ≡ steps.old + 1 }
     {
         steps.tick();
-        leading::lower_link(&self.core, n, place, base, least)
+        out_links::lower_link(&self.core, n, place, base, least)
     }
 
     /// All links, in their order. Takes 20 bytes a link.
@@ -153,7 +153,7 @@ impl Graph {
     pub fn listed(&self, alloc: Global) -> Result<List<Link>, OutOfMemory>
         ensures { IfOk result (λ links. links ≡ (network self.now).links) }
     {
-        listing::listed(alloc, &self.core)
+        link_list::listed(alloc, &self.core)
     }
 
     /// Into how many stretches the links out of a node fall: one for each unit across which it has links, in file order, then one for
@@ -182,7 +182,7 @@ impl Graph {
         requires { n < length (network self.now).nodes }
         ensures { result ≡ (network self.now).ends n }
     {
-        asking::ends(&self.core, n)
+        link_facts::ends(&self.core, n)
     }
 
     /// What a link of this graph asks of who uses it.
@@ -191,7 +191,7 @@ impl Graph {
         requires { Contains (network self.now).links link.now }
         ensures { result ≡ link_facts (network self.now) link.now }
     {
-        asking::facts(&self.core, link)
+        link_facts::facts(&self.core, link)
     }
 
     /// Whether the feature of a node is open.
@@ -201,7 +201,7 @@ impl Graph {
         requires marks { AreMarksOf (network self.now) marks.now }
         ensures { IsTrue result ↔ ¬ IsNodeClosed (network self.now).nodes (marked (network self.now) marks.now) n }
     {
-        asking::is_node_free(&self.core, n, marks)
+        link_facts::is_node_free(&self.core, n, marks)
     }
 
     /// Whether nothing at a link of this graph is closed: neither its way nor the feature at either end.
@@ -211,6 +211,6 @@ impl Graph {
         requires marks { AreMarksOf (network self.now) marks.now }
         ensures { IsTrue result ↔ IsFree (network self.now) (marked (network self.now) marks.now) link.now }
     {
-        asking::is_free(&self.core, link, marks)
+        link_facts::is_free(&self.core, link, marks)
     }
 }

@@ -13,7 +13,7 @@ use std::alloc::Global;
 use venue_nodes::Nodes;
 use venue_types::{AmenityRow, AnchorRow, FeatureId, Features, OpeningRow, OutOfMemory, UnitRow};
 
-/// A row of a feature for which a node stands.
+// A row of a feature for which a node stands.
 trait HasDoor {
     /// The row, as one among those of all nodes.
     ghost row_of: { Self → NodeRow };

@@ -2,26 +2,26 @@
 #![tactic(auto)]
 
 mod areas;
-mod asking;
-mod building;
 mod calls;
 mod crossings;
 mod doors;
 mod faults;
-mod finding;
+mod from_features;
 mod graph;
+mod graph_core;
 mod laws;
-mod leading;
-mod leaving;
-mod listing;
-mod making;
+mod leads;
+mod link_facts;
+mod link_list;
 mod marks;
 mod network_laws;
+mod out_links;
 mod outlook;
 mod parts;
-mod seating;
+mod seats;
 mod stretches;
 mod trails;
+mod way_starts;
 mod ways;
 
 pub use areas::Area;
@@ -31,3 +31,4 @@ pub use laws::{detour_law, inside_law, length_between_law, range_law, whole_law}
 pub use marks::{Marks, marked_law};
 pub use network_laws::{network_parts_law, passable_law};
 pub use stretches::{Stretch, Way};
+pub use venue_nodes::{Nodes, Rows, first_crowding, limit_findings, place_notes};

@@ -3,7 +3,7 @@
 ghost use Rattle.std.specs.Prelude.{◌≡◌, ◌<◌, Some, Contains, length, slice_get};
 ghost use Rattle.link_graph.specs.Cores.{IsSoundCore, network_in, seats_at, stretch_of, stretches_in};
 
-use crate::finding::{across_end, others};
+use crate::leads::{across_end, others};
 use crate::parts::{Core, Seat};
 use crate::stretches::{Stretch, Way};
 

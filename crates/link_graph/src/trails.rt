@@ -22,7 +22,7 @@ pub(crate) struct Ground<'a> {
     pub settings: &'a Settings,
 }
 
-/// How a relationship is passed: its number among what can be closed, its kind, and whether it leads forward alone.
+// How a relationship is passed: its number among what can be closed, its kind, and whether it leads forward alone.
 #[derive(Clone, Copy, Debug, PartialEq, Eq)]
 struct Trail {
     via: u32,

@@ -10,7 +10,7 @@ use Rattle.venue_types.specs.declared.point.Point.{Point}
 use Rattle.venue_types.specs.declared.point.Ring.{Ring}
 use Rattle.venue_types.specs.declared.point.Shape.{Shape}
 use Rattle.plane_exact.specs.Figure.{edges, edges_from, ring_edges, ring_points, rings, IsNear, IsNearSome}
-use Rattle.plane_bands.specs.Line.{Direction, Longitude, Latitude, coordinate, stretch}
+use Rattle.plane_trees.specs.Line.{Direction, Longitude, Latitude, coordinate, stretch}
 use Rattle.opening_match.specs.declared.frame.Frame.{Frame}
 use Rattle.opening_match.specs.Frames.{IsFramedAt, IsAtHeight, IsAtWidth, IsFramed, Grows}
 use Rattle.opening_match.proofs.Items.{one_more}

@@ -5,4 +5,3 @@ mod Ordering
 mod Stretching
 mod Touching
 mod Gaining
-mod Boxes

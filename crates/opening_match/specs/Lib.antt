@@ -4,4 +4,3 @@ pub mod Stretches
 pub mod Places
 pub mod Matches
 pub mod Rows
-pub mod Testing

@@ -11,11 +11,11 @@ ghost use Rattle.opening_match.specs.Matches.{AreCloseTo, AreBeside, RunsAlong, 
 use crate::entries::Entry;
 use crate::frame::{Frame, frame_of};
 use crate::stretches::stretch_of;
-use plane_bands::{Bands, near_line_law};
+use plane_trees::{Bands, near_line_law};
 use std::alloc::Global;
 use venue_types::{OpeningRow, OutOfMemory, Point, UnitRow};
 
-/// Whether each position is near the border.
+// Whether each position is near the border.
 fn are_near(bands: &Bands, tolerance: u32, points: &[Point]) -> bool
     requires close { AreCloseTo bands.now points.now }
     requires range { tolerance ≤ 100000 }
@@ -24,7 +24,7 @@ fn are_near(bands: &Bands, tolerance: u32, points: &[Point]) -> bool
     points.iter().all(|p| bands.near(*p, tolerance))
 }
 
-/// The places of those of the entries whose latitude a frame has, within the tolerance.
+// The places of those of the entries whose latitude a frame has, within the tolerance.
 fn places_at_height(
     alloc: Global,
     entries: &[Entry],
@@ -43,7 +43,7 @@ fn places_at_height(
     Ok(places)
 }
 
-/// Those of these openings all of whose vertices are near the border.
+// Those of these openings all of whose vertices are near the border.
 fn places_along(
     alloc: Global,
     openings: &[OpeningRow],

@@ -17,7 +17,7 @@ pub(crate) struct Entry {
     pub place: usize,
 }
 
-/// The first vertex of an opening.
+// The first vertex of an opening.
 fn first_vertex(opening: &OpeningRow) -> Point
     requires { 2 ≤ length opening.now.line.points }
     ensures { Contains opening.now.line.points result }
@@ -25,7 +25,7 @@ fn first_vertex(opening: &OpeningRow) -> Point
     opening.line.points.as_slice()[0]
 }
 
-/// The entries of these openings, in their order.
+// The entries of these openings, in their order.
 fn entries_of(alloc: Global, openings: &[OpeningRow]) -> Result<Vec<Entry>, OutOfMemory>
     requires { HaveVertices openings.now }
     ensures { IfOk result (λ entries. AreFirst openings.now (length openings.now) entries.items) }

@@ -24,7 +24,7 @@ impl Frame {
         is_within(self.south, entry.y, tolerance) && is_within(entry.y, self.north, tolerance)
     }
 
-    /// With one more position.
+    // With one more position.
     fn with(self, p: Point) -> Frame
         ensures { Grows self result (p ∷ []) }
     {
@@ -37,14 +37,14 @@ impl Frame {
     }
 }
 
-/// Whether the first coordinate is no greater than the second, or greater by no more than the tolerance.
+// Whether the first coordinate is no greater than the second, or greater by no more than the tolerance.
 fn is_within(m: i64, n: i64, tolerance: u32) -> bool
     ensures { IsTrue result ↔ (m ≤ℤ (n +ℤ pos tolerance)) }
 {
     m as i128 <= n as i128 + (tolerance as i128)
 }
 
-/// With these points.
+// With these points.
 fn with_points(frame: Frame, points: &[Point]) -> Frame
     ensures { Grows frame result points.now }
 {
@@ -55,7 +55,7 @@ fn with_points(frame: Frame, points: &[Point]) -> Frame
     grown
 }
 
-/// With the points of these rings.
+// With the points of these rings.
 fn with_rings(frame: Frame, rings: &[Ring]) -> Frame
     ensures { Grows frame result (ring_points rings.now) }
 {
@@ -66,7 +66,7 @@ fn with_rings(frame: Frame, rings: &[Ring]) -> Frame
     grown
 }
 
-/// With the vertices of this polygon.
+// With the vertices of this polygon.
 fn with_part(frame: Frame, part: &Part) -> Frame
     ensures { Grows frame result (part_points part.now) }
 {

@@ -4,10 +4,8 @@
 mod candidates;
 mod entries;
 mod frame;
-mod matching;
 mod rows;
 mod stretches;
-#[cfg(test)]
-mod tests;
+mod touch_rows;
 
-pub use matching::touches;
+pub use touch_rows::touches;

@@ -18,7 +18,7 @@ pub(crate) fn empty_rows(alloc: Global, count: usize) -> Result<Vec<List<u32>>, 
     Ok(rows)
 }
 
-/// Adds the unit to one row.
+// Adds the unit to one row.
 fn add_at(rows: &mut Vec<List<u32>>, place: usize, unit: u32) -> Result<(), OutOfMemory>
     requires { place < length rows.old.items }
     ensures { OnOk result (GainsAt place unit rows.old.items rows.new.items) }

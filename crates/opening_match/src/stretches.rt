@@ -8,14 +8,14 @@ use crate::entries::Entry;
 use crate::frame::Frame;
 use venue_types::FeatureId;
 
-/// Whether the entry is of a lesser level, or of this one and to the west of the bound.
+// Whether the entry is of a lesser level, or of this one and to the west of the bound.
 fn is_before(entry: &Entry, level: FeatureId, bound: i128) -> bool
     ensures { result ≡ is_before level bound entry.now }
 {
     entry.level.0 < level.0 || entry.level.0 == level.0 && (entry.x as i128) < bound
 }
 
-/// How many of the entries are before the bound: those in front. Takes log n time.
+// How many of the entries are before the bound: those in front. Takes log n time.
 fn front_count(entries: &[Entry], level: FeatureId, bound: i128) -> usize
     requires { AreRising entries.now }
     ensures { IsFront entries.now level bound result }

@@ -9,4 +9,3 @@ pub mod ParityLemmas
 pub mod PolynomialLemmas
 pub mod NearLaw
 pub mod DetourLaw
-pub mod BoxLemmas

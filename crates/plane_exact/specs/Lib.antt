@@ -3,4 +3,3 @@ pub mod Segment
 pub mod Figure
 pub mod Opening
 pub mod Length
-pub mod Testing

@@ -15,7 +15,7 @@ pub fn near(p: Point, shape: &Shape, t: u32) -> bool
     near_parts(p, shape.parts.as_slice(), t)
 }
 
-/// Whether `p` is at most `t` from some edge of the polygons.
+// Whether `p` is at most `t` from some edge of the polygons.
 fn near_parts(p: Point, parts: &[Part], t: u32) -> bool
     requires close { AllClose (p ∷ flat_map part_points parts.now) }
     requires tolerance { t ≤ 1000000 }
@@ -29,7 +29,7 @@ fn near_parts(p: Point, parts: &[Part], t: u32) -> bool
     false
 }
 
-/// Whether `p` is at most `t` from some edge of the polygon.
+// Whether `p` is at most `t` from some edge of the polygon.
 fn near_part(p: Point, part: &Part, t: u32) -> bool
     requires close { AllClose (p ∷ part_points part.now) }
     requires tolerance { t ≤ 1000000 }
@@ -38,7 +38,7 @@ fn near_part(p: Point, part: &Part, t: u32) -> bool
     near_ring(p, &part.outer, t) || near_rings(p, part.holes.as_slice(), t)
 }
 
-/// Whether `p` is at most `t` from some edge of the rings.
+// Whether `p` is at most `t` from some edge of the rings.
 fn near_rings(p: Point, rings: &[Ring], t: u32) -> bool
     requires close { AllClose (p ∷ ring_points rings.now) }
     requires tolerance { t ≤ 1000000 }

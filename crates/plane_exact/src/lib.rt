@@ -13,6 +13,3 @@ pub use laws::{detour_law, length_law, near_edge_law, turn_law};
 pub use lengths::{length_cm, spans};
 pub use rays::{inside, inside_ring, is_odd_at_chain};
 pub use segments::{crosses, near_edge, side};
-
-#[cfg(test)]
-mod tests;

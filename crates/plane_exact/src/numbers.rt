@@ -5,7 +5,7 @@ ghost use Rattle.plane_exact.specs.Plane.{IsWithin, IsClose, side, along, square
 
 use venue_types::Point;
 
-/// From a to b along the axis of longitude.
+// From a to b along the axis of longitude.
 fn x_step(a: Point, b: Point) -> i64
     requires { IsClose a b }
     ensures value { result ≡ b.x -ℤ a.x }
@@ -14,7 +14,7 @@ fn x_step(a: Point, b: Point) -> i64
     b.x - a.x
 }
 
-/// From a to b along the axis of latitude.
+// From a to b along the axis of latitude.
 fn y_step(a: Point, b: Point) -> i64
     requires { IsClose a b }
     ensures value { result ≡ b.y -ℤ a.y }
@@ -23,7 +23,7 @@ fn y_step(a: Point, b: Point) -> i64
     b.y - a.y
 }
 
-/// The product of two differences.
+// The product of two differences.
 fn product(m: i64, n: i64) -> i64
     requires first { IsWithin 200000000 m (pos 0) }
     requires second { IsWithin 200000000 n (pos 0) }

@@ -16,7 +16,7 @@ pub fn inside(p: Point, shape: &Shape) -> bool
     is_odd_at_parts(p, shape.parts.as_slice())
 }
 
-/// Whether an odd number of the polygons' edges meets the ray from `p`.
+// Whether an odd number of the polygons' edges meets the ray from `p`.
 fn is_odd_at_parts(p: Point, parts: &[Part]) -> bool
     requires { AllClose (p ∷ flat_map part_points parts.now) }
     ensures { IsTrue result ↔ (crossings p (flat_map part_edges parts.now) % 2 ≡ 1) }
@@ -30,7 +30,7 @@ fn is_odd_at_parts(p: Point, parts: &[Part]) -> bool
     odd
 }
 
-/// Whether an odd number of the polygon's edges meets the ray from `p`.
+// Whether an odd number of the polygon's edges meets the ray from `p`.
 fn is_odd_at_part(p: Point, part: &Part) -> bool
     requires { AllClose (p ∷ part_points part.now) }
     ensures { IsTrue result ↔ (crossings p (part_edges part.now) % 2 ≡ 1) }
@@ -38,7 +38,7 @@ fn is_odd_at_part(p: Point, part: &Part) -> bool
     inside_ring(p, &part.outer) != is_odd_at_rings(p, part.holes.as_slice())
 }
 
-/// Whether an odd number of the rings' edges meets the ray from `p`.
+// Whether an odd number of the rings' edges meets the ray from `p`.
 fn is_odd_at_rings(p: Point, rings: &[Ring]) -> bool
     requires { AllClose (p ∷ ring_points rings.now) }
     ensures { IsTrue result ↔ (crossings p (ring_edges rings.now) % 2 ≡ 1) }
@@ -79,7 +79,7 @@ pub fn is_odd_at_chain(p: Point, start: Point, rest: &[Point]) -> bool
     odd
 }
 
-/// Whether the edge from `a` to `b` meets the ray from `p` toward greater longitude.
+// Whether the edge from `a` to `b` meets the ray from `p` toward greater longitude.
 fn meets(p: Point, a: Point, b: Point) -> bool
     requires edge { IsClose a b }
     requires close { IsClose a p }

@@ -31,7 +31,7 @@ pub fn crosses(a: Point, b: Point, c: Point, d: Point) -> bool
     separates(a, b, c, d) && separates(c, d, a, b)
 }
 
-/// Whether `c` and `d` lie on the two sides of the line through `a` and `b`.
+// Whether `c` and `d` lie on the two sides of the line through `a` and `b`.
 fn separates(a: Point, b: Point, c: Point, d: Point) -> bool
     requires end { IsClose a b }
     requires first { IsClose a c }
@@ -61,7 +61,7 @@ pub fn near_edge(p: Point, a: Point, b: Point, t: u32) -> bool
     }
 }
 
-/// Whether the distance of `p` to `a` is at most `t`.
+// Whether the distance of `p` to `a` is at most `t`.
 fn is_near_point(p: Point, a: Point, t: u32) -> bool
     requires close { IsClose a p }
     requires tolerance { t ≤ 1000000 }
@@ -70,7 +70,7 @@ fn is_near_point(p: Point, a: Point, t: u32) -> bool
     square_between(a, p) <= tolerance_square(t)
 }
 
-/// Whether the distance of `p` to the line through `a` and `b` is at most `t`, where `a` and `b` differ.
+// Whether the distance of `p` to the line through `a` and `b` is at most `t`, where `a` and `b` differ.
 fn is_near_line(p: Point, a: Point, b: Point, t: u32) -> bool
     requires edge { IsClose a b }
     requires close { IsClose a p }

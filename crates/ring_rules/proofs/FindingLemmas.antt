@@ -7,9 +7,9 @@ use Rattle.venue_types.specs.declared.finding.Finding.{Finding}
 use Rattle.venue_types.specs.declared.point.Ring.{Ring}
 use Rattle.venue_types.specs.declared.point.Part.{Part}
 use Rattle.venue_types.specs.declared.point.Shape.{Shape}
-use Rattle.imdf_schema.specs.declared.files.File.{File}
-use Rattle.report_laws.specs.Passes.{Adds, found}
-use Rattle.report_laws.proofs.Adding.{Adds-same, Adds-found, Adds-then, Among}
+use Rattle.venue_types.specs.declared.folder_file.File.{File}
+use Rattle.rule_reports.specs.Passes.{Adds, found}
+use Rattle.rule_reports.proofs.Adding.{Adds-same, Adds-found, Adds-then, Among}
 use Rattle.ring_rules.specs.declared.rules.RingRule.{RingRule}
 use Rattle.ring_rules.specs.declared.rules.RingRule.TheVariants.{G3, G4, G5}
 use Rattle.ring_rules.specs.Rings.{Placed, as_hole, placed_in, placed_rings, LeavesBorder}

@@ -7,11 +7,11 @@ use Rattle.venue_types.specs.declared.features.Features.{Features}
 use Rattle.venue_types.specs.declared.finding.Finding.{Finding}
 use Rattle.venue_types.specs.declared.point.Point.{Point}
 use Rattle.venue_types.specs.declared.point.Shape.{Shape}
-use Rattle.imdf_schema.specs.declared.files.File.{File}
-use Rattle.imdf_schema.specs.declared.files.File.TheVariants as file
-use Rattle.imdf_schema.specs.Files.{file_number, feature_files}
-use Rattle.report_laws.specs.Passes.{Adds}
-use Rattle.report_laws.proofs.Adding.{Adds-same, Adds-then}
+use Rattle.venue_types.specs.declared.folder_file.File.{File}
+use Rattle.venue_types.specs.declared.folder_file.File.TheVariants as file
+use Rattle.venue_types.specs.FolderFiles.{file_number, feature_files}
+use Rattle.rule_reports.specs.Passes.{Adds}
+use Rattle.rule_reports.proofs.Adding.{Adds-same, Adds-then}
 use Rattle.plane_exact.specs.Figure.{AllClose, rings, vertices}
 use Rattle.feature_rows.specs.Figures.{shapes_of, positions_of, positions, judged_positions, display_of}
 use Rattle.feature_rows.specs.Sound.{AreSound, IsOnEarth, IsSoundRing, IsSoundShape}

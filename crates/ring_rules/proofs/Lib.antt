@@ -4,5 +4,4 @@ pub mod EdgeLemmas
 pub mod FitLemmas
 pub mod FindingLemmas
 pub mod FolderLemmas
-pub mod SmallLemmas
 mod SpreadLemmas

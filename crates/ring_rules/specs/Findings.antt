@@ -3,7 +3,7 @@ use Rattle.std.specs.Prelude.{◌≡◌, ℕ, ◌+◌, List, Some, None, slice_g
 use Rattle.venue_types.specs.declared.finding.Finding.{Finding}
 use Rattle.venue_types.specs.declared.point.Ring.{Ring}
 use Rattle.venue_types.specs.declared.point.Shape.{Shape}
-use Rattle.imdf_schema.specs.declared.files.File.{File}
+use Rattle.venue_types.specs.declared.folder_file.File.{File}
 use Rattle.imdf_schema.specs.Places.{finding_at}
 use Rattle.ring_rules.specs.declared.rules.RingRule.{RingRule}
 use Rattle.ring_rules.specs.Rings.{Placed, placed_rings}

@@ -3,4 +3,3 @@ pub mod Rings
 pub mod Judged
 pub mod Rules
 pub mod Findings
-pub mod Testing

@@ -4,7 +4,7 @@ ghost use Rattle.std.specs.Prelude.{◌↔◌, IfOk, IsTrue};
 ghost use Rattle.plane_exact.specs.Figure.{AllClose};
 ghost use Rattle.ring_rules.specs.Rings.{CrossesItself};
 
-use plane_bands::ring_crosses;
+use plane_trees::ring_crosses;
 use std::alloc::Global;
 use venue_types::{OutOfMemory, Ring};
 

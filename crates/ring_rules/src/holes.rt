@@ -5,7 +5,7 @@ ghost use Rattle.plane_exact.specs.Figure.{AllClose};
 ghost use Rattle.ring_rules.specs.Rings.{as_hole, LeavesBorder};
 ghost use Rattle.ring_rules.specs.Judged.{IsOutside};
 
-use plane_bands::RingBands;
+use plane_trees::RingBands;
 use venue_types::{Point, Ring};
 
 /// Whether a vertex of the hole is neither inside the border nor on it.

@@ -6,15 +6,11 @@ mod bounds;
 mod crossings;
 mod holes;
 mod laws;
-#[cfg(test)]
-mod long_rings;
 mod positioned;
 mod ring_findings;
 mod rules;
 mod shape_findings;
 mod spread;
-#[cfg(test)]
-mod tests;
 
 pub use laws::no_spread_law;
 pub use ring_findings::add_ring_findings;

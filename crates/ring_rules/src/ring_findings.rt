@@ -3,7 +3,7 @@
 ghost use Rattle.std.specs.Prelude.{◌≤◌, OnOk, length, map};
 ghost use mathlib.Core.List.{IsPrefix};
 ghost use Rattle.plane_exact.specs.Figure.{AllClose};
-ghost use Rattle.report_laws.specs.Passes.{Adds};
+ghost use Rattle.rule_reports.specs.Passes.{Adds};
 ghost use Rattle.feature_rows.specs.Sound.{AreSound};
 ghost use Rattle.feature_rows.specs.Figures.{judged_positions};
 ghost use Rattle.ring_rules.specs.Judged.{AreFitShapes};
@@ -12,12 +12,12 @@ ghost use Rattle.ring_rules.specs.Rules.{BreaksInRing};
 
 use crate::shape_findings::add_shape;
 use feature_rows::HasShape;
-use imdf_schema::{File, Place};
+use imdf_schema::{FeatureAt, File};
 use std::alloc::Global;
 use venue_types::{Features, Finding, List, OutOfMemory};
 
-// What is wrong with the rings of some rows of a file.
-#[tactic(auto, using(report_laws::proofs::Beginnings::beginnings))]
+/// What is wrong with the rings of some rows of a file.
+#[tactic(auto, using(rule_reports::proofs::Beginnings::beginnings))]
 pub(crate) fn add_rows<R: HasShape>(
     alloc: Global,
     findings: &mut Vec<Finding>,
@@ -31,7 +31,7 @@ pub(crate) fn add_rows<R: HasShape>(
 {
     for k in 0..rows.len() {
         let index = k as u32;
-        add_shape(alloc, findings, Place { file, index }, rows[k].shape())?;
+        add_shape(alloc, findings, FeatureAt { file, index }, rows[k].shape())?;
     }
     Ok(())
 }
@@ -56,7 +56,7 @@ fn add_file<R: HasShape>(
 /// A tree of octagons is made of one ring at a time, and of a border once for all its holes. So on most rings it takes
 /// n log n time for n positions, at worst time in proportion to the sum of the squares of the rings' lengths, and memory
 /// for the findings and for the trees of two rings.
-#[tactic(auto, using(report_laws::proofs::Beginnings::beginnings))]
+#[tactic(auto, using(rule_reports::proofs::Beginnings::beginnings))]
 pub fn add_ring_findings(
     alloc: Global,
     features: &Features,

@@ -3,7 +3,7 @@
 ghost use Rattle.std.specs.Prelude.{◌≡◌, ◌+◌, ◌∷◌, [], OnOk, IfOk, length, map, flat_map};
 ghost use mathlib.Core.List.{IsPrefix};
 ghost use Rattle.plane_exact.specs.Figure.{rings, rings_of};
-ghost use Rattle.report_laws.specs.Passes.{Adds};
+ghost use Rattle.rule_reports.specs.Passes.{Adds};
 ghost use Rattle.ring_rules.specs.Rings.{as_hole, placed_in, placed_rings};
 ghost use Rattle.ring_rules.specs.Judged.{AreFit};
 ghost use Rattle.ring_rules.specs.Findings.{FindsInRing, FindsFrom, alone};
@@ -11,9 +11,9 @@ ghost use Rattle.ring_rules.specs.Findings.{FindsInRing, FindsFrom, alone};
 use crate::area::has_no_area;
 use crate::crossings::crosses_itself;
 use crate::holes::leaves_border;
-use imdf_schema::{Place, Rule};
-use plane_bands::RingBands;
-use report_laws::add;
+use imdf_schema::{FeatureAt, Rule};
+use plane_trees::RingBands;
+use rule_reports::add;
 use std::alloc::Global;
 use venue_types::{Finding, OutOfMemory, Part, Ring, Shape};
 
@@ -28,11 +28,11 @@ fn next(number: u32) -> Result<u32, OutOfMemory>
 }
 
 // What is wrong with a ring, be it a hole or not.
-#[tactic(auto, using(report_laws::proofs::Beginnings::beginnings))]
+#[tactic(auto, using(rule_reports::proofs::Beginnings::beginnings))]
 fn add_ring(
     alloc: Global,
     findings: &mut Vec<Finding>,
-    place: Place,
+    place: FeatureAt,
     number: u32,
     ring: &Ring,
 ) -> Result<(), OutOfMemory>
@@ -47,11 +47,11 @@ fn add_ring(
 }
 
 // What is wrong with a hole.
-#[tactic(auto, using(report_laws::proofs::Beginnings::beginnings))]
+#[tactic(auto, using(rule_reports::proofs::Beginnings::beginnings))]
 fn add_hole(
     alloc: Global,
     findings: &mut Vec<Finding>,
-    place: Place,
+    place: FeatureAt,
     number: u32,
     hole: &Ring,
     border: &RingBands,
@@ -66,11 +66,11 @@ fn add_hole(
 }
 
 // What is wrong with holes, of which the first has this number; the number after theirs.
-#[tactic(auto, using(report_laws::proofs::Beginnings::beginnings))]
+#[tactic(auto, using(rule_reports::proofs::Beginnings::beginnings))]
 fn add_holes(
     alloc: Global,
     findings: &mut Vec<Finding>,
-    place: Place,
+    place: FeatureAt,
     first: u32,
     holes: &[Ring],
     border: &RingBands,
@@ -92,7 +92,7 @@ fn add_holes(
 fn add_holes_of(
     alloc: Global,
     findings: &mut Vec<Finding>,
-    place: Place,
+    place: FeatureAt,
     first: u32,
     part: &Part,
 ) -> Result<u32, OutOfMemory>
@@ -116,11 +116,11 @@ fn add_holes_of(
 }
 
 // What is wrong with a polygon whose border has this number; the number after its rings'.
-#[tactic(auto, using(report_laws::proofs::Beginnings::beginnings))]
+#[tactic(auto, using(rule_reports::proofs::Beginnings::beginnings))]
 fn add_part(
     alloc: Global,
     findings: &mut Vec<Finding>,
-    place: Place,
+    place: FeatureAt,
     first: u32,
     part: &Part,
 ) -> Result<u32, OutOfMemory>
@@ -135,11 +135,11 @@ fn add_part(
 }
 
 // What is wrong with polygons.
-#[tactic(auto, using(report_laws::proofs::Beginnings::beginnings))]
+#[tactic(auto, using(rule_reports::proofs::Beginnings::beginnings))]
 fn add_parts(
     alloc: Global,
     findings: &mut Vec<Finding>,
-    place: Place,
+    place: FeatureAt,
     parts: &[Part],
 ) -> Result<(), OutOfMemory>
     requires { AreFit (flat_map rings_of parts.now) }
@@ -157,7 +157,7 @@ fn add_parts(
 pub(crate) fn add_shape(
     alloc: Global,
     findings: &mut Vec<Finding>,
-    place: Place,
+    place: FeatureAt,
     shape: &Shape,
 ) -> Result<(), OutOfMemory>
     requires { AreFit (rings shape.now) }

@@ -17,7 +17,7 @@ use Rattle.route_certificate.specs.Verdicts.{IsProvedClaim}
 use Rattle.route_search.specs.declared.found.Found.{Found}
 use Rattle.route_search.specs.declared.found.Found.TheVariants as found
 use Rattle.route_search.specs.Answers.{IsAnswer, IsSmall}
-use Rattle.link_tables.specs.Tables.{table_of}
+use Rattle.route_answers.specs.Tables.{table_of}
 use Rattle.route_answers.specs.RouteAnswers.{MayUse, IsClaimOf, IsRouteAnswer}
 use Rattle.route_answers.specs.Claims.{IsOverAllowed, IsTold}
 use Rattle.route_answers.proofs.Families.{route_over, no_route_over}

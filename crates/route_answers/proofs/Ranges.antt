@@ -18,8 +18,8 @@ use Rattle.route_certificate.specs.declared.table.TableLink.{TableLink}
 use Rattle.route_certificate.specs.Answers.{FitsPotential, FitsRoute, FitsNothing}
 use Rattle.route_certificate.specs.Forms.{FitsNode, FitsStep}
 use Rattle.route_search.specs.Answers.{IsRoute, IsNoRoute, IsSmallRoute}
-use Rattle.link_tables.specs.Places.{AreFirstPlaces}
-use Rattle.link_tables.specs.Tables.{allowed_links, row_of, table_of}
+use Rattle.route_answers.specs.Places.{AreFirstPlaces}
+use Rattle.route_answers.specs.Tables.{allowed_links, row_of, table_of}
 
 pub node_fits : (nodes n : ℕ) → nodes ≤ 400000 → n < nodes → FitsNode nodes n
 node_fits nodes n few within = record { node = within; small = omega (arith, within, few) }

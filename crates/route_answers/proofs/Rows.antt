@@ -2,7 +2,7 @@
 use Rattle.std.proofs.Common.{◌≡◌, ℕ, ◌+◌, ◌≤◌, List, [], ◌∷◌, map, refl, sym, subst}
 use Rattle.std.specs.Prelude.{Contains}
 use Rattle.std.proofs.lemmas.List.Sums.{sum_by-cons}
-use Rattle.report_laws.proofs.Members.{Contains-nil}
+use Rattle.rule_reports.proofs.Members.{Contains-nil}
 use Rattle.venue_types.specs.declared.features.Features.{Features}
 use Rattle.venue_types.specs.declared.link.Link.{Link}
 use Rattle.venue_types.specs.declared.link.Potential.{Potential}
@@ -21,9 +21,9 @@ use Rattle.route_certificate.specs.Answers.{potentials_read}
 use Rattle.route_certificate.specs.Prices.{IsChain}
 use Rattle.route_certificate.specs.Verdicts.{links_read, IsProvedRoute}
 use Rattle.route_search.specs.Answers.{IsRoute}
-use Rattle.link_tables.specs.Places.{AreFirstPlaces}
-use Rattle.link_tables.specs.Tables.{allowed_links, row_of, table_of}
-use Rattle.link_tables.proofs.Judging.{allowed_is}
+use Rattle.route_answers.specs.Places.{AreFirstPlaces}
+use Rattle.route_answers.specs.Tables.{allowed_links, row_of, table_of}
+use Rattle.route_answers.proofs.Judging.{allowed_is}
 use Rattle.route_answers.specs.RouteAnswers.{MayUse}
 
 -- ---- each row is that of a usable link

@@ -10,8 +10,8 @@ use Rattle.route_certificate.specs.declared.answer.Claim.{Claim}
 use Rattle.route_certificate.specs.declared.answer.Claim.TheVariants as claim
 use Rattle.route_search.specs.declared.found.Found.{Found}
 use Rattle.route_search.specs.declared.found.Found.TheVariants as found
-use Rattle.link_tables.specs.Places.{AreFirstPlaces}
-use Rattle.link_tables.specs.Tables.{row_of, table_of}
+use Rattle.route_answers.specs.Places.{AreFirstPlaces}
+use Rattle.route_answers.specs.Tables.{row_of, table_of}
 
 -- these are links of the network, and the profile allows them
 pub record AreAllowed (network : Network) (profile : Profile) (links : List Link) : Type 0 where

@@ -13,8 +13,8 @@ use Rattle.route_certificate.specs.declared.answer.Claim.TheVariants.{Route, Not
 use Rattle.route_certificate.specs.Answers.{FitsAnswer}
 use Rattle.route_certificate.specs.Verdicts.{IsProved}
 use Rattle.route_search.specs.Answers.{IsRoute, IsNoRoute}
-use Rattle.link_tables.specs.Places.{AreFirstPlaces}
-use Rattle.link_tables.specs.Tables.{row_of, table_of}
+use Rattle.route_answers.specs.Places.{AreFirstPlaces}
+use Rattle.route_answers.specs.Tables.{row_of, table_of}
 
 -- what the profile may use, nothing closed
 abbrev pub MayUse : Features → Settings → Profile → Link → Type 0

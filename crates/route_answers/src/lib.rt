@@ -1,10 +1,20 @@
-//! The answer to the question for a way through a venue, over the table of the links that a profile may use.
+//! The table of the links of a venue that a profile may use, and the answer to the question for a way over that table.
 #![tactic(auto)]
 
-mod answering;
-mod claiming;
-mod finding;
-#[cfg(test)]
-mod trials;
+mod answers;
+mod claims;
+mod counts;
+mod firsts;
+mod ids;
+mod inside;
+mod passes;
+mod places;
+mod rows;
+mod search;
+mod starts;
+mod tables;
 
-pub use answering::route_answer;
+pub use answers::route_answer;
+pub use places::row_places;
+pub use tables::allowed_table;
+pub use venue_nodes::number_law;

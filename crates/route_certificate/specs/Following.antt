@@ -1,8 +1,8 @@
 -- The code's own way, no promise: where the steps of a walk lead.
 use Rattle.std.specs.Prelude.{ℕ, List}
 use Rattle.route_certificate.specs.declared.table.TableLink.{TableLink}
-use Rattle.route_certificate.specs.declared.pricing.Followed.{Followed}
-use Rattle.route_certificate.specs.declared.pricing.Followed.TheVariants.{To, Broken}
+use Rattle.route_certificate.specs.declared.walk_price.Followed.{Followed}
+use Rattle.route_certificate.specs.declared.walk_price.Followed.TheVariants.{To, Broken}
 use Rattle.route_certificate.specs.Prices.{IsChain, IsBroken}
 
 -- where the steps lead, and the sum of the costs; or the first that does not fit

@@ -3,8 +3,8 @@ use Rattle.std.specs.Prelude.{◌≡◌, ℕ, ◌<◌, ◌≤◌, List, ◌++◌
 use Rattle.std.specs.List.{flat_map, AllByRecursion}
 use Rattle.line_forms.specs.Fronts.{HasNone}
 use Rattle.venue_types.specs.declared.feature_id.FeatureId.{FeatureId}
-use Rattle.route_certificate.specs.declared.ending.Ending.{Ending}
-use Rattle.route_certificate.specs.declared.ending.Ending.TheVariants.{Whole, Missing, TextBehind}
+use Rattle.route_certificate.specs.declared.form_end.Ending.{Ending}
+use Rattle.route_certificate.specs.declared.form_end.Ending.TheVariants.{Whole, Missing, TextBehind}
 use Rattle.route_certificate.specs.Forms.{FitsId, node_line, end_line}
 
 -- the text begins with these nodes, and the rest with no further one that a table may have

@@ -8,11 +8,11 @@ ghost use Rattle.route_certificate.specs.Answers.{IsAnswerText, IsAnswerTextOver
 ghost use Rattle.route_certificate.specs.AnswerFronts.{IsClaim, IsClaimText};
 
 use crate::answer::{AnswerIn, Claim};
-use crate::answer_reading::{next_route, next_to, read_potentials, read_reached};
-use crate::answer_writing::{push_claim, push_ends};
-use crate::ending::{Ending, read_end};
+use crate::answer_lines::{next_route, next_to, read_potentials, read_reached};
+use crate::answer_writer::{push_claim, push_ends};
+use crate::form_end::{Ending, read_end};
 use crate::table::{FormFault, Table};
-use crate::walk_reading::{next_from, read_steps};
+use crate::walk_lines::{next_from, read_steps};
 use line_forms::after;
 use std::alloc::Global;
 use venue_types::{Bytes, List, OutOfMemory};

@@ -4,10 +4,10 @@ ghost use Rattle.std.specs.Prelude.{◌≡◌, ℕ, ◌^◌, ◌<◌, IfOk, IsEr
 ghost use Rattle.line_forms.specs.Faults.{IsFaultLine};
 ghost use Rattle.route_certificate.specs.Forms.{IsTable, IsTableText, FitsTable, table_text};
 
-use crate::ending::{Ending, read_end};
+use crate::form_end::{Ending, read_end};
 use crate::table::{FormFault, Table};
-use crate::table_reading::{read_links, read_nodes};
-use crate::table_writing::{push_links, push_nodes};
+use crate::table_lines::{read_links, read_nodes};
+use crate::table_writer::{push_links, push_nodes};
 use line_forms::after;
 use std::alloc::Global;
 use venue_types::{Bytes, List, OutOfMemory};

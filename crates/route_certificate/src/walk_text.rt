@@ -4,9 +4,9 @@ ghost use Rattle.std.specs.Prelude.{◌≡◌, ℕ, ◌^◌, ◌<◌, IfOk, IsEr
 ghost use Rattle.line_forms.specs.Faults.{IsFaultLine};
 ghost use Rattle.route_certificate.specs.Forms.{IsWalkText, IsWalkTextOver};
 
-use crate::ending::{Ending, read_end};
+use crate::form_end::{Ending, read_end};
 use crate::table::{FormFault, Table, WalkIn};
-use crate::walk_reading::{next_from, read_steps};
+use crate::walk_lines::{next_from, read_steps};
 use line_forms::after;
 use std::alloc::Global;
 use venue_types::List;

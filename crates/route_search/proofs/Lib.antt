@@ -12,3 +12,6 @@ pub mod Between
 pub mod TrailLists
 pub mod TrailWalks
 pub mod TrailAnswers
+pub use Rattle.link_graph.proofs.Identifiers
+pub use Rattle.link_graph.proofs.Finding
+pub use Rattle.link_graph.proofs.Placed

@@ -4,3 +4,11 @@ pub mod Waiting
 pub mod States
 pub mod Scans
 pub mod Trails
+pub use Rattle.link_graph.specs.Nodes
+pub use Rattle.link_graph.specs.Identity
+pub use Rattle.link_graph.specs.Numbering
+pub use Rattle.link_graph.specs.Graphs
+pub use Rattle.link_graph.specs.Marking
+pub use Rattle.link_graph.specs.Networks
+pub use Rattle.link_graph.specs.Usable
+pub use Rattle.link_graph.specs.Views

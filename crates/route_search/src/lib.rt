@@ -2,21 +2,22 @@
 #![tactic(auto)]
 
 mod answers;
-mod beginning;
 mod families;
 mod found;
 mod frontier;
-mod growing;
+mod growth;
 mod labels;
-mod lowering;
-mod passing;
+mod node_scan;
+mod passed_links;
 mod queue;
 mod quiet;
-mod scanning;
-mod searching;
+mod relaxation;
+mod search;
+mod start;
 mod state;
 mod trails;
 mod ways;
 
 pub use found::Found;
-pub use searching::least;
+pub use link_graph::{Graph, Marks, passable_law};
+pub use search::least;

@@ -9,15 +9,15 @@ use Rattle.std.specs.declared.sync.Arc.{Arc}
 use mathlib.Core.HLevel.{⊥_prop}
 use mathlib.Core.List.{IsPrefix}
 use Rattle.venue_types.specs.declared.settings.Settings.{Settings}
-use Rattle.venue_build.specs.Report.{AreValid}
-use Rattle.venue_build.specs.Venues.{SeenVenue as Venue}
-use Rattle.venue_history.specs.declared.entry.Act.{Act}
-use Rattle.venue_history.specs.declared.entry.Act.TheVariants.{Published, Closed, Reopened}
-use Rattle.venue_history.specs.declared.entry.Entry.{Entry}
-use Rattle.venue_history.specs.Closed.{Version}
-use Rattle.venue_history.specs.Histories.{replay, IsPublished, IsLegalFrom, KeepsTheRules, IsLegal, Replays}
-use Rattle.venue_history.specs.Versions.{opening}
-use Rattle.version_board.specs.OneThread.{opening_history}
+use Rattle.venue_hall.specs.Report.{AreValid}
+use Rattle.venue_hall.specs.Venues.{SeenVenue as Venue}
+use Rattle.venue_hall.specs.Act.{Act}
+use Rattle.venue_hall.specs.Act.TheVariants.{Published, Closed, Reopened}
+use Rattle.venue_hall.specs.Entry.{Entry}
+use Rattle.venue_hall.specs.Closed.{Version}
+use Rattle.venue_hall.specs.Histories.{replay, IsPublished, IsLegalFrom, KeepsTheRules, IsLegal, Replays}
+use Rattle.venue_hall.specs.Versions.{opening}
+use Rattle.venue_hall.specs.Openings.{opening_history}
 use Rattle.shared_hall.specs.Entries.{HaveSettings}
 
 -- there is an entry

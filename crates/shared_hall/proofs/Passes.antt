@@ -2,8 +2,8 @@
 use Rattle.std.proofs.Common.{arith, refl, suc, ◌≡◌, ℕ, ◌+◌, ◌<◌, length, slice_index_or, List, [], ◌∷◌, ◌++◌, All}
 use Rattle.std.proofs.lemmas.List.Sums.{sum_by-append, sum_by-cons}
 use Rattle.std.proofs.lemmas.List.Elements.{All-push}
-use Rattle.venue_history.specs.declared.entry.Entry.{Entry}
-use Rattle.version_board.specs.Facts.{Facts}
+use Rattle.venue_hall.specs.Entry.{Entry}
+use Rattle.venue_hall.specs.Facts.{Facts}
 use Rattle.shared_hall.specs.Offices.{parts_of, made_of, Begins, AreNumbered}
 
 -- the parts of one pass more

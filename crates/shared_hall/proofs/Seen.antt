@@ -2,9 +2,9 @@
 use Rattle.std.proofs.Common.{◌≡◌, List, subst}
 use Rattle.venue_types.specs.declared.query.Change.{Change}
 use Rattle.venue_types.specs.declared.reply.Reply.{Reply}
-use Rattle.venue_history.specs.declared.entry.Entry.{Entry}
-use Rattle.venue_history.specs.Changes.{Changes}
-use Rattle.version_board.specs.Facts.{Facts}
+use Rattle.venue_hall.specs.Entry.{Entry}
+use Rattle.venue_hall.specs.Changes.{Changes}
+use Rattle.venue_hall.specs.Facts.{Facts}
 use Rattle.shared_hall.specs.Offices.{OfficeFacts}
 
 -- a change of the fields

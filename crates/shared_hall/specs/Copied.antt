@@ -1,7 +1,7 @@
 -- The two copies of a hall that isn't opened yet.
 use Rattle.std.specs.Prelude.{List}
 use Rattle.logbook.specs.Pages.{Book}
-use Rattle.venue_history.specs.declared.entry.Entry.{Entry}
+use Rattle.venue_hall.specs.Entry.{Entry}
 use Rattle.board_copies.specs.Rules.{list_of}
 use Rattle.shared_hall.specs.declared.copies.Copies.{Copies}
 

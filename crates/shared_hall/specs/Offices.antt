@@ -4,13 +4,13 @@ use Rattle.std.specs.List.{sum_by}
 use mathlib.Core.List.{IsPrefix}
 use Rattle.venue_types.specs.declared.reply.Reply.{Reply}
 use Rattle.venue_types.specs.declared.reply.Reply.TheVariants as reply
-use Rattle.venue_folder.specs.Shelves.{Shelf}
+use Rattle.venue_hall.specs.Shelves.{Shelf}
 use Rattle.venue_ports.specs.Causes.{one_more}
 use Rattle.venue_ports.specs.Files.{StoredFile}
-use Rattle.venue_history.specs.declared.entry.Entry.{Entry}
-use Rattle.venue_history.specs.Histories.{IsLegal}
-use Rattle.version_board.specs.Facts.{Facts}
-use Rattle.version_board.specs.Making.{shelf_of}
+use Rattle.venue_hall.specs.Entry.{Entry}
+use Rattle.venue_hall.specs.Histories.{IsLegal}
+use Rattle.venue_hall.specs.Facts.{Facts}
+use Rattle.board_copies.specs.Making.{shelf_of}
 
 -- the entries of the published copy, the folders below the base where they are told, and how often they failed
 pub record OfficeFacts : Type 0 where

@@ -9,7 +9,7 @@ use crate::entries::held_last;
 use board_copies::{Keep, Keeper, Roll, make_writer, settle};
 use std::alloc::Global;
 use std::sync::{Arc, Wait};
-use venue_history::Entry;
+use venue_hall::Entry;
 use venue_types::{OutOfMemory, Settings};
 
 /// The two copies of the board to which a history leads, their writer, and the settings. They have no name yet.
@@ -24,7 +24,7 @@ pub struct Copies {
 }
 
 impl Copies {
-    ghost use Rattle.venue_history.specs.Histories.{IsLegal};
+    ghost use Rattle.venue_hall.specs.Histories.{IsLegal};
     ghost use Rattle.shared_hall.specs.Copied.{entries_in};
     ghost use Rattle.shared_hall.specs.Entries.{HaveSettings};
 

@@ -2,19 +2,17 @@
 
 ghost use Rattle.std.specs.Prelude.{◌≡◌, [], ◌∷◌, ◌++◌, IfOk};
 ghost use Rattle.std.specs.Arc.{arc_value};
-ghost use Rattle.venue_build.specs.Venues.{SeenVenue};
-ghost use Rattle.venue_history.specs.Histories.{IsLegal, IsPublished};
+ghost use Rattle.venue_hall.specs.Venues.{SeenVenue};
+ghost use Rattle.venue_hall.specs.Histories.{IsLegal, IsPublished};
 ghost use Rattle.board_copies.specs.Stamps.{entries_of};
-ghost use Rattle.version_board.specs.OneThread.{opening_history};
+ghost use Rattle.venue_hall.specs.Openings.{opening_history};
 ghost use Rattle.shared_hall.specs.Entries.{HaveSettings};
 
-use crate::following::{first_law, following_law};
-use board_copies::{Held, Roll};
+use crate::entry_laws::{first_law, following_law};
+use board_copies::{Held, Roll, Unready};
 use std::alloc::Global;
 use std::sync::Arc;
-use venue_build::{Venue, every_venue};
-use venue_history::{Act, Entry, beginning_law};
-use venue_state::Unready;
+use venue_hall::{Act, Entry, Venue, beginning_law, every_venue};
 use venue_types::{OutOfMemory, Settings};
 
 /// The history that a venue opens: worker 0 publishes it.

@@ -2,18 +2,17 @@
 #![tactic(auto)]
 
 mod copies;
-mod crossing;
 mod entries;
-mod following;
+mod entry_laws;
 mod name;
 mod office;
 mod seat;
-#[cfg(test)]
-mod tests;
+mod thread_bounds;
 
 pub use copies::Copies;
 pub use entries::opening_entries;
-pub use following::{first_law, following_law};
+pub use entry_laws::{first_law, following_law};
 pub use name::HallName;
 pub use office::{Closed, Office, OfficeOf, Opened, Pass, PassOf, close_hall, open_hall};
 pub use seat::{Seat, SeatIn};
+pub use venue_hall::Unopened;

@@ -7,7 +7,7 @@ use std::sync::ledger::Ledger;
 pub trait HallName: Ledger {
     ghost use Rattle.std.specs.Prelude.{ℕ, List, Option};
     ghost use Rattle.logbook.specs.Pages.{Book};
-    ghost use Rattle.venue_folder.specs.Shelves.{Shelf};
+    ghost use Rattle.venue_hall.specs.Shelves.{Shelf};
 
     /// The book in which its lists of entries have their numbers.
     ghost book: { Book };

@@ -2,34 +2,35 @@
 
 ghost use Rattle.std.specs.Prelude.{◌≡◌, ◌+◌, ◌^◌, ◌<◌, ◌≤◌, [], ◌∷◌, ◌++◌, length, OnOk, OnErr};
 ghost use mathlib.Core.List.{IsPrefix};
-ghost use Rattle.venue_history.specs.Changes.{Changes};
-ghost use Rattle.venue_history.specs.Closed.{Version};
-ghost use Rattle.venue_history.specs.Histories.{IsLegal, Replays};
-ghost use Rattle.venue_history.specs.Replies.{told};
-ghost use Rattle.venue_history.specs.Versions.{MayFollow, after};
+ghost use Rattle.venue_hall.specs.Changes.{Changes};
+ghost use Rattle.venue_hall.specs.Closed.{Version};
+ghost use Rattle.venue_hall.specs.Histories.{IsLegal, Replays};
+ghost use Rattle.venue_hall.specs.Replies.{told};
+ghost use Rattle.venue_hall.specs.Versions.{MayFollow, after};
 ghost use Rattle.venue_ports.specs.Causes.{one_more};
-ghost use Rattle.version_board.specs.Facts.{IsAnswered};
-ghost use Rattle.version_board.specs.Making.{CountsFault};
+ghost use Rattle.venue_hall.specs.Facts.{IsAnswered};
+ghost use Rattle.board_copies.specs.Making.{CountsFault};
 ghost use Rattle.shared_hall.specs.Offices.{faulted};
 
-mod closing;
-mod opening;
-mod publishing;
+mod close;
+mod publication;
+mod start;
 
 use crate::name::HallName;
-use board_copies::{Keeper, Reads, Roll, SideReader, Writes, meet_in, read_in, wait_for_ever};
-pub use closing::{Closed, close_hall};
-pub use opening::{Opened, open_hall};
-use publishing::publish_entry;
+use board_copies::{
+    BaseFolders, Keeper, Outcome, Prepared, Reads, Roll, SideReader, Writes, meet_in, read_in,
+    ready_change, wait_for_ever,
+};
+pub use close::{Closed, close_hall};
+use publication::publish_entry;
+pub use start::{Opened, open_hall};
 use std::alloc::Global;
 use std::marker::Model;
 use std::sync::ledger::{Book, Share};
 use std::sync::{Arc, Wait};
-use venue_history::{legal_law, number_law, version_law};
+use venue_hall::{legal_law, number_law, version_law};
 use venue_ports::Folders;
-use venue_state::Prepared;
 use venue_types::{Change, OutOfMemory, Query, Reply, Settings};
-use version_board::{Outcome, Reader, ready_change};
 
 /// What a worker has seen, and its part of the hall's changes.
 #[derive(Drop)]
@@ -47,9 +48,9 @@ pub type Pass<N> = PassOf<N, SideReader>;
 
 impl<N: HallName, Q: Reads> Model for PassOf<N, Q> {
     ghost use Rattle.std.specs.Prelude.{◌≡◌, ◌<◌, ◌≤◌, length, true};
-    ghost use Rattle.venue_history.specs.Histories.{IsLegal};
+    ghost use Rattle.venue_hall.specs.Histories.{IsLegal};
     ghost use Rattle.board_copies.specs.Rules.{known};
-    ghost use Rattle.version_board.specs.Facts.{Facts};
+    ghost use Rattle.venue_hall.specs.Facts.{Facts};
 
     ghost Value = { Facts };
 
@@ -83,7 +84,7 @@ impl<N: HallName> PassOf<N, SideReader> {
         }
     }
 
-    // What the type keeps: the folders of a pass are those of the hall's name, and its count of faults has a bound.
+    /// What the type keeps: the folders of a pass are those of the hall's name, and its count of faults has a bound.
     pub(crate) fn pass_law(&self)
         ensures files { self.now.files ≡ N.folder_files }
         ensures faults { self.now.faults < 2 ^ 64 }
@@ -109,7 +110,7 @@ pub struct OfficeOf<N: HallName, F: Folders, W: Writes> {
     keeper: W,
     roll: Roll,
     book: Book<N>,
-    reader: Reader<F>,
+    reader: BaseFolders<F>,
     settings: Arc<Settings>,
     start: u32,
 }
@@ -121,7 +122,7 @@ impl<N: HallName, F: Folders, W: Writes> Model for OfficeOf<N, F, W> {
     ghost use Rattle.std.specs.Prelude.{◌≡◌, ◌+◌, ◌≤◌, length};
     ghost use Rattle.std.specs.Arc.{arc_value};
     ghost use Rattle.board_copies.specs.Rules.{list_of, book_of};
-    ghost use Rattle.version_board.specs.Making.{shelf_of};
+    ghost use Rattle.board_copies.specs.Making.{shelf_of};
     ghost use Rattle.shared_hall.specs.Offices.{OfficeFacts};
 
     ghost Value = { OfficeFacts };

@@ -9,9 +9,9 @@ use board_copies::{Keeper, Reads, SideReader, Writes};
 use std::alloc::Global;
 use std::marker::Model;
 use std::sync::{Mutex, Wait};
+use venue_hall::{Asks, Hall};
 use venue_ports::Folders;
 use venue_types::{Change, Query, Reply};
-use version_board::{Asks, Hall};
 
 /// Who has it may ask without waiting, and take the lock for a change.
 #[derive(Drop)]
@@ -26,7 +26,7 @@ pub struct SeatIn<'a, N: HallName, F: Folders, Q: Reads, W: Writes, R> {
 pub type Seat<'a, N, F, R> = SeatIn<'a, N, F, SideReader, Keeper, R>;
 
 impl<'a, N: HallName, F: Folders, Q: Reads, W: Writes, R> Model for SeatIn<'a, N, F, Q, W, R> {
-    ghost use Rattle.version_board.specs.Facts.{Facts};
+    ghost use Rattle.venue_hall.specs.Facts.{Facts};
 
     ghost Value = { Facts };
 

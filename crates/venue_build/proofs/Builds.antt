@@ -7,12 +7,12 @@ use Rattle.venue_types.specs.declared.settings.Settings.{Settings}
 use Rattle.venue_types.specs.declared.finding.Finding.{Finding}
 use Rattle.venue_types.specs.declared.finding.Note.{Note}
 use Rattle.venue_types.specs.declared.finding.Report.{Report}
-use Rattle.report_laws.specs.Reports.{IsReport, IsNoteList}
-use Rattle.feature_rows.specs.Sound.{AreSound}
-use Rattle.imdf_rows.specs.Folder.{AreFeatures}
+use Rattle.rule_reports.specs.Reports.{IsReport, IsNoteList}
+use Rattle.imdf_read.specs.Sound.{AreSound}
+use Rattle.imdf_read.specs.Folder.{AreFeatures}
 use Rattle.imdf_read.specs.Broken.{IsBroken}
 use Rattle.imdf_read.specs.Noted.{IsNoted}
-use Rattle.venue_nodes.specs.Unplaced.{IsUnplaced}
+use Rattle.link_graph.specs.Unplaced.{IsUnplaced}
 use Rattle.venue_build.specs.Report.{AreValid, IsVenueNoted}
 use Rattle.venue_build.specs.Built.{IsRejected, IsVenueOf, IsBuilt}
 use Rattle.venue_build.specs.Ground.{IsSoundVenue, IsLaterReport, IsLaterBuilt}

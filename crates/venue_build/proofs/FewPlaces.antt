@@ -9,13 +9,13 @@ use Rattle.venue_types.specs.declared.features.OccupantRow.{OccupantRow}
 use Rattle.venue_types.specs.declared.features.OpeningRow.{OpeningRow}
 use Rattle.venue_types.specs.declared.features.UnitRow.{UnitRow}
 use Rattle.venue_types.specs.declared.reply.PlaceRow.{PlaceRow}
-use Rattle.feature_rows.specs.Sound.{AreSound}
-use Rattle.feature_rows.specs.Indexes.{place_of}
-use Rattle.venue_nodes.specs.Identity.{is_same}
-use Rattle.venue_nodes.proofs.Places.{places_few}
-use Rattle.venue_nodes.proofs.Finding.{position_within}
+use Rattle.imdf_read.specs.Sound.{AreSound}
+use Rattle.imdf_read.specs.Indexes.{place_of}
+use Rattle.link_graph.specs.Identity.{is_same}
+use Rattle.link_graph.proofs.Places.{places_few}
+use Rattle.link_graph.proofs.Finding.{position_within}
 use Rattle.venue_build.specs.Places.{places}
-use Rattle.venue_build.specs.declared.placing.Places.{Places}
+use Rattle.venue_build.specs.declared.place_table.Places.{Places}
 use Rattle.venue_build.specs.Placing.{ArePlaces, can_walk, place_id}
 use Rattle.venue_build.proofs.PlaceRanges.{places_long, as_many}
 

@@ -8,9 +8,9 @@ use Rattle.std.proofs.lemmas.List.{map-id}
 use Rattle.std.proofs.lemmas.List.Folds.{find_at}
 use Rattle.std.proofs.lemmas.Option.{slice_get_past}
 use Rattle.venue_types.specs.declared.feature_id.FeatureId.{FeatureId}
-use Rattle.feature_rows.specs.declared.index.Index.{Index}
-use Rattle.feature_rows.specs.Indexes.{IsIndex}
-use Rattle.venue_nodes.proofs.Finding.{number_exact, number_map}
+use Rattle.imdf_read.specs.Index.{Index}
+use Rattle.imdf_read.specs.Indexes.{IsIndex}
+use Rattle.link_graph.proofs.Finding.{number_exact, number_map}
 use Rattle.venue_build.specs.FirstRows.{FindsFirst}
 
 -- the row at a place, if there is a place

@@ -3,12 +3,12 @@ use Rattle.std.proofs.Common.{◌≡◌, ◌≢◌, List, [], refl, subst, inl}
 use Rattle.venue_types.specs.declared.features.Features.{Features}
 use Rattle.venue_types.specs.declared.settings.Settings.{Settings}
 use Rattle.venue_types.specs.declared.finding.Finding.{Finding}
-use Rattle.report_laws.specs.Order.{finding_cmp}
-use Rattle.report_laws.specs.Reports.{IsReport}
-use Rattle.report_laws.proofs.Phases.{First-stops, First-goes_on}
+use Rattle.rule_reports.specs.Order.{finding_cmp}
+use Rattle.rule_reports.specs.Reports.{IsReport}
+use Rattle.rule_reports.proofs.Phases.{First-stops, First-goes_on}
 use Rattle.imdf_refs.specs.Rules.{IsMisnamed}
 use Rattle.ring_rules.specs.Rules.{IsSpread}
-use Rattle.venue_nodes.specs.Limits.{BreaksLimit}
+use Rattle.link_graph.specs.Limits.{BreaksLimit}
 use Rattle.venue_build.specs.Phases.{IsPlaneBroken, IsGroundBroken}
 use Rattle.venue_build.specs.Report.{IsLaterBroken}
 use Rattle.venue_build.proofs.Phases.{nothing}

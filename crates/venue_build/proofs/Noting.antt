@@ -2,10 +2,10 @@
 use Rattle.std.proofs.Common.{◌⊎◌, List, inl, inr}
 use Rattle.std.specs.Prelude.{Contains}
 use Rattle.venue_types.specs.declared.finding.Note.{Note}
-use Rattle.report_laws.specs.Order.{note_cmp}
-use Rattle.report_laws.specs.Passes.{Adds}
-use Rattle.report_laws.specs.Reports.{IsNoteList}
-use Rattle.report_laws.proofs.Phases.{Lists-same}
+use Rattle.rule_reports.specs.Order.{note_cmp}
+use Rattle.rule_reports.specs.Passes.{Adds}
+use Rattle.rule_reports.specs.Reports.{IsNoteList}
+use Rattle.rule_reports.proofs.Phases.{Lists-same}
 
 -- what was gathered: what there was before, and what was added
 pub added_notes : (P : Note → Type 0) (before gathered notes : List Note) → Adds P before gathered → IsNoteList (Contains gathered) notes

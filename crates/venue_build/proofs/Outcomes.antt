@@ -6,12 +6,12 @@ use Rattle.venue_types.specs.declared.features.Features.{Features}
 use Rattle.venue_types.specs.declared.settings.Settings.{Settings}
 use Rattle.venue_types.specs.declared.finding.Finding.{Finding}
 use Rattle.venue_types.specs.declared.finding.Report.{Report}
-use Rattle.report_laws.specs.Order.{finding_cmp, note_cmp}
-use Rattle.report_laws.specs.Reports.{IsReport, IsNoteList, Shortens, IsShortReport}
-use Rattle.report_laws.proofs.Phases.{Lists-same, same_short}
-use Rattle.report_laws.proofs.Orders.{findings_total, notes_total}
-use Rattle.report_laws.proofs.Unique.{one_list}
-use Rattle.imdf_rows.specs.Folder.{AreFeatures}
+use Rattle.rule_reports.specs.Order.{finding_cmp, note_cmp}
+use Rattle.rule_reports.specs.Reports.{IsReport, IsNoteList, Shortens, IsShortReport}
+use Rattle.rule_reports.proofs.Phases.{Lists-same, same_short}
+use Rattle.rule_reports.proofs.Orders.{findings_total, notes_total}
+use Rattle.rule_reports.proofs.Unique.{one_list}
+use Rattle.imdf_read.specs.Folder.{AreFeatures}
 use Rattle.imdf_read.specs.Broken.{IsBroken}
 use Rattle.venue_build.specs.Report.{IsWrong, IsLaterBroken, IsVenueNoted}
 use Rattle.venue_build.specs.Built.{IsRejected, IsVenueOf}

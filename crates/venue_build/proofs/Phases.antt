@@ -8,10 +8,10 @@ use Rattle.venue_types.specs.declared.features.Features.{Features}
 use Rattle.venue_types.specs.declared.settings.Settings.{Settings}
 use Rattle.venue_types.specs.declared.finding.Finding.{Finding}
 use Rattle.venue_types.specs.declared.finding.Report.{Report}
-use Rattle.report_laws.specs.Order.{finding_cmp}
-use Rattle.report_laws.specs.Reports.{IsReport, First, Shortens}
-use Rattle.report_laws.proofs.Phases.{First-stops, First-goes_on}
-use Rattle.imdf_rows.specs.Folder.{AreFeatures}
+use Rattle.rule_reports.specs.Order.{finding_cmp}
+use Rattle.rule_reports.specs.Reports.{IsReport, First, Shortens}
+use Rattle.rule_reports.proofs.Phases.{First-stops, First-goes_on}
+use Rattle.imdf_read.specs.Folder.{AreFeatures}
 use Rattle.imdf_read.specs.Broken.{IsBroken}
 use Rattle.venue_build.specs.Report.{IsLaterBroken}
 use Rattle.venue_build.specs.Built.{IsRejected}

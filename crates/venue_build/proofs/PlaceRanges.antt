@@ -10,8 +10,8 @@ use Rattle.venue_types.specs.declared.features.AnchorRow.{AnchorRow}
 use Rattle.venue_types.specs.declared.features.OccupantRow.{OccupantRow}
 use Rattle.venue_types.specs.declared.features.OpeningRow.{OpeningRow}
 use Rattle.venue_types.specs.declared.features.UnitRow.{UnitRow}
-use Rattle.venue_nodes.specs.Nodes.{walkable_units}
-use Rattle.venue_nodes.proofs.Places.{places_count, kept_at}
+use Rattle.link_graph.specs.Nodes.{walkable_units}
+use Rattle.link_graph.proofs.Places.{places_count, kept_at}
 use Rattle.venue_build.specs.Places.{places, amenity_place, anchor_place, occupant_place, opening_place, unit_place}
 use Rattle.venue_build.specs.Placing.{can_walk, walkable_indexes}
 

@@ -4,15 +4,15 @@ use Rattle.std.specs.Prelude.{Contains}
 use Rattle.venue_types.proofs.Items.{Contains-nil, Contains-first}
 use Rattle.venue_types.specs.declared.features.Features.{Features}
 use Rattle.venue_types.specs.declared.finding.Finding.{Finding}
-use Rattle.report_laws.specs.Passes.{Adds}
-use Rattle.report_laws.specs.Reports.{IsReport}
-use Rattle.report_laws.specs.Order.{finding_cmp}
-use Rattle.report_laws.proofs.Passes.{Contains-found}
-use Rattle.report_laws.proofs.Phases.{Lists-same}
-use Rattle.imdf_schema.specs.declared.files.File.TheVariants as file
-use Rattle.imdf_schema.specs.declared.rules.Rule.TheVariants as rule
-use Rattle.imdf_schema.specs.Places.{finding_at}
-use Rattle.imdf_schema.specs.Rules.{rule_number}
+use Rattle.rule_reports.specs.Passes.{Adds}
+use Rattle.rule_reports.specs.Reports.{IsReport}
+use Rattle.rule_reports.specs.Order.{finding_cmp}
+use Rattle.rule_reports.proofs.Passes.{Contains-found}
+use Rattle.rule_reports.proofs.Phases.{Lists-same}
+use Rattle.venue_types.specs.declared.folder_file.File.TheVariants as file
+use Rattle.imdf_read.specs.Rule.TheVariants as rule
+use Rattle.imdf_read.specs.Places.{finding_at}
+use Rattle.imdf_read.specs.ImdfSchemaRules.{rule_number}
 use Rattle.ring_rules.specs.Rules.{IsSpread, BreaksSpread, BreaksInRing}
 use Rattle.contain_rules.specs.Rules.{BreaksHold}
 use Rattle.venue_build.specs.Phases.{IsPlaneBroken}

@@ -6,10 +6,10 @@ use Rattle.venue_types.specs.declared.settings.Settings.{Settings}
 use Rattle.venue_types.specs.declared.finding.Finding.{Finding}
 use Rattle.imdf_refs.specs.Rules.{IsMisnamed}
 use Rattle.ring_rules.specs.Rules.{BreaksSpread, IsSpread}
-use Rattle.venue_nodes.specs.declared.limits.Crowding.{Crowding}
-use Rattle.venue_nodes.specs.Crowds.{Crowds, limit_finding}
-use Rattle.venue_nodes.specs.Limits.{BreaksLimit}
-use Rattle.venue_nodes.proofs.Limiting.{report}
+use Rattle.link_graph.specs.Crowding.{Crowding}
+use Rattle.link_graph.specs.Crowds.{Crowds, limit_finding}
+use Rattle.link_graph.specs.Limits.{BreaksLimit}
+use Rattle.link_graph.proofs.Limiting.{report}
 use Rattle.venue_build.specs.Phases.{IsMisplaced, IsPlaneBroken, IsGroundBroken}
 use Rattle.venue_build.specs.Report.{IsLaterBroken}
 use Rattle.venue_build.proofs.Phases.{first_silent, second_silent}

@@ -5,8 +5,8 @@ use Rattle.venue_types.specs.declared.features.Features.{Features}
 use Rattle.venue_types.specs.declared.settings.Settings.{Settings}
 use Rattle.venue_types.specs.declared.finding.Finding.{Finding}
 use Rattle.venue_types.specs.declared.finding.Report.{Report}
-use Rattle.report_laws.specs.Reports.{IsShortReport, IsNoteList}
-use Rattle.imdf_rows.specs.Folder.{AreFeatures}
+use Rattle.rule_reports.specs.Reports.{IsShortReport, IsNoteList}
+use Rattle.imdf_read.specs.Folder.{AreFeatures}
 use Rattle.imdf_read.specs.Broken.{IsBroken}
 use Rattle.venue_build.specs.Venues.{SeenVenue as Venue}
 use Rattle.venue_build.specs.declared.built.Built.{Built}

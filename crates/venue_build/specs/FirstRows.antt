@@ -6,9 +6,9 @@ use Rattle.venue_types.specs.declared.features.Features.{Features}
 use Rattle.venue_types.specs.declared.features.AnchorRow.{AnchorRow}
 use Rattle.venue_types.specs.declared.features.LevelRow.{LevelRow}
 use Rattle.venue_types.specs.declared.features.UnitRow.{UnitRow}
-use Rattle.feature_rows.specs.declared.index.Index.{Index}
-use Rattle.feature_rows.specs.Indexes.{place_of}
-use Rattle.venue_nodes.specs.Identity.{is_same}
+use Rattle.imdf_read.specs.Index.{Index}
+use Rattle.imdf_read.specs.Indexes.{place_of}
+use Rattle.link_graph.specs.Identity.{is_same}
 
 -- for each identifier the index has the number of the first row that has it
 pub record FindsFirst {R : Type 0} (id_of : R → FeatureId) (rows : List R) (index : Index) : Type 0 where

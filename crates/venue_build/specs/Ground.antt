@@ -6,10 +6,10 @@ use Rattle.venue_types.specs.declared.finding.Finding.{Finding}
 use Rattle.venue_types.specs.declared.finding.Note.{Note}
 use Rattle.venue_types.specs.declared.finding.Report.{Report}
 use Rattle.plane_exact.specs.Opening.{AreTouches}
-use Rattle.report_laws.specs.Reports.{IsReport, IsNoteList, Shortens}
-use Rattle.venue_nodes.specs.Views.{AreNodes}
-use Rattle.venue_nodes.specs.Rows.{AreRowsOf}
-use Rattle.venue_nodes.specs.Unplaced.{IsUnplaced}
+use Rattle.rule_reports.specs.Reports.{IsReport, IsNoteList, Shortens}
+use Rattle.link_graph.specs.VenueNodesViews.{AreNodes}
+use Rattle.link_graph.specs.Rows.{AreRowsOf}
+use Rattle.link_graph.specs.Unplaced.{IsUnplaced}
 use Rattle.venue_build.specs.declared.built.Built.{Built}
 use Rattle.venue_build.specs.declared.built.Built.TheVariants as built
 use Rattle.venue_build.specs.Venues.{SeenVenue as Venue}

@@ -2,7 +2,7 @@
 use Rattle.venue_types.specs.declared.features.Features.{Features}
 use Rattle.venue_types.specs.declared.settings.Settings.{Settings}
 use Rattle.link_graph.specs.Networks.{Network, IsNetworkOf}
-use Rattle.venue_build.specs.declared.placing.Places.{Places}
+use Rattle.venue_build.specs.declared.place_table.Places.{Places}
 use Rattle.venue_build.specs.Placing.{ArePlaces}
 use Rattle.venue_build.specs.Report.{AreValid}
 

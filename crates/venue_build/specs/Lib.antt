@@ -9,3 +9,10 @@ pub mod PlaceNumbers
 pub mod FirstRows
 pub mod PlaceFeatures
 pub mod Placing
+pub use Rattle.imdf_read.specs.Rows
+pub use Rattle.link_graph.specs.Nodes
+pub use Rattle.link_graph.specs.Identity
+pub use Rattle.link_graph.specs.Usable
+pub use Rattle.link_graph.specs.Views
+pub use Rattle.imdf_refs.specs.Laws
+pub use Rattle.link_graph.specs.Links

@@ -3,10 +3,10 @@ use Rattle.std.specs.Prelude.{ℕ, ◌⊎◌}
 use Rattle.venue_types.specs.declared.features.Features.{Features}
 use Rattle.venue_types.specs.declared.settings.Settings.{Settings}
 use Rattle.venue_types.specs.declared.finding.Finding.{Finding}
-use Rattle.report_laws.specs.Reports.{First}
+use Rattle.rule_reports.specs.Reports.{First}
 use Rattle.ring_rules.specs.Rules.{BreaksSpread, BreaksInRing}
 use Rattle.contain_rules.specs.Rules.{BreaksHold}
-use Rattle.venue_nodes.specs.Limits.{BreaksLimit}
+use Rattle.link_graph.specs.Limits.{BreaksLimit}
 
 -- a rule of the fourth phase is broken there
 abbrev pub IsMisplaced : Features → ℕ → Finding → Type 0

@@ -4,7 +4,7 @@ use Rattle.std.specs.List.{position_from}
 use Rattle.venue_types.specs.declared.feature_id.FeatureId.{FeatureId}
 use Rattle.venue_types.specs.declared.features.Features.{Features}
 use Rattle.venue_types.specs.declared.reply.PlaceRow.{PlaceRow}
-use Rattle.venue_nodes.specs.Identity.{is_same}
+use Rattle.link_graph.specs.Identity.{is_same}
 use Rattle.venue_build.specs.Places.{places}
 
 -- the number of the first place of this identifier, from 0

@@ -11,8 +11,8 @@ use Rattle.venue_types.specs.declared.features.OpeningRow.{OpeningRow}
 use Rattle.venue_types.specs.declared.features.UnitRow.{UnitRow}
 use Rattle.venue_types.specs.declared.kind.Class.TheVariants as class
 use Rattle.venue_types.specs.declared.reply.PlaceRow.{PlaceRow}
-use Rattle.venue_nodes.specs.Identity.{is_same}
-use Rattle.venue_nodes.specs.Nodes.{walkable_units}
+use Rattle.link_graph.specs.Identity.{is_same}
+use Rattle.link_graph.specs.Nodes.{walkable_units}
 
 -- the ordinal of the level of this identifier; 0 where no level has it, which is so in no valid rows
 unfoldable pub level_ordinal : Features → FeatureId → ℤ

@@ -5,8 +5,8 @@ use Rattle.venue_types.specs.declared.features.Features.{Features}
 use Rattle.venue_types.specs.declared.features.UnitRow.{UnitRow}
 use Rattle.venue_types.specs.declared.reply.PlaceRow.{PlaceRow}
 use Rattle.imdf_access.specs.Categories.{is_walkable}
-use Rattle.venue_nodes.specs.Members.{places_where}
-use Rattle.venue_build.specs.declared.placing.Places.{Places}
+use Rattle.link_graph.specs.Members.{places_where}
+use Rattle.venue_build.specs.declared.place_table.Places.{Places}
 use Rattle.venue_build.specs.FirstRows.{FindsFirst}
 use Rattle.venue_build.specs.Places.{places}
 

@@ -5,12 +5,12 @@ use Rattle.venue_types.specs.declared.features.Features.{Features}
 use Rattle.venue_types.specs.declared.settings.Settings.{Settings}
 use Rattle.venue_types.specs.declared.finding.Finding.{Finding}
 use Rattle.venue_types.specs.declared.finding.Note.{Note}
-use Rattle.report_laws.specs.Reports.{First}
-use Rattle.feature_rows.specs.Sound.{AreSound}
+use Rattle.rule_reports.specs.Reports.{First}
+use Rattle.imdf_read.specs.Sound.{AreSound}
 use Rattle.imdf_read.specs.Broken.{IsBroken}
 use Rattle.imdf_read.specs.Noted.{IsNoted}
 use Rattle.imdf_refs.specs.Rules.{IsMisnamed}
-use Rattle.venue_nodes.specs.Unplaced.{IsUnplaced}
+use Rattle.link_graph.specs.Unplaced.{IsUnplaced}
 use Rattle.venue_build.specs.Phases.{IsGroundBroken}
 
 -- the phases after the first, which judge rows: identifiers and references, then positions on the plane, then members of units

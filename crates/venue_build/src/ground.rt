@@ -2,14 +2,14 @@
 
 ghost use Rattle.std.specs.Prelude.{IfOk};
 ghost use Rattle.plane_exact.specs.Figure.{AllClose};
-ghost use Rattle.feature_rows.specs.Figures.{judged_positions};
-ghost use Rattle.feature_rows.specs.Rows.{HaveOwnIds};
-ghost use Rattle.feature_rows.specs.Sound.{AreSound};
+ghost use Rattle.imdf_read.specs.Figures.{judged_positions};
+ghost use Rattle.imdf_read.specs.Rows.{HaveOwnIds};
+ghost use Rattle.imdf_read.specs.Sound.{AreSound};
 ghost use Rattle.venue_build.specs.Ground.{IsGround};
 
+use link_graph::{Nodes, Rows};
 use opening_match::touches;
 use std::alloc::Global;
-use venue_nodes::{Nodes, Rows};
 use venue_types::{Features, Finding, List, OutOfMemory, Settings, Touches};
 
 /// The units that openings touch, the nodes, and the members of units.

@@ -6,22 +6,22 @@ ghost use Rattle.venue_types.specs.declared.settings.Settings.{Settings};
 ghost use Rattle.venue_types.specs.declared.finding.Finding.{Finding};
 ghost use Rattle.venue_types.specs.declared.finding.Report.{Report};
 ghost use Rattle.plane_exact.specs.Figure.{AllClose};
-ghost use Rattle.feature_rows.specs.Figures.{judged_positions};
-ghost use Rattle.feature_rows.specs.Sound.{AreSound};
+ghost use Rattle.imdf_read.specs.Figures.{judged_positions};
+ghost use Rattle.imdf_read.specs.Sound.{AreSound};
 ghost use Rattle.imdf_refs.specs.Laws.{OpeningsHaveLevels, UnitsHaveLevels, AnchorsHaveUnits, AmenitiesHaveUnits, OccupantsHaveAnchors};
 ghost use Rattle.imdf_refs.specs.Rules.{IsMisnamed};
 ghost use Rattle.ring_rules.specs.Rules.{BreaksSpread};
-ghost use Rattle.venue_nodes.specs.Limits.{BreaksLimit};
+ghost use Rattle.link_graph.specs.Limits.{BreaksLimit};
 ghost use Rattle.venue_build.specs.Phases.{IsMisplaced};
 ghost use Rattle.venue_build.specs.Venues.{SeenVenue as TheVenue};
 ghost use Rattle.venue_build.specs.Built.{IsRejected, IsVenueOf};
 ghost use Rattle.venue_build.specs.Report.{IsLaterBroken};
 
 use crate::Venue;
+use imdf_read::one_reading_law;
 use imdf_refs::{
     amenity_unit_law, anchor_unit_law, occupant_anchor_law, opening_level_law, unit_level_law,
 };
-use reading_laws::one_reading_law;
 use ring_rules::no_spread_law;
 
 /// The rows of a venue are sound, and under its settings no phase finds anything in them: each identifier stands for one

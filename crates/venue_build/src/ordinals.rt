@@ -4,11 +4,11 @@ ghost use Rattle.std.specs.Prelude.{◌≡◌, IfOk};
 ghost use Rattle.std.specs.List.{find};
 ghost use Rattle.std.specs.Option.{option_copied};
 ghost use Rattle.std.proofs.Props.{props};
-ghost use Rattle.venue_nodes.specs.Identity.{is_same};
+ghost use Rattle.link_graph.specs.Identity.{is_same};
 ghost use Rattle.venue_build.specs.FirstRows.{FindsFirst, AreIndexes};
 
 use crate::place_feature::PlaceFeature;
-use feature_rows::{HasId, Index};
+use imdf_read::{HasId, Index};
 use std::alloc::Global;
 use venue_types::{FeatureId, Features, List, OutOfMemory};
 

@@ -4,7 +4,7 @@ ghost use Rattle.std.specs.Prelude.{◌≡◌, ◌<◌, length, IfOk, Some, slic
 ghost use Rattle.venue_build.specs.PlaceNumbers.{place_number};
 ghost use Rattle.venue_build.specs.Places.{places};
 
-use crate::placing::feature_at;
+use crate::place_table::feature_at;
 use crate::venue::Venue;
 use std::alloc::Global;
 use venue_types::{FeatureId, OutOfMemory, PlaceRow};

@@ -1,20 +1,20 @@
 //! The two phases on the plane.
 
 ghost use Rattle.std.specs.Prelude.{IfOk};
-ghost use Rattle.report_laws.specs.Reports.{IsReport};
-ghost use Rattle.feature_rows.specs.Rows.{HaveOwnIds};
-ghost use Rattle.feature_rows.specs.Sound.{AreSound};
+ghost use Rattle.rule_reports.specs.Reports.{IsReport};
+ghost use Rattle.imdf_read.specs.Rows.{HaveOwnIds};
+ghost use Rattle.imdf_read.specs.Sound.{AreSound};
 ghost use Rattle.venue_build.specs.Phases.{IsPlaneBroken};
 
 use contain_rules::add_hold_findings;
-use imdf_schema::{File, Place, Rule};
-use report_laws::in_order;
+use imdf_read::{FeatureAt, File, Rule};
 use ring_rules::{add_ring_findings, is_spread};
+use rule_reports::in_order;
 use std::alloc::Global;
 use venue_types::{Features, Finding, List, OutOfMemory, Settings};
 
 // The positions of a folder lie too far apart, which is told of the folder, and so of its first file.
-const FOLDER: Place = Place {
+const FOLDER: FeatureAt = FeatureAt {
     file: File::Manifest,
     index: 0,
 };

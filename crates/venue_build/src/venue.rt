@@ -7,7 +7,7 @@ ghost use Rattle.venue_build.specs.Kept.{IsKept};
 ghost use Rattle.venue_build.specs.Placing.{ArePlaces};
 ghost use Rattle.venue_build.specs.Report.{AreValid};
 
-use crate::placing::Places;
+use crate::place_table::Places;
 use link_graph::Graph;
 use std::marker::Model;
 use venue_types::{Features, List, Note, Settings};

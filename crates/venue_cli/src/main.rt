@@ -1,23 +1,10 @@
-//! The program: answers the words of its command line, over folders, doors and a console that it is handed.
+//! The program: takes the words of its command line, the directory, the doors and the console of the system, and ends with a number.
 #![tactic(auto)]
 
-mod exit;
-#[cfg(test)]
-mod hostile;
-mod outcome;
-mod ready;
-mod running;
-mod serving;
-#[cfg(test)]
-mod tests;
-
-pub use exit::{Exit, WordsFault, exit_after, words_fault};
-pub use outcome::Outcome;
-pub use running::run;
 use std::env;
 use std::process::ExitCode;
-use venue_commands::Status;
 use venue_ports::{Console, DirFolders, TcpDoors};
+use venue_program::{WordsFault, exit_after, words_fault};
 
 // The words of the command line, less the program's name.
 fn words_of(rt: &HostRuntime) -> Result<Vec<String>, WordsFault> {

@@ -1,6 +1,6 @@
 -- What no stop stops is served.
 use Rattle.std.proofs.Common.{◌≡◌, ◌⊎◌, ℕ, List, Option, Some, refl, inl, inr}
-use Rattle.venue_build.specs.Venues.{SeenVenue as Venue}
+use Rattle.venue_session.specs.Venues.{SeenVenue as Venue}
 use Rattle.venue_ports.specs.Causes.{Rose}
 use Rattle.venue_ports.specs.Files.{StoredFile}
 use Rattle.venue_session.specs.declared.ends.End.{End}

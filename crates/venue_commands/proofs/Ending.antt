@@ -6,7 +6,7 @@ use Rattle.venue_ports.specs.Causes.{Rose}
 use Rattle.venue_ports.specs.declared.folders.ReadFault.{ReadFault}
 use Rattle.venue_ports.specs.declared.stream.Failed.{Failed}
 use Rattle.line_forms.specs.Lines.{line}
-use Rattle.venue_commands.specs.declared.answer.Answer.{Answer}
+use Rattle.venue_commands.specs.declared.printout.Printout.{Printout}
 use Rattle.venue_commands.specs.declared.status.Status.{Status}
 use Rattle.venue_commands.specs.declared.status.Status.TheVariants.{Done, Negative, Wrong, Fault, Memory}
 use Rattle.venue_commands.specs.Steps.{IsPrinted, AsksRoute}
@@ -22,32 +22,32 @@ use Rattle.venue_commands.proofs.VenueMaking.{printed_as}
 use Rattle.venue_commands.specs.Runs.{Run, Wrote, NoFault, IsUnread}
 use Rattle.venue_commands.specs.Ends.{folder_fault, Ends}
 
-pub price_told : (words : List (List ℕ)) (files : Option (List StoredFile)) (base : List ℕ) (r : Result Answer ReadFault) → IsBase base → words ≡ words_of (Price base)
+pub price_told : (words : List (List ℕ)) (files : Option (List StoredFile)) (base : List ℕ) (r : Result Printout ReadFault) → IsBase base → words ≡ words_of (Price base)
     → IfOk r (λ a. IfSome files (λ fs. PriceOutput fs base a.text a.status)) → IfOk r (λ a. IfSome files (λ fs. Output words fs a.text a.status))
 price_told words files base (Err e) is-base is told = tt
 price_told words None base (Ok a) is-base is told = tt
 price_told words (Some fs) base (Ok a) is-base is told = answers_price base is-base is told
 
-pub verify_told : (words : List (List ℕ)) (files : Option (List StoredFile)) (base : List ℕ) (r : Result Answer ReadFault) → IsBase base → words ≡ words_of (Verify base)
+pub verify_told : (words : List (List ℕ)) (files : Option (List StoredFile)) (base : List ℕ) (r : Result Printout ReadFault) → IsBase base → words ≡ words_of (Verify base)
     → IfOk r (λ a. IfSome files (λ fs. VerifyOutput fs base a.text a.status)) → IfOk r (λ a. IfSome files (λ fs. Output words fs a.text a.status))
 verify_told words files base (Err e) is-base is told = tt
 verify_told words None base (Ok a) is-base is told = tt
 verify_told words (Some fs) base (Ok a) is-base is told = answers_verify base is-base is told
 
-pub check_told : (words : List (List ℕ)) (files : Option (List StoredFile)) (base folder : List ℕ) (r : Result Answer ReadFault) → IsBase base → IsFolder folder → words ≡ words_of (Check base folder)
+pub check_told : (words : List (List ℕ)) (files : Option (List StoredFile)) (base folder : List ℕ) (r : Result Printout ReadFault) → IsBase base → IsFolder folder → words ≡ words_of (Check base folder)
     → IfOk r (λ a. IfSome files (λ fs. CheckOutput fs base folder a.text a.status)) → IfOk r (λ a. IfSome files (λ fs. Output words fs a.text a.status))
 check_told words files base folder (Err e) is-base is-folder is told = tt
 check_told words None base folder (Ok a) is-base is-folder is told = tt
 check_told words (Some fs) base folder (Ok a) is-base is-folder is told = answers_check base folder (is-base, is-folder) is told
 
-pub links_told : (words : List (List ℕ)) (files : Option (List StoredFile)) (base folder profile : List ℕ) (r : Result Answer ReadFault) → IsBase base → IsFolder folder
+pub links_told : (words : List (List ℕ)) (files : Option (List StoredFile)) (base folder profile : List ℕ) (r : Result Printout ReadFault) → IsBase base → IsFolder folder
     → words ≡ words_of (Links base folder profile)
     → IfOk r (λ a. IfSome files (λ fs. LinksOutput fs base folder profile a.text a.status)) → IfOk r (λ a. IfSome files (λ fs. Output words fs a.text a.status))
 links_told words files base folder profile (Err e) is-base is-folder is told = tt
 links_told words None base folder profile (Ok a) is-base is-folder is told = tt
 links_told words (Some fs) base folder profile (Ok a) is-base is-folder is told = answers_links base folder profile (is-base, is-folder) is told
 
-pub route_told : (words : List (List ℕ)) (files : Option (List StoredFile)) (base folder profile : List ℕ) (a b : FeatureId) (r : Result Answer ReadFault)
+pub route_told : (words : List (List ℕ)) (files : Option (List StoredFile)) (base folder profile : List ℕ) (a b : FeatureId) (r : Result Printout ReadFault)
     → AsksRoute words base folder profile a b → IfOk r (λ x. IfSome files (λ fs. RouteOutput fs base folder profile a b x.text x.status))
     → IfOk r (λ x. IfSome files (λ fs. Output words fs x.text x.status))
 route_told words files base folder profile a b (Err e) asks told = tt
@@ -60,7 +60,7 @@ pub route_asked : (words : List (List ℕ)) (base folder profile : List ℕ) (a 
 route_asked words base folder profile a b asks =
     record { asked = Route base folder profile asks.from asks.to; form = (asks.base_is, asks.folder_is, (a, asks.from_is), (b, asks.to_is)); spelled = asks.spelled }
 
-pub gen_told : (words : List (List ℕ)) (files : Option (List StoredFile)) (levels : ℕ) (r : Result Answer ReadFault) → 1 ≤ levels → levels ≤ 200 → words ≡ words_of (Gen levels)
+pub gen_told : (words : List (List ℕ)) (files : Option (List StoredFile)) (levels : ℕ) (r : Result Printout ReadFault) → 1 ≤ levels → levels ≤ 200 → words ≡ words_of (Gen levels)
     → IfOk r (λ a. GenOutput levels a.text a.status) → IfOk r (λ a. IfSome files (λ fs. Output words fs a.text a.status))
 gen_told words files levels (Err e) some few is told = tt
 gen_told words None levels (Ok a) some few is told = tt
@@ -81,7 +81,7 @@ asks_nothing words no_price no_verify no_check no_links no_route no_gen no_sessi
 asks_nothing words no_price no_verify no_check no_links no_route no_gen no_session no_service (Serve base folder address workers connections) is-asked is = no_service base folder address workers connections is-asked is
 asks_nothing words no_price no_verify no_check no_links no_route no_gen no_session no_service (Gen levels) is-asked is = no_gen levels is-asked.0 is-asked.1 is
 
-pub other_told : (words : List (List ℕ)) (files : Option (List StoredFile)) (answer : Answer) → ((asked : Asked) → IsAsked asked → words ≡ words_of asked → ⊥) → answer.text ≡ line (codes "words")
+pub other_told : (words : List (List ℕ)) (files : Option (List StoredFile)) (answer : Printout) → ((asked : Asked) → IsAsked asked → words ≡ words_of asked → ⊥) → answer.text ≡ line (codes "words")
     → answer.status ≡ Wrong → IfSome files (λ fs. Output words fs answer.text answer.status)
 other_told words None answer none is wrong = tt
 other_told words (Some fs) answer none is wrong = printed_as (Output words fs) (line (codes "words")) Wrong answer is wrong (other_words none)

@@ -3,13 +3,13 @@ use Rattle.std.proofs.Common.{◌≡◌, ◌⊎◌, ℕ, List, [], ◌∷◌, �
 use Rattle.std.specs.Prelude.{IfSome}
 use Rattle.std.specs.Io.KnownBytes.{Appends, Consumes}
 use Rattle.venue_ports.specs.Files.{StoredFile}
-use Rattle.version_board.specs.Facts.{Facts}
-use Rattle.version_board.specs.Making.{shelf_of}
-use Rattle.version_board.specs.OneThread.{opening_history}
+use Rattle.venue_session.specs.Facts.{Facts}
+use Rattle.building_report.specs.Making.{shelf_of}
+use Rattle.venue_session.specs.Openings.{opening_history}
 use Rattle.venue_session.specs.Ends.{Measured, Ended, refused_text, Run as Done_so_far}
 use Rattle.venue_session.specs.Sessions.{IsSession}
 use Rattle.venue_session.specs.declared.ends.End.{End}
-use Rattle.session_headline.specs.Headline.{Headline, IsWhole}
+use Rattle.venue_session.specs.Headline.{Headline, IsWhole}
 use Rattle.venue_commands.specs.declared.status.Status.{Status}
 use Rattle.venue_commands.specs.declared.status.Status.TheVariants.{Done, Negative, Wrong, Fault, Memory}
 use Rattle.venue_commands.specs.Checked.{NoVenue, HasVenue}

@@ -15,10 +15,10 @@ use Rattle.venue_settings.specs.declared.fault.SettingsFault.TheVariants as faul
 use Rattle.venue_settings.specs.Faults.{first_fault}
 use Rattle.venue_settings.specs.Settings.{IsDocument, HasExtras, HasSettings, IsSettingsOf, no_document, faulty, sound, no_memory}
 use Rattle.venue_ports.specs.Files.{StoredFile, file_at}
-use Rattle.imdf_schema.specs.Files.{all_files}
+use Rattle.venue_types.specs.FolderFiles.{all_files}
 use Rattle.venue_folder.specs.Shelves.{slot_at, folder_path, folder_files}
-use Rattle.venue_build.specs.Venues.{SeenVenue as Venue}
-use Rattle.venue_build.specs.Built.{IsRejected, IsVenueOf}
+use Rattle.venue_session.specs.Venues.{SeenVenue as Venue}
+use Rattle.venue_session.specs.Built.{IsRejected, IsVenueOf}
 use Rattle.venue_commands.specs.declared.status.Status.{Status}
 use Rattle.venue_commands.specs.Files.{Reads}
 use Rattle.venue_commands.specs.Checked.{IsFaultText, SettingsForm, settings_limit, settings_name, NoSettings, missing, large, unfit, NoVenue, no_settings, rejected, HasVenue}

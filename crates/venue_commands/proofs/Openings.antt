@@ -2,15 +2,15 @@
 use Rattle.std.proofs.Common.{◌≡◌, ℕ, List, Option, Some, None, Result, Ok, Err, sym, subst}
 use Rattle.std.specs.Prelude.{IfOk, IfSome}
 use Rattle.std.specs.Arc.{arc_value}
-use Rattle.venue_build.specs.Venues.{SeenVenue as Venue}
+use Rattle.venue_session.specs.Venues.{SeenVenue as Venue}
 use Rattle.venue_ports.specs.Files.{StoredFile}
 use Rattle.venue_ports.specs.declared.folders.ReadFault.{ReadFault}
-use Rattle.venue_commands.specs.declared.answer.Answer.{Answer}
-use Rattle.venue_commands.specs.declared.making.Made.{Made}
-use Rattle.venue_commands.specs.declared.making.Made.TheVariants as made
-use Rattle.venue_commands.specs.declared.opening.Opening.{Opening}
-use Rattle.venue_commands.specs.declared.reaching.Reached.{Reached}
-use Rattle.venue_commands.specs.declared.reaching.Reached.TheVariants as reached
+use Rattle.venue_commands.specs.declared.printout.Printout.{Printout}
+use Rattle.venue_commands.specs.declared.base_venue.Made.{Made}
+use Rattle.venue_commands.specs.declared.base_venue.Made.TheVariants as made
+use Rattle.venue_commands.specs.declared.start.Start.{Start}
+use Rattle.venue_commands.specs.declared.reached.Reached.{Reached}
+use Rattle.venue_commands.specs.declared.reached.Reached.TheVariants as reached
 use Rattle.venue_commands.specs.Checked.{HasVenue}
 use Rattle.venue_commands.specs.Commands.{Session, IsBase, IsFolder, words_of}
 use Rattle.venue_commands.specs.Openings.{IsFolderReached, IsReached}
@@ -18,7 +18,7 @@ use Rattle.venue_commands.specs.Output.{stops_session}
 use Rattle.venue_commands.specs.Steps.{IsMade}
 
 -- there is no venue, and this is printed
-pub session_stopped : (files : Option (List StoredFile)) (base folder : List ℕ) (m : Made) (answer : Answer) → IfSome files (λ fs. IsMade fs base folder m) → m ≡ made.Stopped answer
+pub session_stopped : (files : Option (List StoredFile)) (base folder : List ℕ) (m : Made) (answer : Printout) → IfSome files (λ fs. IsMade fs base folder m) → m ≡ made.Stopped answer
     → IsFolderReached files base folder (reached.Printed answer)
 session_stopped None base folder m answer told is = tt
 session_stopped (Some fs) base folder m answer told is = subst (IsMade fs base folder) is told
@@ -31,7 +31,7 @@ venue_made (Some fs) base folder m venue opened told is same =
     subst (HasVenue fs base folder) (sym same) has
 
 -- there is this venue, and a hall is opened with it
-pub session_opened : (files : Option (List StoredFile)) (base folder : List ℕ) (m : Made) (venue : Venue) (opening : Opening) → IfSome files (λ fs. IsMade fs base folder m) → m ≡ made.Venue venue
+pub session_opened : (files : Option (List StoredFile)) (base folder : List ℕ) (m : Made) (venue : Venue) (opening : Start) → IfSome files (λ fs. IsMade fs base folder m) → m ≡ made.Venue venue
     → opening.base ≡ base → arc_value opening.venue ≡ venue → IsFolderReached files base folder (reached.Opened opening)
 session_opened files base folder m venue opening told is based same =
     record { base_is = based; made = venue_made files base folder m venue (arc_value opening.venue) told is same }

@@ -6,7 +6,7 @@ use Rattle.std.specs.Prelude.{◌≤◌, ◌<◌}
 use Rattle.venue_types.specs.declared.feature_id.FeatureId.{FeatureId}
 use Rattle.venue_types.specs.declared.link.Node.{Node}
 use Rattle.venue_types.specs.declared.settings.Profile.{Profile}
-use Rattle.venue_nodes.specs.Nodes.{nodes}
+use Rattle.route_answers.specs.Nodes.{nodes}
 use Rattle.venue_ports.specs.Files.{StoredFile, file_at}
 use Rattle.line_forms.specs.Lines.{line}
 use Rattle.route_certificate.specs.declared.table.Table.{Table}
@@ -19,9 +19,9 @@ use Rattle.route_certificate.specs.declared.answer.Verdict.TheVariants.{Proved}
 use Rattle.route_certificate.specs.Forms.{IsTable, FitsTable, table_text}
 use Rattle.route_certificate.specs.Answers.{IsAnswerText, FitsAnswer, answer_text}
 use Rattle.route_certificate.specs.Verdicts.{IsProvedClaim, IsProved, IsClaimJudged, IsJudged, IsTrueAnswer}
-use Rattle.link_tables.specs.Tables.{table_of}
+use Rattle.route_answers.specs.Tables.{table_of}
 use Rattle.route_answers.specs.RouteAnswers.{IsRouteAnswer}
-use Rattle.venue_build.specs.Venues.{SeenVenue as Venue}
+use Rattle.venue_session.specs.Venues.{SeenVenue as Venue}
 use Rattle.venue_commands.specs.declared.load.Cause.{Cause}
 use Rattle.venue_commands.specs.declared.load.Cause.TheVariants.{Missing, Large, Malformed}
 use Rattle.venue_commands.specs.declared.status.Status.{Status}

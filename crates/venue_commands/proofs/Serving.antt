@@ -3,13 +3,14 @@ use Rattle.std.proofs.Common.{◌≡◌, ◌≤◌, ℕ, List, Option, Some, Non
 use Rattle.std.specs.Arc.{arc_value}
 use Rattle.venue_folder.specs.Shelves.{Shelf}
 use Rattle.venue_ports.specs.Files.{StoredFile}
-use Rattle.version_board.specs.Facts.{Facts}
-use Rattle.version_board.specs.Making.{shelf_of}
-use Rattle.version_board.specs.OneThread.{one_thread, opening_history}
-use Rattle.venue_build.specs.Venues.{SeenVenue as Venue}
+use Rattle.venue_session.specs.Facts.{Facts}
+use Rattle.building_report.specs.Making.{shelf_of}
+use Rattle.building_report.specs.OneThread.{one_thread}
+use Rattle.venue_session.specs.Openings.{opening_history}
+use Rattle.venue_session.specs.Venues.{SeenVenue as Venue}
 use Rattle.venue_session.specs.Sessions.{IsSession, HasServed}
 use Rattle.venue_session.specs.declared.ends.End.{End}
-use Rattle.venue_commands.specs.declared.opening.Opening.{Opening}
+use Rattle.venue_commands.specs.declared.start.Start.{Start}
 use Rattle.venue_commands.specs.declared.status.Status.{Status}
 use Rattle.venue_commands.specs.declared.status.Status.TheVariants.{Done, Negative, Wrong, Fault, Memory}
 use Rattle.venue_commands.specs.Ends.{Ends}
@@ -47,7 +48,7 @@ ends_as words files run Wrong served = absurd (never_wrong served.end served.end
 ends_as words files run Fault served = inr (inr served)
 ends_as words files run Memory served = inr served
 
-pub ends_served : (words : List (List ℕ)) (files : Option (List StoredFile)) (run : Run) (status : Status) (opening : Opening) (front : List (List ℕ)) (old new : Facts) (end : End)
+pub ends_served : (words : List (List ℕ)) (files : Option (List StoredFile)) (run : Run) (status : Status) (opening : Start) (front : List (List ℕ)) (old new : Facts) (end : End)
     → IsOpening words files opening → front ≡ (arc_value opening.venue).settings.staff_keys → old ≡ one_thread files opening.base (opening_history opening.venue) run.folders 0
     → IsSession front old new (console_of run) end → HasServed old new → run.folders_now ≡ new.faults → status ≡ end_status end → Ends words files run status
 ends_served words files run status opening front old new end opens keys facts session hall folders ended =
@@ -75,7 +76,7 @@ ends_served words files run status opening front old new end opens keys facts se
     })
 
 -- the same, where what is told of the folders is told otherwise
-pub serves : (words : List (List ℕ)) (files held : Option (List StoredFile)) (run : Run) (failed : ℕ) (status : Status) (opening : Opening) (front : List (List ℕ)) (old new : Facts) (end : End)
+pub serves : (words : List (List ℕ)) (files held : Option (List StoredFile)) (run : Run) (failed : ℕ) (status : Status) (opening : Start) (front : List (List ℕ)) (old new : Facts) (end : End)
     → IsOpening words files opening → held ≡ files → failed ≡ run.folders → front ≡ (arc_value opening.venue).settings.staff_keys
     → old ≡ one_thread held opening.base (opening_history opening.venue) failed 0
     → IsSession front old new (console_of run) end → HasServed old new → run.folders_now ≡ new.faults → status ≡ end_status end → Ends words files run status
@@ -90,7 +91,7 @@ pub ends_nothing : (words : List (List ℕ)) (files : Option (List StoredFile)) 
 ends_nothing words files run written faultless unread = inl (record { written = written; faultless = faultless; unread = unread })
 
 -- words that open a hall ask for a session
-pub opens_session : (words : List (List ℕ)) (files : Option (List StoredFile)) (opening : Opening) → IsOpening words files opening → IsNoSession words → ⊥
+pub opens_session : (words : List (List ℕ)) (files : Option (List StoredFile)) (opening : Start) → IsOpening words files opening → IsNoSession words → ⊥
 opens_session words files opening opens none = none opens.base opens.folder opens.form opens.spelled
 
 -- what was no more is no more where both are told otherwise

@@ -4,15 +4,15 @@ use Rattle.std.specs.Prelude.{◌≤◌, IfOk, IfErr, IfSome, String, string_byt
 use Rattle.std.specs.declared.alloc.Global.{Global}
 use Rattle.venue_types.specs.declared.files.Files.{Files}
 use Rattle.venue_types.specs.declared.settings.Settings.{Settings}
-use Rattle.venue_build.specs.Built.{IsVenueOf}
+use Rattle.venue_session.specs.Built.{IsVenueOf}
 use Rattle.check_text.specs.Text.{rejected_text}
 use Rattle.venue_ports.specs.Files.{StoredFile, file_at, HasReadCause}
 use Rattle.venue_ports.specs.declared.folders.ReadFault.{ReadFault}
 use Rattle.venue_ports.specs.declared.folders.ReadFault.TheVariants.{OutOfMemory}
 use Rattle.venue_folder.specs.Shelves.{folder_path, folder_files}
-use Rattle.venue_commands.specs.declared.answer.Answer.{Answer}
-use Rattle.venue_commands.specs.declared.making.Made.{Made}
-use Rattle.venue_commands.specs.declared.making.Made.TheVariants as made
+use Rattle.venue_commands.specs.declared.printout.Printout.{Printout}
+use Rattle.venue_commands.specs.declared.base_venue.Made.{Made}
+use Rattle.venue_commands.specs.declared.base_venue.Made.TheVariants as made
 use Rattle.venue_commands.specs.declared.status.Status.{Status}
 use Rattle.venue_commands.specs.declared.status.Status.TheVariants.{Negative, Wrong}
 use Rattle.venue_commands.specs.Files.{Reads}
@@ -21,11 +21,11 @@ use Rattle.venue_commands.specs.Checked.{SettingsForm, settings_limit, settings_
 use Rattle.venue_commands.proofs.VerifyJudging.{told_before}
 
 -- an answer is what is said of its text and status
-pub printed_as : (P : List ℕ → Status → Type 0) (text : List ℕ) (status : Status) (answer : Answer) → answer.text ≡ text → answer.status ≡ status → P text status
+pub printed_as : (P : List ℕ → Status → Type 0) (text : List ℕ) (status : Status) (answer : Printout) → answer.text ≡ text → answer.status ≡ status → P text status
     → P answer.text answer.status
 printed_as P text status answer same ends p = subst (P answer.text) (sym ends) (subst (λ (t : List ℕ). P t status) (sym same) p)
 
-pub stops_at_settings : (files : Option (List StoredFile)) (base folder : List ℕ) (settled : Result Settings (String Global)) (text : String Global) (answer : Answer)
+pub stops_at_settings : (files : Option (List StoredFile)) (base folder : List ℕ) (settled : Result Settings (String Global)) (text : String Global) (answer : Printout)
     → IfSome files (λ fs. IsSettled (file_at fs base settings_name) settled) → settled ≡ Err text → answer.text ≡ string_bytes text → answer.status ≡ Wrong
     → IfSome files (λ fs. IsMade fs base folder (made.Stopped answer))
 stops_at_settings None base folder settled text answer told is printed wrong = tt

@@ -8,8 +8,8 @@ use Rattle.venue_settings.specs.declared.fault.SettingsFault.{SettingsFault}
 use Rattle.venue_settings.specs.declared.fault.SettingsFault.TheVariants as fault
 use Rattle.venue_settings.specs.Settings.{IsSettingsOf}
 use Rattle.feature_rows.specs.Rows.{feature_count}
-use Rattle.venue_build.specs.Venues.{SeenVenue as Venue}
-use Rattle.venue_build.specs.Built.{IsRejected, IsVenueOf}
+use Rattle.venue_session.specs.Venues.{SeenVenue as Venue}
+use Rattle.venue_session.specs.Built.{IsRejected, IsVenueOf}
 use Rattle.venue_folder.specs.Shelves.{folder_path, folder_files}
 use Rattle.check_text.specs.Text.{rejected_text, accepted_text}
 use Rattle.venue_commands.specs.declared.status.Status.{Status}

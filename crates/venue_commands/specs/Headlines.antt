@@ -4,10 +4,10 @@ use Rattle.std.specs.Arc.{arc_value}
 use Rattle.std.specs.declared.alloc.Global.{Global}
 use Rattle.std.specs.declared.sync.Arc.{Arc}
 use Rattle.venue_ports.specs.Files.{StoredFile}
-use Rattle.venue_build.specs.Venues.{SeenVenue as Venue}
-use Rattle.version_board.specs.Making.{shelf_of}
-use Rattle.version_board.specs.OneThread.{opening_history}
-use Rattle.session_headline.specs.Headline.{Headline}
+use Rattle.venue_session.specs.Venues.{SeenVenue as Venue}
+use Rattle.building_report.specs.Making.{shelf_of}
+use Rattle.venue_session.specs.Openings.{opening_history}
+use Rattle.venue_session.specs.Headline.{Headline}
 use Rattle.venue_commands.specs.declared.status.Status.{Status}
 use Rattle.venue_commands.specs.declared.status.Status.TheVariants.{Done, Negative}
 use Rattle.venue_commands.specs.Checked.{NoVenue, HasVenue}

@@ -7,8 +7,8 @@ use Rattle.venue_types.specs.declared.settings.Settings.{Settings}
 use Rattle.venue_ports.specs.Files.{StoredFile}
 use Rattle.line_forms.specs.Lines.{line}
 use Rattle.route_certificate.specs.Forms.{table_text, FitsTable}
-use Rattle.venue_build.specs.Venues.{SeenVenue as Venue}
-use Rattle.link_tables.specs.Tables.{table_of}
+use Rattle.venue_session.specs.Venues.{SeenVenue as Venue}
+use Rattle.route_answers.specs.Tables.{table_of}
 use Rattle.venue_commands.specs.declared.status.Status.{Status}
 use Rattle.venue_commands.specs.declared.status.Status.TheVariants.{Done, Wrong}
 use Rattle.venue_commands.specs.Checked.{NoVenue, HasVenue}

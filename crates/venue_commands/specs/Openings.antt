@@ -2,16 +2,16 @@
 use Rattle.std.specs.Prelude.{◌≡◌, ℕ, List, Option, IfSome}
 use Rattle.std.specs.Arc.{arc_value}
 use Rattle.venue_ports.specs.Files.{StoredFile}
-use Rattle.venue_commands.specs.declared.opening.Opening.{Opening}
-use Rattle.venue_commands.specs.declared.reaching.Reached.{Reached}
-use Rattle.venue_commands.specs.declared.reaching.Reached.TheVariants as reached
+use Rattle.venue_commands.specs.declared.start.Start.{Start}
+use Rattle.venue_commands.specs.declared.reached.Reached.{Reached}
+use Rattle.venue_commands.specs.declared.reached.Reached.TheVariants as reached
 use Rattle.venue_commands.specs.Checked.{NoVenue, HasVenue}
 use Rattle.venue_commands.specs.Commands.{Session, IsAsked, words_of}
 use Rattle.venue_commands.specs.Output.{Output}
 use Rattle.venue_commands.specs.Steps.{IsPrinted}
 
 -- the hall is opened with the venue that the base has in the folder
-pub record IsOpeningOf (files : Option (List StoredFile)) (base folder : List ℕ) (opening : Opening) : Type 0 where
+pub record IsOpeningOf (files : Option (List StoredFile)) (base folder : List ℕ) (opening : Start) : Type 0 where
   pub base_is : opening.base ≡ base
   pub made : IfSome files (λ fs. HasVenue fs base folder (arc_value opening.venue))
 
@@ -21,7 +21,7 @@ IsFolderReached files base folder (reached.Printed answer) = IfSome files (λ fs
 IsFolderReached files base folder (reached.Opened opening) = IsOpeningOf files base folder opening
 
 -- the words ask for a session of a folder, whose venue the hall is opened with
-pub record IsOpening (words : List (List ℕ)) (files : Option (List StoredFile)) (opening : Opening) : Type 0 where
+pub record IsOpening (words : List (List ℕ)) (files : Option (List StoredFile)) (opening : Start) : Type 0 where
   pub base : List ℕ
   pub folder : List ℕ
   pub form : IsAsked (Session base folder)

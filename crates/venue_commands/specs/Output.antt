@@ -1,4 +1,4 @@
--- What the program prints, and the status with which it ends, over the files that are told.
+-- What the program prints, and the status with which it ends, over the files that the folders report.
 use Rattle.std.specs.Prelude.{◌≡◌, ℕ, List, ◌++◌, Some, codes}
 use Rattle.std.specs.Fmt.{decimal}
 use Rattle.venue_types.specs.declared.feature_id.FeatureId.{FeatureId}

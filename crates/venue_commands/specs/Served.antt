@@ -4,9 +4,10 @@ use Rattle.std.specs.Arc.{arc_value}
 use Rattle.std.specs.declared.alloc.Global.{Global}
 use Rattle.std.specs.declared.sync.Arc.{Arc}
 use Rattle.venue_ports.specs.Files.{StoredFile}
-use Rattle.venue_build.specs.Venues.{SeenVenue as Venue}
-use Rattle.version_board.specs.Facts.{Facts}
-use Rattle.version_board.specs.OneThread.{one_thread, opening_history}
+use Rattle.venue_session.specs.Venues.{SeenVenue as Venue}
+use Rattle.venue_session.specs.Facts.{Facts}
+use Rattle.building_report.specs.OneThread.{one_thread}
+use Rattle.venue_session.specs.Openings.{opening_history}
 use Rattle.venue_session.specs.Ends.{Measured}
 use Rattle.venue_session.specs.Sessions.{IsSession, HasServed}
 use Rattle.venue_session.specs.declared.ends.End.{End}

@@ -9,20 +9,20 @@ use Rattle.venue_types.specs.declared.settings.Profile.{Profile}
 use Rattle.venue_types.specs.declared.settings.Settings.{Settings}
 use Rattle.venue_ports.specs.Files.{StoredFile}
 use Rattle.line_forms.specs.Lines.{line}
-use Rattle.venue_nodes.specs.Nodes.{place_of}
+use Rattle.route_answers.specs.Nodes.{place_of}
 use Rattle.route_certificate.specs.declared.answer.AnswerIn.{AnswerIn}
 use Rattle.route_certificate.specs.Answers.{answer_text}
 use Rattle.route_certificate.specs.Forms.{table_text, FitsTable}
-use Rattle.link_tables.specs.Tables.{table_of}
+use Rattle.route_answers.specs.Tables.{table_of}
 use Rattle.route_answers.specs.RouteAnswers.{IsRouteAnswer}
-use Rattle.venue_build.specs.Venues.{SeenVenue as Venue}
-use Rattle.venue_build.specs.Built.{IsRejected, IsVenueOf}
+use Rattle.venue_session.specs.Venues.{SeenVenue as Venue}
+use Rattle.venue_session.specs.Built.{IsRejected, IsVenueOf}
 use Rattle.check_text.specs.Text.{rejected_text}
 use Rattle.venue_commands.specs.declared.load.Loaded.{Loaded}
 use Rattle.venue_commands.specs.declared.load.Loaded.TheVariants as loaded
-use Rattle.venue_commands.specs.declared.answer.Answer.{Answer}
-use Rattle.venue_commands.specs.declared.making.Made.{Made}
-use Rattle.venue_commands.specs.declared.making.Made.TheVariants as made
+use Rattle.venue_commands.specs.declared.printout.Printout.{Printout}
+use Rattle.venue_commands.specs.declared.base_venue.Made.{Made}
+use Rattle.venue_commands.specs.declared.base_venue.Made.TheVariants as made
 use Rattle.venue_commands.specs.declared.status.Status.{Status}
 use Rattle.venue_commands.specs.declared.status.Status.TheVariants.{Done, Negative, Wrong, Fault, Memory}
 use Rattle.venue_commands.specs.declared.load.Cause.{Cause}
@@ -83,13 +83,13 @@ IsMadeOf files settings (made.Stopped answer) = (report : Report) × IsRejected 
 IsMadeOf files settings (made.Venue venue) = IsVenueOf files settings venue
 
 -- what is printed of a venue where this profile has the name, or none: the table of the links that it may use, or that there is none
-abbrev pub IsLinkedFor : Venue → Answer → Option Profile → Type 0
+abbrev pub IsLinkedFor : Venue → Printout → Option Profile → Type 0
 IsLinkedFor venue answer None = (answer.text ≡ line (codes "profile")) × (answer.status ≡ Wrong)
 IsLinkedFor venue answer (Some profile) =
     (answer.text ≡ table_text (table_of venue.features venue.settings profile)) × (answer.status ≡ Done) × FitsTable (table_of venue.features venue.settings profile)
 
 -- what is printed of a venue for the name of a profile
-abbrev pub IsLinked : Venue → List ℕ → Answer → Type 0
+abbrev pub IsLinked : Venue → List ℕ → Printout → Type 0
 IsLinked venue name answer = IsLinkedFor venue answer (profile_named venue.settings name)
 
 -- the words ask for a way between these two
@@ -108,27 +108,27 @@ pub record AsksService (words : List (List ℕ)) (base folder address : List ℕ
   pub spelled : words ≡ words_of (Serve base folder address workers connections)
 
 -- what is printed of a venue for somebody with the profile between two nodes: the text of a right answer
-pub record IsAnswered (venue : Venue) (profile : Profile) (a b : ℕ) (printed : Answer) : Type 0 where
+pub record IsAnswered (venue : Venue) (profile : Profile) (a b : ℕ) (printed : Printout) : Type 0 where
   pub answer : AnswerIn
   pub right : IsRouteAnswer venue.features venue.settings profile a b answer
   pub text : printed.text ≡ answer_text answer
   pub status : printed.status ≡ claim_status answer.claim
 
 -- what is printed where the end is at this node, or nowhere
-abbrev pub IsRoutedTo : Venue → Profile → ℕ → Answer → Option ℕ → Type 0
+abbrev pub IsRoutedTo : Venue → Profile → ℕ → Printout → Option ℕ → Type 0
 IsRoutedTo venue profile a printed None = (printed.text ≡ line (codes "place to")) × (printed.status ≡ Wrong)
 IsRoutedTo venue profile a printed (Some b) = IsAnswered venue profile a b printed
 
 -- what is printed where the start is at this node, or nowhere
-abbrev pub IsRoutedFrom : Venue → Profile → FeatureId → Answer → Option ℕ → Type 0
+abbrev pub IsRoutedFrom : Venue → Profile → FeatureId → Printout → Option ℕ → Type 0
 IsRoutedFrom venue profile to printed None = (printed.text ≡ line (codes "place from")) × (printed.status ≡ Wrong)
 IsRoutedFrom venue profile to printed (Some a) = IsRoutedTo venue profile a printed (place_of venue.features to)
 
 -- what is printed where this profile has the name, or none
-abbrev pub IsRoutedFor : Venue → FeatureId → FeatureId → Answer → Option Profile → Type 0
+abbrev pub IsRoutedFor : Venue → FeatureId → FeatureId → Printout → Option Profile → Type 0
 IsRoutedFor venue from to printed None = (printed.text ≡ line (codes "profile")) × (printed.status ≡ Wrong)
 IsRoutedFor venue from to printed (Some profile) = IsRoutedFrom venue profile to printed (place_of venue.features from)
 
 -- what is printed of a venue for the name of a profile and two places
-abbrev pub IsRouted : Venue → List ℕ → FeatureId → FeatureId → Answer → Type 0
+abbrev pub IsRouted : Venue → List ℕ → FeatureId → FeatureId → Printout → Type 0
 IsRouted venue name from to printed = IsRoutedFor venue from to printed (profile_named venue.settings name)

@@ -1,7 +1,7 @@
 //! What follows of every run that asks for a session.
 
 ghost use Rattle.std.specs.Prelude.{◌≡◌, ℕ, List, Option, Some};
-ghost use Rattle.venue_build.specs.Venues.{SeenVenue};
+ghost use Rattle.venue_session.specs.Venues.{SeenVenue};
 ghost use Rattle.venue_ports.specs.Causes.{Rose};
 ghost use Rattle.venue_ports.specs.Files.{StoredFile};
 ghost use Rattle.venue_commands.specs.declared.status.Status.{Status};
@@ -12,8 +12,7 @@ ghost use Rattle.venue_commands.specs.Ends.{Ends};
 ghost use Rattle.venue_commands.specs.Headlines.{SaysHeadline};
 ghost use Rattle.venue_commands.specs.Runs.{Run};
 
-use session_headline::headline_law;
-use venue_build::one_outcome;
+use venue_session::{headline_law, one_outcome};
 
 /// However a run ends, the headline holds of it.
 pub fn run_headline_law()

@@ -1,32 +1,32 @@
 //! What the words of a command line ask for, answered over folders and a console: all commands but the service at doors.
 #![tactic(auto)]
 
-mod answer;
 mod base;
-mod building;
-mod checking;
+mod base_venue;
+mod check_command;
+mod commands;
+mod console_text;
+mod gen_command;
 mod laws;
-mod linking;
+mod links_command;
 mod load;
-mod making;
-mod opening;
-mod printing;
-mod reaching;
+mod printout;
+mod reached;
+mod route_command;
 mod route_law;
-mod routing;
-mod running;
 mod serving_console;
 mod settings;
+mod start;
 mod status;
-mod verifying;
+mod verify_command;
 mod words;
 
-pub use answer::Answer;
+pub use commands::{print, print_fault, run_alone};
+pub use console_text::write_all;
 pub use laws::{run_complete_law, run_headline_law};
-pub use opening::Opening;
-pub use printing::write_all;
-pub use reaching::{Reached, reach_folder};
+pub use printout::Printout;
+pub use reached::{Reached, reach_folder};
 pub use route_law::route_is_proved;
-pub use running::{print, print_fault, run_alone};
+pub use start::Start;
 pub use status::Status;
 pub use words::service_of;

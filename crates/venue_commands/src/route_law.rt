@@ -10,7 +10,7 @@ ghost use Rattle.venue_commands.specs.Kept.{AreKept, HaveAnswered, IsProvedBy};
 ghost use Rattle.venue_commands.specs.Verified.{VerifyOutput};
 
 use route_certificate::{answer_law, table_law, verdict_law};
-use venue_build::one_outcome;
+use venue_session::one_outcome;
 
 /// What `route` prints over a folder is proved by the table that `links` prints for the same words, and true of it; and where
 /// both texts are kept as the files of a base, whichever, `verify` prints `proved`.

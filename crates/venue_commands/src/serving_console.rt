@@ -7,16 +7,16 @@ ghost use Rattle.venue_commands.specs.Openings.{IsOpening};
 ghost use Rattle.venue_commands.specs.Runs.{run_between};
 ghost use Rattle.venue_commands.specs.Served.{end_status};
 
-use crate::opening::Opening;
+use crate::start::Start;
 use crate::status::Status;
+use building_report::{Alone, Unopened};
 use std::alloc::Global;
 use venue_ports::{Folders, Stream};
 use venue_session::{End, serve_session};
-use version_board::{Alone, Unopened};
 
 /// How a session ended, and the folders.
 #[derive(Drop)]
-pub(crate) struct Closed<F> {
+pub(crate) struct SessionEnd<F> {
     pub status: Status,
     pub folders: F,
 }
@@ -38,10 +38,10 @@ fn status_of(end: End) -> Status
 /// Opens a hall over the folders, and serves the console.
 pub(crate) fn serve_console<F: Folders, C: Stream>(
     alloc: Global,
-    opening: Opening,
+    opening: Start,
     folders: F,
     console: &mut C,
-) -> Closed<F>
+) -> SessionEnd<F>
     ensures ends { (words : List (List ℕ)) (files : Option (List StoredFile)) (faults : ℕ) → IsOpening words files opening
         → F.files folders ≡ files → F.faults folders ≡ faults
         → Ends words files (run_between C.Stream console.old console.new faults (F.faults result.folders)) result.status }
@@ -49,7 +49,7 @@ pub(crate) fn serve_console<F: Folders, C: Stream>(
     ensures folders_later { F.faults folders ≤ F.faults result.folders }
     ensures console_later { C.faults console.old ≤ C.faults console.new }
 {
-    let Opening {
+    let Start {
         base,
         venue,
         settings,
@@ -58,12 +58,12 @@ pub(crate) fn serve_console<F: Folders, C: Stream>(
     match Alone::begin(alloc, settings, venue, folders, base) {
         Ok(mut hall) => {
             let end = serve_session(alloc, &mut hall, &front, console);
-            Closed {
+            SessionEnd {
                 status: status_of(end),
                 folders: hall.finish(),
             }
         }
-        Err(Unopened { folders }) => Closed {
+        Err(Unopened { folders }) => SessionEnd {
             status: Status::Memory,
             folders,
         },

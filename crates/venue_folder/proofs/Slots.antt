@@ -9,8 +9,8 @@ use Rattle.venue_types.specs.declared.files.Slot.{Slot}
 use Rattle.venue_types.specs.declared.files.Slot.TheVariants as slot
 use Rattle.venue_types.specs.declared.files.Files.{Files}
 use Rattle.venue_ports.specs.Files.{StoredFile, file_at, ReadsFile}
-use Rattle.imdf_schema.specs.declared.files.File.{File}
-use Rattle.imdf_schema.specs.Files.{file_name, all_files}
+use Rattle.venue_types.specs.declared.folder_file.File.{File}
+use Rattle.venue_types.specs.FolderFiles.{file_name, all_files}
 use Rattle.venue_folder.specs.Shelves.{file_limit, slot_of, slot_at, folder_files}
 
 absent_slot : (found : Option (List ℕ)) → ◌≡◌ {A = Option (List ℕ)} None (option_map (take 33554433) found) → slot.Absent ≡ slot_of found

@@ -4,8 +4,8 @@ use Rattle.venue_types.specs.declared.files.Files.{Files}
 use Rattle.venue_types.specs.declared.files.Slot.{Slot}
 use Rattle.venue_types.specs.declared.files.Slot.TheVariants as slot
 use Rattle.venue_ports.specs.Files.{StoredFile, file_at}
-use Rattle.imdf_schema.specs.declared.files.File.{File}
-use Rattle.imdf_schema.specs.Files.{file_name, all_files}
+use Rattle.venue_types.specs.declared.folder_file.File.{File}
+use Rattle.venue_types.specs.FolderFiles.{file_name, all_files}
 
 -- how many bytes a folder's file has at most
 abbrev pub file_limit : ℕ

@@ -1,8 +1,6 @@
 //! The folders that are served: the seventeen files of each, by the folder's name below a base.
 #![tactic(auto)]
 
-mod reading;
-#[cfg(test)]
-mod tests;
+mod folder_files;
 
-pub use reading::files_of;
+pub use folder_files::files_of;

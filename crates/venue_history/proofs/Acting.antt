@@ -5,8 +5,8 @@ use Rattle.std.specs.List.{filter, Contains}
 use Rattle.std.proofs.lemmas.List.Elements.{filter_passes, All-contains, All-filter, All-contains_itself}
 use Rattle.venue_types.specs.declared.feature_id.FeatureId.{FeatureId}
 use Rattle.venue_types.specs.declared.features.Features.{Features}
-use Rattle.venue_nodes.specs.Identity.{is_same}
-use Rattle.venue_nodes.specs.Nodes.{closables}
+use Rattle.venue_build.specs.Identity.{is_same}
+use Rattle.venue_build.specs.Nodes.{closables}
 use Rattle.venue_history.specs.declared.entry.Entry.{Entry}
 use Rattle.venue_history.specs.declared.entry.Act.TheVariants.{Closed}
 use Rattle.venue_history.specs.Closed.{Version, is_one_of, is_closed}

@@ -11,7 +11,7 @@ use Rattle.venue_types.specs.declared.query.Change.TheVariants as change
 use Rattle.venue_types.specs.declared.reply.Reply.{Reply}
 use Rattle.venue_types.specs.declared.reply.Reply.TheVariants as reply
 use Rattle.venue_types.specs.declared.settings.Settings.{Settings}
-use Rattle.venue_nodes.specs.Nodes.{closables}
+use Rattle.venue_build.specs.Nodes.{closables}
 use Rattle.venue_build.specs.Venues.{SeenVenue as Venue}
 use Rattle.venue_build.specs.Built.{IsRejected, IsVenueOf}
 use Rattle.venue_folder.specs.Shelves.{Shelf}

@@ -5,7 +5,7 @@ use Rattle.std.specs.List.{filter, Contains}
 use Rattle.std.proofs.lemmas.List.Elements.{filter_passes, All-cons, All-weaker, All-contains, Contains-append_left, Contains-append_right}
 use Rattle.std.proofs.lemmas.List.Folds.{Any-from_list_any, list_any-from_Any}
 use Rattle.venue_types.specs.declared.feature_id.FeatureId.{FeatureId}
-use Rattle.venue_nodes.specs.Identity.{is_same}
+use Rattle.venue_build.specs.Identity.{is_same}
 use Rattle.venue_history.specs.Closed.{is_one_of}
 
 -- equal by the test is equal

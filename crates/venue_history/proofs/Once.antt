@@ -4,10 +4,10 @@ use Rattle.std.specs.Prelude.{AllPairs, slice_get, slice_index_or}
 use Rattle.std.proofs.lemmas.Option.{slice_get-get_or}
 use Rattle.venue_types.specs.declared.feature_id.FeatureId.{FeatureId}
 use Rattle.venue_types.specs.declared.features.Features.{Features}
-use Rattle.imdf_schema.specs.declared.files.File.{File}
-use Rattle.imdf_schema.specs.declared.files.File.TheVariants as file
-use Rattle.feature_rows.specs.Rows.{ids_of, IsFeature, HaveOwnIds}
-use Rattle.venue_nodes.specs.Nodes.{closables}
+use Rattle.venue_types.specs.declared.folder_file.File.{File}
+use Rattle.venue_types.specs.declared.folder_file.File.TheVariants as file
+use Rattle.venue_build.specs.Rows.{ids_of, IsFeature, HaveOwnIds}
+use Rattle.venue_build.specs.Nodes.{closables}
 
 -- how many closable features stand before those of a file
 before : Features → File → ℕ

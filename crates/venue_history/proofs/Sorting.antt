@@ -11,7 +11,7 @@ use Rattle.venue_types.specs.declared.reply.Reply.TheVariants as reply
 use Rattle.venue_types.specs.declared.reply.Which.TheVariants as which
 use Rattle.venue_types.specs.declared.settings.Profile.{Profile}
 use Rattle.walk_laws.specs.Walks.{HasNoWalk, IsLeast}
-use Rattle.link_graph.specs.Views.{link_view}
+use Rattle.venue_build.specs.Views.{link_view}
 use Rattle.venue_history.specs.Closed.{Version}
 use Rattle.venue_history.specs.Ways.{Usable}
 use Rattle.venue_history.specs.Answers.{IsTooEarly, IsTrip, LacksProfile, HasProfile, IsNoPlace, IsPlace, AnswersAsk, Answers}

@@ -18,9 +18,9 @@ use Rattle.venue_types.specs.declared.reply.Which.TheVariants as which
 use Rattle.venue_types.specs.declared.settings.Profile.{Profile}
 use Rattle.walk_laws.specs.Walks.{HasWalk, HasNoWalk, IsLeast}
 use Rattle.walk_laws.specs.Certificates.{potential, Ascends, IsCertificate}
-use Rattle.venue_nodes.specs.Identity.{is_same}
-use Rattle.venue_nodes.specs.Nodes.{place_of}
-use Rattle.link_graph.specs.Views.{link_view, potential_view}
+use Rattle.venue_build.specs.Identity.{is_same}
+use Rattle.venue_build.specs.Nodes.{place_of}
+use Rattle.venue_build.specs.Views.{link_view, potential_view}
 use Rattle.venue_build.specs.Places.{places}
 use Rattle.venue_history.specs.Closed.{Version, is_closed, closed_ids, closed_count}
 use Rattle.venue_history.specs.Ways.{Usable, profile_of, name_of, step_of, mark_of}

@@ -5,7 +5,7 @@ use Rattle.venue_types.specs.declared.feature_id.FeatureId.{FeatureId}
 use Rattle.venue_types.specs.declared.features.Features.{Features}
 use Rattle.venue_types.specs.declared.settings.Profile.{Profile}
 use Rattle.venue_types.specs.declared.settings.Settings.{Settings}
-use Rattle.venue_nodes.specs.Identity.{is_same}
+use Rattle.venue_build.specs.Identity.{is_same}
 
 -- its number, its rows, the settings that decide answers, and the identifiers that are closed, in the order of those that can be
 pub record Version : Type 0 where

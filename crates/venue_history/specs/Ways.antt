@@ -9,8 +9,8 @@ use Rattle.venue_types.specs.declared.reply.Mark.{Mark}
 use Rattle.venue_types.specs.declared.reply.StepRow.{StepRow}
 use Rattle.venue_types.specs.declared.settings.Profile.{Profile}
 use Rattle.venue_types.specs.declared.settings.Settings.{Settings}
-use Rattle.venue_nodes.specs.Nodes.{nodes, closables}
-use Rattle.link_graph.specs.Usable.{IsUsable}
+use Rattle.venue_build.specs.Nodes.{nodes, closables}
+use Rattle.venue_build.specs.Usable.{IsUsable}
 use Rattle.venue_history.specs.Closed.{Version, closed_for}
 
 -- the profile of this name, the first if there are several

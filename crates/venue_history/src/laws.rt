@@ -11,7 +11,7 @@ ghost use Rattle.venue_types.specs.declared.query.Query.{Query as AQuery};
 ghost use Rattle.venue_types.specs.declared.reply.Reply.{Reply as AReply};
 ghost use Rattle.venue_types.specs.declared.reply.Reply.TheVariants as reply;
 ghost use Rattle.venue_types.specs.declared.settings.Profile.{Profile as AProfile};
-ghost use Rattle.venue_nodes.specs.Nodes.{closables};
+ghost use Rattle.venue_build.specs.Nodes.{closables};
 ghost use Rattle.venue_build.specs.Venues.{SeenVenue as AVenue};
 ghost use Rattle.venue_build.specs.Report.{AreValid};
 ghost use Rattle.venue_folder.specs.Shelves.{Shelf};
@@ -24,8 +24,7 @@ ghost use Rattle.venue_history.specs.Answers.{Answers};
 ghost use Rattle.venue_history.specs.Replies.{told, kind_of, IsOutsideFault};
 ghost use Rattle.venue_history.specs.Changes.{Changes};
 
-use imdf_refs::own_ids_law;
-use venue_build::one_outcome;
+use venue_build::{one_outcome, own_ids_law};
 
 /// The number of a version is the length of the history that leads to it.
 pub fn number_law()

@@ -9,9 +9,9 @@ use Rattle.venue_types.specs.declared.features.AnchorRow.{AnchorRow}
 use Rattle.venue_types.specs.declared.features.OpeningRow.{OpeningRow}
 use Rattle.venue_types.specs.declared.features.UnitRow.{UnitRow}
 use Rattle.venue_types.specs.declared.point.Point.{Point}
-use Rattle.imdf_schema.specs.declared.files.File.{File}
-use Rattle.imdf_schema.specs.declared.files.File.TheVariants as file
-use Rattle.imdf_schema.specs.Files.{feature_files}
+use Rattle.venue_types.specs.declared.folder_file.File.{File}
+use Rattle.venue_types.specs.declared.folder_file.File.TheVariants as file
+use Rattle.venue_types.specs.FolderFiles.{feature_files}
 use Rattle.plane_exact.specs.Figure.{vertices}
 use Rattle.feature_rows.specs.Figures.{positions, positions_of, judged_positions, display_of}
 use Rattle.feature_rows.specs.Sound.{AreSound, IsOnEarth}

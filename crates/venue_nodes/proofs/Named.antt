@@ -16,7 +16,7 @@ use Rattle.std.proofs.lemmas.Option.{same_Some, slice_get_within}
 use Rattle.venue_types.proofs.Items.{at_member, member_at, at_map}
 use Rattle.venue_types.specs.declared.feature_id.FeatureId.{FeatureId}
 use Rattle.feature_rows.specs.Indexes.{AreOnce, place_of}
-use Rattle.report_laws.proofs.Unique.{same_members}
+use Rattle.rule_reports.proofs.Unique.{same_members}
 use Rattle.venue_nodes.specs.Identity.{is_same}
 use Rattle.venue_nodes.specs.Members.{places_where}
 use Rattle.venue_nodes.specs.declared.walkables.Walkables.{Walkables}

@@ -14,11 +14,11 @@ use Rattle.venue_types.specs.declared.finding.Note.{Note}
 use Rattle.venue_types.specs.declared.link.Touches.{Touches}
 use Rattle.imdf_schema.specs.declared.table.Property.{Property}
 use Rattle.imdf_schema.specs.declared.table.Property.TheVariants as property
-use Rattle.imdf_schema.specs.Files.{file_number}
+use Rattle.venue_types.specs.FolderFiles.{file_number}
 use Rattle.imdf_schema.specs.Properties.{property_number}
 use Rattle.plane_exact.specs.Opening.{AreTouches}
-use Rattle.report_laws.specs.Passes.{found, Adds}
-use Rattle.report_laws.proofs.Adding.{Below, Adds-step, Adds-end, Adds-found, Adds-same, Adds-then}
+use Rattle.rule_reports.specs.Passes.{found, Adds}
+use Rattle.rule_reports.proofs.Adding.{Below, Adds-step, Adds-end, Adds-found, Adds-same, Adds-then}
 use Rattle.venue_nodes.specs.declared.notes.PlaceNote.{PlaceNote}
 use Rattle.venue_nodes.specs.declared.notes.PlaceNote.TheVariants.{N3, N4}
 use Rattle.venue_nodes.specs.declared.nodes.Nodes.{Nodes}

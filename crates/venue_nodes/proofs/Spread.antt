@@ -13,7 +13,7 @@ use Rattle.venue_types.specs.declared.point.Part.{Part}
 use Rattle.venue_types.specs.declared.point.Point.{Point}
 use Rattle.venue_types.specs.declared.point.Ring.{Ring}
 use Rattle.venue_types.specs.declared.point.Spot.{Spot}
-use Rattle.imdf_schema.specs.declared.files.File.TheVariants as file
+use Rattle.venue_types.specs.declared.folder_file.File.TheVariants as file
 use Rattle.imdf_access.specs.Categories.{is_walkable}
 use Rattle.plane_exact.specs.Plane.{IsWithin, IsCloseDoubled}
 use Rattle.plane_exact.specs.Figure.{AllClose, vertices, rings}

@@ -4,7 +4,7 @@ use Rattle.venue_types.specs.declared.features.Features.{Features}
 use Rattle.venue_nodes.specs.declared.limits.Crowding.{Crowding}
 use Rattle.venue_nodes.specs.declared.limits.Crowding.TheVariants.{Members, Squares}
 use Rattle.venue_types.specs.declared.finding.Finding.{Finding}
-use Rattle.imdf_schema.specs.declared.files.File.TheVariants as file
+use Rattle.venue_types.specs.declared.folder_file.File.TheVariants as file
 use Rattle.imdf_schema.specs.Places.{finding_at}
 use Rattle.venue_nodes.specs.declared.rules.LimitRule.TheVariants.{S5, S6}
 use Rattle.venue_nodes.specs.Limits.{IsCrowded, square_sum, rule_of}

@@ -15,3 +15,8 @@ pub mod Numbering
 pub mod Views
 pub mod Noting
 pub mod Making
+pub use Rattle.imdf_schema.specs.declared.table.Property
+pub use Rattle.feature_rows.specs.Figures
+pub use Rattle.feature_rows.specs.Rows as FeatureRowsRows
+pub use Rattle.feature_rows.specs.Sound
+pub use Rattle.feature_rows.specs.Indexes

@@ -4,10 +4,10 @@ use Rattle.venue_types.specs.declared.features.Features.{Features}
 use Rattle.venue_types.specs.declared.features.UnitRow.{UnitRow}
 use Rattle.venue_types.specs.declared.finding.Finding.{Finding}
 use Rattle.imdf_access.specs.Categories.{is_walkable}
-use Rattle.imdf_schema.specs.declared.files.File.TheVariants as file
+use Rattle.venue_types.specs.declared.folder_file.File.TheVariants as file
 use Rattle.imdf_schema.specs.declared.rules.Rule.{Rule}
 use Rattle.imdf_schema.specs.declared.rules.Rule.TheVariants as rule
-use Rattle.imdf_schema.specs.Files.{file_number}
+use Rattle.venue_types.specs.FolderFiles.{file_number}
 use Rattle.imdf_schema.specs.Rules.{rule_number}
 use Rattle.venue_nodes.specs.declared.rules.LimitRule.{LimitRule}
 use Rattle.venue_nodes.specs.declared.rules.LimitRule.TheVariants.{S5, S6}

@@ -5,13 +5,13 @@ use Rattle.venue_types.specs.declared.features.Features.{Features}
 use Rattle.venue_types.specs.declared.features.Ref.{Ref}
 use Rattle.venue_types.specs.declared.features.RelationshipRow.{RelationshipRow}
 use Rattle.venue_types.specs.declared.finding.Note.{Note}
-use Rattle.imdf_schema.specs.declared.files.File.{File}
-use Rattle.imdf_schema.specs.declared.files.File.TheVariants as file
+use Rattle.venue_types.specs.declared.folder_file.File.{File}
+use Rattle.venue_types.specs.declared.folder_file.File.TheVariants as file
 use Rattle.imdf_schema.specs.declared.table.Property.{Property}
 use Rattle.imdf_schema.specs.declared.table.Property.TheVariants as property
 use Rattle.imdf_schema.specs.declared.rules.NoteKind.{NoteKind}
 use Rattle.imdf_schema.specs.declared.rules.NoteKind.TheVariants as kind
-use Rattle.imdf_schema.specs.Files.{file_number}
+use Rattle.venue_types.specs.FolderFiles.{file_number}
 use Rattle.imdf_schema.specs.Rules.{note_number}
 use Rattle.imdf_schema.specs.Properties.{property_number}
 use Rattle.plane_exact.specs.Opening.{HaveTouch}

@@ -60,7 +60,7 @@ impl Identified for UnitRow {
     }
 }
 
-/// Adds the identifiers of these rows.
+// Adds the identifiers of these rows.
 fn add_ids<R: Identified>(ids: &mut Vec<FeatureId>, rows: &[R]) -> Result<(), OutOfMemory>
     ensures { OnOk result (ids.new.items ≡ ids.old.items ++ map R.id_of rows.now) }
 {

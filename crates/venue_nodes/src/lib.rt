@@ -2,25 +2,21 @@
 //! is worth a note where a door or a passage leads nowhere.
 #![tactic(auto)]
 
-mod filling;
 mod ids;
 mod limits;
 mod lists;
-mod making;
-#[cfg(test)]
-mod member_tests;
 mod members;
-mod naming;
+mod named_units;
 mod node_laws;
+mod node_rows;
 mod nodes;
 mod notes;
+mod notes_on_places;
 mod numbers;
-mod placing;
 mod rules;
 mod spots;
-#[cfg(test)]
-mod tests;
-mod touching;
+mod touch_laws;
+mod unit_rows;
 mod walkables;
 
 pub use limits::{Crowding, first_crowding, limit_findings};
@@ -28,6 +24,6 @@ pub use members::{Membership, Rows};
 pub use node_laws::{few_law, number_law, spot_law};
 pub use nodes::Nodes;
 pub use notes::PlaceNote;
-pub use placing::place_notes;
+pub use notes_on_places::place_notes;
 pub use rules::LimitRule;
-pub use touching::touch_law;
+pub use touch_laws::touch_law;

@@ -3,14 +3,14 @@
 ghost use Rattle.std.specs.Prelude.{◌≡◌, ◌↔◌, ◌<◌, ◌≤◌, ◌*◌, ℕ, List, All, IfOk, IsTrue, MatchOption, sum_by, length};
 ghost use Rattle.std.specs.Option.{option_map, option_to_list};
 ghost use Rattle.venue_types.specs.declared.features.Features.{Features};
-ghost use Rattle.report_laws.specs.Reports.{IsReport};
+ghost use Rattle.rule_reports.specs.Reports.{IsReport};
 ghost use Rattle.venue_nodes.specs.Crowds.{Crowds, IsFirstFull, IsRoomy, limit_finding, square_of};
 ghost use Rattle.venue_nodes.specs.Limits.{BreaksLimit};
 ghost use Rattle.venue_nodes.specs.Rows.{AreRowsOf, row_list};
 
 use crate::members::Rows;
 use crate::rules::LimitRule;
-use imdf_schema::{File, Place};
+use imdf_schema::{FeatureAt, File};
 use std::alloc::Global;
 use venue_types::{Finding, List, OutOfMemory};
 
@@ -28,7 +28,7 @@ pub enum Crowding {
 }
 
 impl Crowding {
-    /// What is told of it: of the unit that is crowded; of the squares at the first unit.
+    // What is told of it: of the unit that is crowded; of the squares at the first unit.
     fn finding(self) -> Finding
         ensures { result ≡ limit_finding self }
     {
@@ -36,7 +36,7 @@ impl Crowding {
             Crowding::Members(k) => (LimitRule::S5, k),
             Crowding::Squares => (LimitRule::S6, 0),
         };
-        let place = Place {
+        let place = FeatureAt {
             file: File::Unit,
             index,
         };

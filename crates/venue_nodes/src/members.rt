@@ -6,10 +6,10 @@ ghost use Rattle.feature_rows.specs.Rows.{HaveOwnIds};
 ghost use Rattle.feature_rows.specs.Sound.{AreSound};
 ghost use Rattle.venue_nodes.specs.Standing.{AreStandings};
 
-use crate::filling::filled;
 use crate::lists::Lists;
-use crate::naming::named;
-use crate::touching::touch_law;
+use crate::named_units::named;
+use crate::touch_laws::touch_law;
+use crate::unit_rows::filled;
 use crate::walkables::Walkables;
 use feature_rows::once_law;
 use std::alloc::Global;
@@ -60,7 +60,7 @@ impl Rows {
         Ok(rows)
     }
 
-    // The rows by what each node names, of units each with an identifier of its own.
+    /// The rows by what each node names, of units each with an identifier of its own.
     pub(crate) fn of_named(
         alloc: Global,
         features: &Features,

@@ -5,7 +5,7 @@ ghost use Rattle.feature_rows.specs.Sound.{AreSound};
 ghost use Rattle.venue_nodes.specs.Making.{CanPlace};
 
 use crate::ids::{anchors_of, closables_of, ids_of};
-use crate::making::nodes_of;
+use crate::node_rows::nodes_of;
 use crate::numbers::Numbers;
 use std::alloc::Global;
 use venue_types::{FeatureId, Features, Node, OutOfMemory};

@@ -32,7 +32,7 @@ pub(crate) fn line_middle(points: &[Point]) -> Spot
     }
 }
 
-/// The least and the greatest coordinates of some points, in nanodegrees. Without points the least are the greater.
+// The least and the greatest coordinates of some points, in nanodegrees. Without points the least are the greater.
 #[derive(Clone, Copy, Debug, PartialEq, Eq)]
 struct Bounds {
     west: i64,
@@ -44,7 +44,7 @@ struct Bounds {
 impl Bounds {
     ghost use Rattle.venue_nodes.specs.Bounds.{with_point};
 
-    /// With one more point.
+    // With one more point.
     fn with(self, p: Point) -> Bounds
         ensures { result ≡ with_point self p }
     {
@@ -57,7 +57,7 @@ impl Bounds {
     }
 }
 
-/// With these points.
+// With these points.
 fn with_points(bounds: Bounds, points: &[Point]) -> Bounds
     ensures { result ≡ with_all bounds points.now }
 {
@@ -68,7 +68,7 @@ fn with_points(bounds: Bounds, points: &[Point]) -> Bounds
     grown
 }
 
-/// With the points of these rings.
+// With the points of these rings.
 fn with_rings(bounds: Bounds, rings: &[Ring]) -> Bounds
     ensures { result ≡ with_all bounds (ring_points rings.now) }
 {
@@ -79,7 +79,7 @@ fn with_rings(bounds: Bounds, rings: &[Ring]) -> Bounds
     grown
 }
 
-/// With the points of this polygon.
+// With the points of this polygon.
 fn with_part(bounds: Bounds, part: &Part) -> Bounds
     ensures { result ≡ with_all bounds (part_points part.now) }
 {
@@ -87,7 +87,7 @@ fn with_part(bounds: Bounds, part: &Part) -> Bounds
     with_rings(outer, part.holes.as_slice())
 }
 
-/// With the points of these polygons.
+// With the points of these polygons.
 fn with_parts(bounds: Bounds, parts: &[Part]) -> Bounds
     ensures { result ≡ with_all bounds (flat_map part_points parts.now) }
 {
@@ -98,7 +98,7 @@ fn with_parts(bounds: Bounds, parts: &[Part]) -> Bounds
     grown
 }
 
-/// The middle of the box round a shape's vertices. Looks at each once.
+// The middle of the box round a shape's vertices. Looks at each once.
 fn shape_middle(shape: &Shape) -> Spot
     requires { All IsOnEarth (vertices shape.now) }
     ensures { result ≡ box_middle (vertices shape.now) }

@@ -9,7 +9,7 @@ ghost use Rattle.venue_nodes.specs.Naming.{AreKnown, AreWalkables, can_walk, num
 
 use feature_rows::{Index, index_law};
 use imdf_access::walkable;
-use report_laws::add;
+use rule_reports::add;
 use std::alloc::Global;
 use venue_types::{FeatureId, OutOfMemory, UnitRow};
 

@@ -15,15 +15,11 @@ mod plan;
 mod quiet;
 mod reports;
 mod room;
-#[cfg(test)]
-mod socket_tests;
 mod sockets;
 mod stream;
 mod tcp;
 mod tcp_link;
-#[cfg(test)]
-mod tests;
-mod waiting;
+mod waits;
 
 pub use doors::Doors;
 pub use folders::{Folders, ReadFault};

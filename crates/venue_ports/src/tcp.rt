@@ -1,4 +1,4 @@
-//! A TCP listener. It tells no content.
+//! A TCP listener. Its contracts say nothing of what comes or goes.
 
 ghost use Rattle.std.specs.Prelude.{◌≡◌, ℕ, ◌≤◌, IfOk, OnErr, OnOk, None, length, is_some, true, false};
 ghost use Rattle.std.specs.Duration.{as_nanos};
@@ -38,7 +38,7 @@ impl<'a, R> TcpDoors<'a, R> {
         TcpDoors::with_limits(rt, Limits::of_a_server())
     }
 
-    // The same with these limits.
+    /// The same with these limits.
     pub(crate) fn with_limits(rt: &'a R, limits: Limits) -> TcpDoors<'a, R>
         ensures not_ready { is_some result.listener ≡ false }
         ensures accepted { result.accepted ≡ 0 }

@@ -1,4 +1,4 @@
-//! A TCP connection. It tells no content.
+//! A TCP connection. Its contracts say nothing of what comes or goes.
 
 ghost use Rattle.std.specs.Prelude.{◌≡◌, ℕ, ◌<◌, ◌≤◌, IfOk, OnErr, OnOk, None, length, true, false};
 ghost use Rattle.std.specs.Duration.{as_nanos};
@@ -8,7 +8,7 @@ ghost use Rattle.venue_ports.specs.Waits.{LimitsRead, LimitsWrite, no_waits};
 use crate::limits::Limits;
 use crate::sockets::{linger, now, read_again, since, write_again};
 use crate::stream::{Failed, Stream};
-use crate::waiting::Waiting;
+use crate::waits::Waiting;
 use std::net::TcpStream;
 use std::time::{Clock, Duration};
 
@@ -29,7 +29,7 @@ pub struct TcpLink<'a, R: Clock> {
 }
 
 impl<'a, R: Clock> TcpLink<'a, R> {
-    // A link over a connection that was just taken.
+    /// A link over a connection that was just taken.
     pub(crate) fn new(rt: &'a R, stream: TcpStream, limits: Limits) -> TcpLink<'a, R>
         ensures waits { result.waiting ≡ no_waits (as_nanos limits.patience) (as_nanos limits.delivery) }
         ensures faults { result.faults ≡ 0 }

@@ -1,6 +1,6 @@
 -- What is the same hall as one that is the same hall.
 use Rattle.std.proofs.Common.{◌∙◌}
-use Rattle.version_board.specs.Facts.{Facts, IsSameHall}
+use Rattle.shared_hall.specs.Facts.{Facts, IsSameHall}
 
 pub same_on : (old mid new : Facts) → IsSameHall old mid → IsSameHall mid new → IsSameHall old new
 same_on old mid new first second = record {

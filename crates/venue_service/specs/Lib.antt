@@ -2,3 +2,8 @@ pub mod Guests
 pub mod Desks
 pub mod Steps
 pub mod Services
+pub use Rattle.shared_hall.specs.Venues
+pub use Rattle.shared_hall.specs.Openings
+pub use Rattle.shared_hall.specs.Making
+pub use Rattle.shared_hall.specs.Copied
+pub use Rattle.venue_session.specs.Ends

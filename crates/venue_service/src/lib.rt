@@ -1,17 +1,14 @@
-//! The service: connections come through doors, workers serve them at one hall, and a closing count tells what came of it.
+//! The service: connections come through doors, workers serve them at one hall, and a closing count reports the result.
 #![tactic(auto)]
 
 mod desk;
 mod guest;
-#[cfg(test)]
-mod seat_tests;
-mod seating;
+mod seats;
 mod service;
-#[cfg(test)]
-mod tests;
-mod working;
+mod worker;
 
 pub use desk::{DoorDesk, Next};
 pub use guest::Guest;
 pub use service::{Counts, Service, serve_hall};
-pub use working::work;
+pub use shared_hall::{Copies, opening_entries};
+pub use worker::work;

@@ -3,15 +3,17 @@
 ghost use Rattle.std.specs.Prelude.{◌≡◌, ◌⊎◌, ◌+◌, ◌<◌, ◌≤◌, length, true, false, IfSome, IfNone, IsSome, IsNone};
 ghost use Rattle.venue_types.specs.Room.{HasRoom};
 ghost use Rattle.venue_ports.specs.Causes.{Rose};
-ghost use Rattle.version_board.specs.Making.{shelf_of};
+ghost use Rattle.shared_hall.specs.Making.{shelf_of};
 ghost use Rattle.shared_hall.specs.Copied.{entries_in, book_in};
 ghost use Rattle.shared_hall.specs.Offices.{parts_of, HasShelf};
 ghost use Rattle.venue_service.specs.Desks.{raised};
 ghost use Rattle.venue_service.specs.Services.{AreCounts};
 
 use crate::desk::DoorDesk;
-use crate::seating::{leave_all, sit_all, work_all};
-use shared_hall::{Closed, Copies, HallName, Office, Opened, Pass, Seat, close_hall, open_hall};
+use crate::seats::{leave_all, sit_all, work_all};
+use shared_hall::{
+    Closed, Copies, HallName, Office, Opened, Pass, Seat, Unopened, close_hall, open_hall,
+};
 use std::alloc::Global;
 use std::sync::ledger::Blank;
 use std::sync::{Mutex, Wait};
@@ -19,7 +21,6 @@ use std::thread::Threads;
 use venue_ports::{Doors, Folders};
 use venue_types::{Text, reserve};
 use venue_wire::Front;
-use version_board::Unopened;
 
 /// What is told of a service at its close.
 #[derive(Clone, Copy)]

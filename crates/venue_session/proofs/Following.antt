@@ -1,7 +1,7 @@
 -- What was acted on stays so, whatever bytes follow.
 use Rattle.std.proofs.Common.{ℕ, ◌≤◌, Bool, List, [], ◌∷◌, ◌++◌, length, drop, sym, ap, subst}
 use Rattle.std.proofs.lemmas.List.{drop-append-le}
-use Rattle.version_board.specs.Facts.{Facts}
+use Rattle.venue_hall.specs.Facts.{Facts}
 use Rattle.venue_wire.specs.Messages.{At}
 use Rattle.venue_wire.specs.declared.messages.Message.{Message}
 use Rattle.venue_wire.specs.declared.messages.Taken.{Taken}

@@ -3,8 +3,8 @@ use Rattle.std.proofs.Common.{◌≡◌, inl, lit<, ℕ, ◌+◌, ◌<◌, false
 use Rattle.std.specs.Io.KnownBytes.{Appends, Consumes}
 use Rattle.std.proofs.KnownBytes.{Appends-nil, Appends-trans, Consumes-nil, Consumes-trans}
 use Rattle.std.proofs.lemmas.List.Elements.{All-nil, All-push}
-use Rattle.venue_history.specs.Histories.{IsLegal}
-use Rattle.version_board.specs.Facts.{Facts}
+use Rattle.venue_hall.specs.Histories.{IsLegal}
+use Rattle.venue_hall.specs.Facts.{Facts}
 use Rattle.wire_frames.specs.Frames.{IsShort}
 use Rattle.venue_session.specs.Acting.{Acted, text_of, IsActed, Acts}
 use Rattle.venue_session.specs.Going.{Moment, moment, IsGoing, StaysShort, Awaits}

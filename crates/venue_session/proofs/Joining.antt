@@ -1,7 +1,7 @@
 -- Runs of messages, with a message more, and one behind the other.
 use Rattle.std.proofs.Common.{◌≡◌, ℕ, inl, inr, false, List, [], ◌∷◌, ◌++◌, drop, refl, sym, ap, ◌∙◌, subst, append-nil, append_assoc}
 use Rattle.std.proofs.lemmas.List.Elements.{All-head, All-tail}
-use Rattle.version_board.specs.Facts.{Facts}
+use Rattle.venue_hall.specs.Facts.{Facts}
 use Rattle.venue_session.specs.Acting.{Acted, text_of, IsActed, AreOpen, Acts}
 
 pub first_open : (m : Acted) (ms : List Acted) → AreOpen (m ∷ ms) → m.close ≡ false

@@ -2,8 +2,8 @@
 use Rattle.std.proofs.Common.{◌≡◌, ℕ, ◌+◌, ◌≤◌, inl, inr, false, List, [], ◌∷◌, ◌++◌, length, drop, sym, ap, ◌∙◌, subst, arith, append-nil, append_assoc, length-append}
 use Rattle.std.proofs.lemmas.List.Elements.{All-nil, All-cons}
 use mathlib.Core.List.{IsPrefix}
-use Rattle.version_board.specs.Facts.{Facts, IsSameHall}
-use Rattle.venue_history.specs.Histories.{IsLegal}
+use Rattle.venue_hall.specs.Facts.{Facts, IsSameHall}
+use Rattle.venue_hall.specs.Histories.{IsLegal}
 use Rattle.venue_session.specs.Acting.{Acted, AreOpen, Acts, told_in}
 
 never_none : (front : List Acted) (last : Acted) → front ++ last ∷ [] ≡ [] → ⊥

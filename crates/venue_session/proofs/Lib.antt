@@ -7,3 +7,7 @@ pub mod Served
 pub mod Moving
 pub mod Waiting
 pub mod Wanting
+pub mod Ways
+pub mod Exchanges
+pub mod HeadlineEnds
+pub mod Completing

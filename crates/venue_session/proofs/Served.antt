@@ -1,10 +1,10 @@
 -- What a session makes of the hall.
 use Rattle.std.proofs.Common.{◌≡◌, ◌⊎◌, ℕ, ◌∙◌, inl, inr, List, [], ◌∷◌, drop, sym, ap, subst, arith}
-use Rattle.venue_history.specs.Histories.{IsLegal}
+use Rattle.venue_hall.specs.Histories.{IsLegal}
 use Rattle.venue_ports.specs.Causes.{Rose}
-use Rattle.version_board.specs.Facts.{Facts}
+use Rattle.venue_hall.specs.Facts.{Facts}
 use Rattle.venue_wire.specs.declared.messages.Message.{Message}
-use Rattle.wire_replies.specs.declared.answer.Answer.{Answer}
+use Rattle.wire_replies.specs.declared.response.Response.{Response}
 use Rattle.venue_session.specs.Acting.{Acted, IsActed, Acts}
 use Rattle.venue_session.specs.Ends.{Run, Measured, IsBroken, IsStarved, Ended}
 use Rattle.venue_session.specs.Sessions.{IsSession, HasServed}
@@ -38,7 +38,7 @@ acts_serve keys old new bytes out rest ms acts legal = record {
   looks = acts_looks keys old new bytes out rest ms acts;
 }
 
-step_serves : (old mid new : Facts) (message : Message) (answer : Answer) → HasServed old mid → IsStep mid message answer new → HasServed old new
+step_serves : (old mid new : Facts) (message : Message) (answer : Response) → HasServed old mid → IsStep mid message answer new → HasServed old new
 step_serves old mid new message answer served step = record {
   same = record {
     worker = step.same.worker ∙ served.same.worker;

@@ -1,11 +1,11 @@
--- Messages acted on one after the other, from the front of some bytes.
+-- Messages acted on one after the other, from the start of some bytes.
 use Rattle.std.specs.Prelude.{◌≡◌, ◌⊎◌, ℕ, ◌+◌, Bool, true, false, List, [], ◌∷◌, ◌++◌, drop, All}
-use Rattle.version_board.specs.Facts.{Facts}
+use Rattle.venue_hall.specs.Facts.{Facts}
 use Rattle.venue_wire.specs.Messages.{At}
 use Rattle.venue_wire.specs.declared.messages.Message.{Message}
 use Rattle.venue_wire.specs.declared.messages.Taken.{Taken}
 use Rattle.wire_replies.specs.Replies.{reply_text}
-use Rattle.wire_replies.specs.declared.answer.Answer.{Answer}
+use Rattle.wire_replies.specs.declared.response.Response.{Response}
 use Rattle.venue_session.specs.Steps.{told_by, IsStep}
 
 -- a message with its length, whether it closes, and what it was answered
@@ -13,7 +13,7 @@ pub record Acted : Type 0 where
   pub message : Message
   pub length : ℕ
   pub close : Bool
-  pub answer : Answer
+  pub answer : Response
 
 -- the bytes of its answer
 abbrev pub text_of : Acted → List ℕ

@@ -4,12 +4,12 @@ use Rattle.std.specs.Io.KnownBytes.{Appends, IsAtEnd}
 use mathlib.Core.List.{IsPrefix}
 use Rattle.venue_ports.specs.Causes.{Rose}
 use Rattle.venue_ports.specs.declared.stream.Stream.{Ghosts as Links}
-use Rattle.version_board.specs.Facts.{Facts}
+use Rattle.venue_hall.specs.Facts.{Facts}
 use Rattle.wire_frames.specs.Frames.{IsShort, IsRefused}
 use Rattle.wire_frames.specs.declared.refusals.Refusal.{Refusal}
 use Rattle.wire_replies.specs.Heads.{refusal_status}
 use Rattle.wire_replies.specs.Replies.{reply_text}
-use Rattle.wire_replies.specs.declared.answer.Answer.TheVariants.{No}
+use Rattle.wire_replies.specs.declared.response.Response.TheVariants.{No}
 use Rattle.venue_session.specs.Acting.{Acted, text_of, IsActed, AreOpen, ClosesLast}
 use Rattle.venue_session.specs.Steps.{told_by}
 use Rattle.venue_session.specs.declared.ends.End.{End}

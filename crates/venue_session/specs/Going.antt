@@ -1,15 +1,15 @@
 -- A session under way, between two calls.
 use Rattle.std.specs.Prelude.{◌≡◌, ◌<◌, ◌≤◌, ◌+◌, ℕ, List, ◌++◌, length, Option, Some, None}
 use Rattle.std.specs.Io.KnownBytes.{Appends, Consumes}
-use Rattle.venue_history.specs.Histories.{IsLegal}
-use Rattle.version_board.specs.Facts.{Facts}
+use Rattle.venue_hall.specs.Histories.{IsLegal}
+use Rattle.venue_hall.specs.Facts.{Facts}
 use Rattle.wire_frames.specs.Frames.{IsShort}
 use Rattle.venue_session.specs.Acting.{Acted, AreOpen, Acts}
 use Rattle.venue_session.specs.Ends.{Measured}
 use Rattle.venue_session.specs.Sessions.{IsSession}
 use Rattle.venue_session.specs.declared.ends.End.{End}
-use Rattle.venue_session.specs.declared.reading.Heard.{Heard}
-use Rattle.venue_session.specs.declared.running.Stop.{Stop}
+use Rattle.venue_session.specs.declared.heard.Heard.{Heard}
+use Rattle.venue_session.specs.declared.step_runs.Stop.{Stop}
 
 -- what is seen of the hall and of the link at one moment
 pub record Moment : Type 0 where

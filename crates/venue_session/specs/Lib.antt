@@ -4,3 +4,9 @@ pub mod Ends
 pub mod Sessions
 pub mod Texts
 pub mod Going
+pub mod Headline
+pub mod Complete
+pub use Rattle.venue_hall.specs.Venues
+pub use Rattle.venue_hall.specs.Built
+pub use Rattle.venue_hall.specs.Openings
+pub use Rattle.venue_hall.specs.Facts

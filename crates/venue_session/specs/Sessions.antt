@@ -2,8 +2,8 @@
 use Rattle.std.specs.Prelude.{ℕ, ◌≤◌, List}
 use Rattle.std.specs.Io.KnownBytes.{Consumes}
 use mathlib.Core.List.{IsPrefix}
-use Rattle.venue_history.specs.Histories.{IsLegal}
-use Rattle.version_board.specs.Facts.{Facts, IsSameHall}
+use Rattle.venue_hall.specs.Histories.{IsLegal}
+use Rattle.venue_hall.specs.Facts.{Facts, IsSameHall}
 use Rattle.venue_session.specs.Acting.{Acts}
 use Rattle.venue_session.specs.Ends.{Measured, Run, Ended}
 use Rattle.venue_session.specs.Steps.{StaysOrRose}

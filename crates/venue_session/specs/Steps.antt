@@ -3,21 +3,21 @@ use Rattle.std.specs.Prelude.{◌≡◌, ◌≢◌, ◌⊎◌, ℕ, ◌+◌, ◌
 use mathlib.Core.List.{IsPrefix}
 use Rattle.venue_types.specs.declared.reply.Reply.TheVariants as reply
 use Rattle.venue_ports.specs.Causes.{Rose}
-use Rattle.venue_history.specs.Histories.{IsLegal}
-use Rattle.venue_history.specs.Replies.{told, IsAhead, IsOutsideFault}
-use Rattle.version_board.specs.Facts.{Facts, IsSameHall, IsAnswered, IsChanged}
+use Rattle.venue_hall.specs.Histories.{IsLegal}
+use Rattle.venue_hall.specs.Replies.{told, IsAhead, IsOutsideFault}
+use Rattle.venue_hall.specs.Facts.{Facts, IsSameHall, IsAnswered, IsChanged}
 use Rattle.venue_wire.specs.declared.messages.Message.{Message}
-use Rattle.wire_replies.specs.declared.answer.Answer.{Answer}
-use Rattle.wire_replies.specs.declared.answer.Answer.TheVariants.{Of, No}
+use Rattle.wire_replies.specs.declared.response.Response.{Response}
+use Rattle.wire_replies.specs.declared.response.Response.TheVariants.{Of, No}
 
 -- how many accepted changes the answer tells: one or none
-abbrev pub told_by : Answer → ℕ
+abbrev pub told_by : Response → ℕ
 told_by (Of r) = told r
 told_by (No refusal) = 0
 
 -- the answer is right for the message: a question at the version that is seen now, a change at a history that begins with what
 -- was seen before, a message refused by itself by that refusal or for want of memory, and then the hall stays as it was
-abbrev pub IsRight : Facts → Message → Answer → Facts → Type 0
+abbrev pub IsRight : Facts → Message → Response → Facts → Type 0
 IsRight old (Message.Ask query) (Of r) new = IsAnswered new.seen query r
 IsRight old (Message.Do change) (Of r) new = IsChanged old new change r
 IsRight old (Message.Refused refusal) (Of r) new = (r ≡ reply.OutOfMemory) × (new ≡ old)
@@ -25,12 +25,12 @@ IsRight old (Message.Refused refusal) (No given) new = (given ≡ refusal) × (n
 IsRight old _ _ new = ⊥
 
 -- the answer tells a fault of the outside
-abbrev pub TellsFault : Answer → Type 0
+abbrev pub TellsFault : Response → Type 0
 TellsFault (Of r) = IsOutsideFault r
 TellsFault (No refusal) = ⊥
 
 -- the answer comes of a look at what others changed: it says that a version isn't there yet, or is a change's, but for want of memory
-abbrev pub ComesOfLook : Message → Answer → Type 0
+abbrev pub ComesOfLook : Message → Response → Type 0
 ComesOfLook (Message.Ask query) (Of r) = IsAhead r
 ComesOfLook (Message.Do change) (Of r) = r ≢ reply.OutOfMemory
 ComesOfLook _ _ = ⊥
@@ -41,7 +41,7 @@ StaysOrRose before now = (now ≡ before) ⊎ Rose before now
 
 -- the hall acts on the message: the answer is right, what is seen is legal and at most grows, an accepted change that is told is
 -- counted, and no count falls
-pub record IsStep (old : Facts) (message : Message) (answer : Answer) (new : Facts) : Type 0 where
+pub record IsStep (old : Facts) (message : Message) (answer : Response) (new : Facts) : Type 0 where
   pub right : IsRight old message answer new
   pub grows : IsPrefix old.seen new.seen
   pub legal : IsLegal new.seen

@@ -2,8 +2,8 @@
 
 ghost use Rattle.std.specs.Prelude.{◌≡◌, ◌+◌, ◌≤◌, ℕ, List, [], ◌∷◌, ◌++◌, drop};
 ghost use mathlib.Core.List.{IsPrefix};
-ghost use Rattle.venue_history.specs.Histories.{IsLegal};
-ghost use Rattle.version_board.specs.Facts.{Facts, IsSameHall};
+ghost use Rattle.venue_hall.specs.Histories.{IsLegal};
+ghost use Rattle.venue_hall.specs.Facts.{Facts, IsSameHall};
 ghost use Rattle.venue_session.specs.Acting.{Acted, text_of, IsActed, AreOpen, Acts, told_in};
 
 use venue_wire::{message_length_law, message_more_law};

@@ -34,7 +34,7 @@ impl From<OutOfMemory> for SettingsFault {
 }
 
 /// A text that owns its bytes.
-pub fn owned(alloc: Global, text: &str) -> Result<Text, OutOfMemory>
+pub(crate) fn owned(alloc: Global, text: &str) -> Result<Text, OutOfMemory>
     ensures { IfOk result (λ owned. owned ≡ text.now) }
 {
     Ok(Text::from_string(String::from_str(alloc, text)?))

@@ -10,7 +10,7 @@ use toml::Value;
 
 /// What is to be said of a value at a key.
 #[derive(Clone, Copy, Debug, PartialEq, Eq)]
-pub enum Judgement {
+pub(crate) enum Judgement {
     Good,
     WrongKind,
     OutOfRange,
@@ -29,7 +29,7 @@ fn judge(right_kind: bool, in_range: bool) -> Judgement
 }
 
 /// The number, if it is within the range.
-pub fn whole_between(n: i64, low: u32, high: u32) -> Option<u32>
+pub(crate) fn whole_between(n: i64, low: u32, high: u32) -> Option<u32>
     ensures some { IfSome result (λ k. (n ≡ pos k) × (low ≤ k) × (k ≤ high)) }
     ensures none { IfNone result (is_whole_between low high n ≡ false) }
 {
@@ -157,7 +157,7 @@ fn judge_truth(value: &Value) -> Judgement
 }
 
 /// How the value is judged at the key.
-pub fn judge_value(value: &Value, key: &Key) -> Judgement
+pub(crate) fn judge_value(value: &Value, key: &Key) -> Judgement
     ensures { result ≡ judged key.now.form key.now.low key.now.high (view value.now) }
 {
     match key.form {

@@ -2,7 +2,7 @@
 
 /// What stands at a key.
 #[derive(Clone, Copy, Debug, PartialEq, Eq)]
-pub enum Form {
+pub(crate) enum Form {
     /// A whole number, with its range.
     Whole,
     /// A list of staff keys, with the range of their count.
@@ -17,7 +17,7 @@ pub enum Form {
 
 /// A key of a table.
 #[derive(Clone, Copy, Debug)]
-pub struct Key {
+pub(crate) struct Key {
     pub name: &'static str,
     pub needed: bool,
     pub form: Form,
@@ -27,7 +27,7 @@ pub struct Key {
     pub high: u32,
 }
 
-pub const KX: Key = Key {
+pub(crate) const KX: Key = Key {
     name: "kx",
     needed: true,
     form: Form::Whole,
@@ -35,7 +35,7 @@ pub const KX: Key = Key {
     high: 20_000_000,
 };
 
-pub const KY: Key = Key {
+pub(crate) const KY: Key = Key {
     name: "ky",
     needed: true,
     form: Form::Whole,
@@ -43,7 +43,7 @@ pub const KY: Key = Key {
     high: 20_000_000,
 };
 
-pub const BORDER_TOL: Key = Key {
+pub(crate) const BORDER_TOL: Key = Key {
     name: "border_tol",
     needed: false,
     form: Form::Whole,
@@ -51,7 +51,7 @@ pub const BORDER_TOL: Key = Key {
     high: 100_000,
 };
 
-pub const CONTAIN_TOL: Key = Key {
+pub(crate) const CONTAIN_TOL: Key = Key {
     name: "contain_tol",
     needed: false,
     form: Form::Whole,
@@ -59,7 +59,7 @@ pub const CONTAIN_TOL: Key = Key {
     high: 1_000_000,
 };
 
-pub const ELEVATOR_EXTRA: Key = Key {
+pub(crate) const ELEVATOR_EXTRA: Key = Key {
     name: "elevator_extra",
     needed: false,
     form: Form::Whole,
@@ -67,7 +67,7 @@ pub const ELEVATOR_EXTRA: Key = Key {
     high: 1_000_000,
 };
 
-pub const ESCALATOR_EXTRA: Key = Key {
+pub(crate) const ESCALATOR_EXTRA: Key = Key {
     name: "escalator_extra",
     needed: false,
     form: Form::Whole,
@@ -75,7 +75,7 @@ pub const ESCALATOR_EXTRA: Key = Key {
     high: 1_000_000,
 };
 
-pub const MOVINGWALKWAY_EXTRA: Key = Key {
+pub(crate) const MOVINGWALKWAY_EXTRA: Key = Key {
     name: "movingwalkway_extra",
     needed: false,
     form: Form::Whole,
@@ -83,7 +83,7 @@ pub const MOVINGWALKWAY_EXTRA: Key = Key {
     high: 1_000_000,
 };
 
-pub const RAMP_EXTRA: Key = Key {
+pub(crate) const RAMP_EXTRA: Key = Key {
     name: "ramp_extra",
     needed: false,
     form: Form::Whole,
@@ -91,7 +91,7 @@ pub const RAMP_EXTRA: Key = Key {
     high: 1_000_000,
 };
 
-pub const STAIRS_EXTRA: Key = Key {
+pub(crate) const STAIRS_EXTRA: Key = Key {
     name: "stairs_extra",
     needed: false,
     form: Form::Whole,
@@ -99,7 +99,7 @@ pub const STAIRS_EXTRA: Key = Key {
     high: 1_000_000,
 };
 
-pub const TRAVERSAL_EXTRA: Key = Key {
+pub(crate) const TRAVERSAL_EXTRA: Key = Key {
     name: "traversal_extra",
     needed: false,
     form: Form::Whole,
@@ -107,7 +107,7 @@ pub const TRAVERSAL_EXTRA: Key = Key {
     high: 1_000_000,
 };
 
-pub const LAST_VERSION: Key = Key {
+pub(crate) const LAST_VERSION: Key = Key {
     name: "last_version",
     needed: false,
     form: Form::Whole,
@@ -115,7 +115,7 @@ pub const LAST_VERSION: Key = Key {
     high: 4_294_967_295,
 };
 
-pub const STAFF_KEYS: Key = Key {
+pub(crate) const STAFF_KEYS: Key = Key {
     name: "staff_keys",
     needed: false,
     form: Form::StaffKeys,
@@ -123,7 +123,7 @@ pub const STAFF_KEYS: Key = Key {
     high: 64,
 };
 
-pub const PROFILE: Key = Key {
+pub(crate) const PROFILE: Key = Key {
     name: "profile",
     needed: false,
     form: Form::Profiles,
@@ -132,7 +132,7 @@ pub const PROFILE: Key = Key {
 };
 
 /// The keys of the settings, in the order in which they are judged.
-pub static SETTINGS_KEYS: [Key; 13] = [
+pub(crate) static SETTINGS_KEYS: [Key; 13] = [
     KX,
     KY,
     BORDER_TOL,

@@ -8,8 +8,6 @@ mod profile_keys;
 mod profiles;
 mod settings;
 mod table;
-#[cfg(test)]
-mod tests;
 mod values;
 
 pub use fault::SettingsFault;

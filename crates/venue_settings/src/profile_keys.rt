@@ -2,7 +2,7 @@
 
 use crate::keys::{Form, Key};
 
-pub const NAME: Key = Key {
+pub(crate) const NAME: Key = Key {
     name: "name",
     needed: true,
     form: Form::Name,
@@ -10,7 +10,7 @@ pub const NAME: Key = Key {
     high: 32,
 };
 
-pub const ELEVATOR: Key = Key {
+pub(crate) const ELEVATOR: Key = Key {
     name: "elevator",
     needed: false,
     form: Form::Truth,
@@ -18,7 +18,7 @@ pub const ELEVATOR: Key = Key {
     high: 0,
 };
 
-pub const ESCALATOR: Key = Key {
+pub(crate) const ESCALATOR: Key = Key {
     name: "escalator",
     needed: false,
     form: Form::Truth,
@@ -26,7 +26,7 @@ pub const ESCALATOR: Key = Key {
     high: 0,
 };
 
-pub const MOVINGWALKWAY: Key = Key {
+pub(crate) const MOVINGWALKWAY: Key = Key {
     name: "movingwalkway",
     needed: false,
     form: Form::Truth,
@@ -34,7 +34,7 @@ pub const MOVINGWALKWAY: Key = Key {
     high: 0,
 };
 
-pub const RAMP: Key = Key {
+pub(crate) const RAMP: Key = Key {
     name: "ramp",
     needed: false,
     form: Form::Truth,
@@ -42,7 +42,7 @@ pub const RAMP: Key = Key {
     high: 0,
 };
 
-pub const STAIRS: Key = Key {
+pub(crate) const STAIRS: Key = Key {
     name: "stairs",
     needed: false,
     form: Form::Truth,
@@ -50,7 +50,7 @@ pub const STAIRS: Key = Key {
     high: 0,
 };
 
-pub const REVOLVING: Key = Key {
+pub(crate) const REVOLVING: Key = Key {
     name: "revolving",
     needed: false,
     form: Form::Truth,
@@ -58,7 +58,7 @@ pub const REVOLVING: Key = Key {
     high: 0,
 };
 
-pub const TURNSTILE: Key = Key {
+pub(crate) const TURNSTILE: Key = Key {
     name: "turnstile",
     needed: false,
     form: Form::Truth,
@@ -66,7 +66,7 @@ pub const TURNSTILE: Key = Key {
     high: 0,
 };
 
-pub const RESTRICTED: Key = Key {
+pub(crate) const RESTRICTED: Key = Key {
     name: "restricted",
     needed: false,
     form: Form::Truth,
@@ -74,7 +74,7 @@ pub const RESTRICTED: Key = Key {
     high: 0,
 };
 
-pub const MARKED: Key = Key {
+pub(crate) const MARKED: Key = Key {
     name: "marked",
     needed: false,
     form: Form::Truth,
@@ -83,7 +83,7 @@ pub const MARKED: Key = Key {
 };
 
 /// The keys of a profile, in the order in which they are judged.
-pub static PROFILE_KEYS: [Key; 10] = [
+pub(crate) static PROFILE_KEYS: [Key; 10] = [
     NAME,
     ELEVATOR,
     ESCALATOR,

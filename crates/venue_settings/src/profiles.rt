@@ -1,4 +1,4 @@
-//! The profiles of a file, behind the built-in ones.
+//! The profiles of a file, after the built-in ones.
 
 ghost use Rattle.std.specs.Prelude.{◌≡◌, ◌∷◌, ◌++◌, [], None, Some, false, map, codes, IfOk, OnOk, if◌then◌else◌};
 ghost use Rattle.std.specs.List.{filter_map, list_any};
@@ -24,7 +24,7 @@ use toml::{Table, Value};
 use venue_types::{List, OutOfMemory, Profile};
 
 /// The first fault of the tables among the values, if there is one.
-pub fn judge_profiles(alloc: Global, values: &[Value]) -> Result<(), SettingsFault>
+pub(crate) fn judge_profiles(alloc: Global, values: &[Value]) -> Result<(), SettingsFault>
     ensures { IsJudged (first_of (profile_faults (filter_map as_table (map view values.now)))) result }
 {
     for value in values {
@@ -74,7 +74,7 @@ fn add(alloc: Global, profiles: &mut List<Profile>, table: &Table) -> Result<(),
 
 /// The built-in profiles and then those of the tables among the values, or the first name that an
 /// earlier one has.
-pub fn all_profiles(alloc: Global, values: &[Value]) -> Result<List<Profile>, SettingsFault>
+pub(crate) fn all_profiles(alloc: Global, values: &[Value]) -> Result<List<Profile>, SettingsFault>
     ensures made { IfOk result (λ profiles. profiles ≡ built_in_profiles ++ map the_profile_of (filter_map as_table (map view values.now))) }
     ensures judged { IsJudged (twice_fault (filter_map as_table (map view values.now))) result }
 {

@@ -20,7 +20,7 @@ use std::alloc::Global;
 use toml::{Table, Value};
 
 /// The value at a key.
-pub fn value_at<'a>(table: &'a Table, key: &str) -> Option<&'a Value>
+pub(crate) fn value_at<'a>(table: &'a Table, key: &str) -> Option<&'a Value>
     ensures { option_map (λ value. view value.now) result ≡ get_member key.now (table_view table.now) }
 {
     table.get(key)
@@ -89,7 +89,7 @@ fn judge_unknown(alloc: Global, table: &Table, keys: &[Key]) -> Result<(), Setti
 }
 
 /// Whether the table is without a fault, or its first fault.
-pub fn judge_table(alloc: Global, table: &Table, keys: &[Key]) -> Result<(), SettingsFault>
+pub(crate) fn judge_table(alloc: Global, table: &Table, keys: &[Key]) -> Result<(), SettingsFault>
     ensures { IsJudged (first_of (table_faults (map row_of keys.now) (table_view table.now))) result }
 {
     judge_unknown(alloc, table, keys)?;

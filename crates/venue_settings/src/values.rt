@@ -14,7 +14,7 @@ use crate::table::value_at;
 use toml::{Table, Value};
 
 /// The text at a key, empty where there is none.
-pub fn text_at<'a>(table: &'a Table, key: &str) -> &'a str
+pub(crate) fn text_at<'a>(table: &'a Table, key: &str) -> &'a str
     ensures { result.now ≡ the_text_at key.now (table_view table.now) }
 {
     match value_at(table, key) {
@@ -24,7 +24,7 @@ pub fn text_at<'a>(table: &'a Table, key: &str) -> &'a str
 }
 
 /// The truth value at a key, `false` where there is none.
-pub fn truth_at(table: &Table, key: &str) -> bool
+pub(crate) fn truth_at(table: &Table, key: &str) -> bool
     ensures { result ≡ the_truth_at key.now (table_view table.now) }
 {
     match value_at(table, key) {
@@ -43,7 +43,7 @@ fn items_of(value: &Value) -> &[Value]
 }
 
 /// The items of the list at a key, none where there is no list.
-pub fn list_at<'a>(table: &'a Table, key: &str) -> &'a [Value]
+pub(crate) fn list_at<'a>(table: &'a Table, key: &str) -> &'a [Value]
     ensures { map view result.now ≡ items_at key.now (table_view table.now) }
 {
     match value_at(table, key) {
@@ -76,7 +76,7 @@ fn number_or(found: Option<i64>, low: u32, high: u32, default: u32) -> u32
 }
 
 /// The number at a key, or the default where there is no such key.
-pub fn number_at(table: &Table, key: &Key, default: u32) -> u32
+pub(crate) fn number_at(table: &Table, key: &Key, default: u32) -> u32
     requires whole { key.now.form ≡ Form.Whole }
     requires least { key.now.low ≤ default }
     requires greatest { default ≤ key.now.high }

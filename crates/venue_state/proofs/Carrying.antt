@@ -7,9 +7,9 @@ use Rattle.std.proofs.lemmas.List.{take_more}
 use Rattle.std.proofs.lemmas.List.Elements.{filter_passes, All-contains}
 use Rattle.std.proofs.lemmas.Option.{get_or_from_slice_get}
 use Rattle.venue_types.specs.declared.feature_id.FeatureId.{FeatureId}
-use Rattle.venue_nodes.specs.Identity.{is_same}
-use Rattle.venue_nodes.proofs.Identifiers.{same_id, id_same}
-use Rattle.link_graph.specs.Marking.{chosen}
+use Rattle.route_search.specs.Identity.{is_same}
+use Rattle.route_search.proofs.Identifiers.{same_id, id_same}
+use Rattle.route_search.specs.Marking.{chosen}
 use Rattle.venue_history.specs.Closed.{is_one_of}
 use Rattle.venue_history.proofs.Identities.{one_of_there, there_one_of, filter_has}
 use Rattle.venue_state.specs.Tallies.{remarked, gone_from}

@@ -5,3 +5,5 @@ pub mod Names
 pub mod Placing
 pub mod Routes
 pub mod Replying
+pub mod Readying
+pub mod Entering

@@ -7,11 +7,11 @@ use Rattle.std.proofs.lemmas.List.Elements.{All-cons, All-contains}
 use Rattle.std.proofs.lemmas.Option.{slice_get_within, get_or_from_slice_get, slice_get-map}
 use Rattle.std.specs.Option.{option_map}
 use Rattle.venue_types.specs.declared.feature_id.FeatureId.{FeatureId}
-use Rattle.venue_nodes.specs.Identity.{is_same}
-use Rattle.venue_nodes.specs.Numbering.{number_among}
-use Rattle.venue_nodes.proofs.Identifiers.{same_id, id_same}
-use Rattle.venue_nodes.proofs.Finding.{stands_there}
-use Rattle.link_graph.specs.Marking.{chosen}
+use Rattle.route_search.specs.Identity.{is_same}
+use Rattle.route_search.specs.Numbering.{number_among}
+use Rattle.route_search.proofs.Identifiers.{same_id, id_same}
+use Rattle.route_search.proofs.Finding.{stands_there}
+use Rattle.route_search.specs.Marking.{chosen}
 use Rattle.venue_history.specs.Closed.{is_one_of}
 use Rattle.venue_history.proofs.Identities.{one_of_there, there_one_of}
 use Rattle.venue_state.specs.Tallies.{remarked}

@@ -5,7 +5,7 @@ use Rattle.std.proofs.lemmas.List.{take_more}
 use Rattle.std.proofs.lemmas.Option.{slice_get_past, get_or_from_slice_get}
 use Rattle.venue_types.specs.declared.feature_id.FeatureId.{FeatureId}
 use Rattle.venue_types.specs.declared.link.Node.{Node}
-use Rattle.venue_nodes.specs.Nodes.{nodes, closables}
+use Rattle.route_search.specs.Nodes.{nodes, closables}
 use Rattle.venue_history.specs.Closed.{Version}
 use Rattle.venue_history.specs.Ways.{no_name, name_of, way_name}
 

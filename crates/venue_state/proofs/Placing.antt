@@ -12,14 +12,14 @@ use Rattle.venue_types.specs.declared.features.OpeningRow.{OpeningRow}
 use Rattle.venue_types.specs.declared.features.UnitRow.{UnitRow}
 use Rattle.venue_types.specs.declared.link.Node.{Node}
 use Rattle.venue_types.specs.declared.reply.PlaceRow.{PlaceRow}
-use Rattle.imdf_refs.specs.Laws.{OccupantsHaveAnchors}
-use Rattle.venue_nodes.specs.Identity.{is_same}
-use Rattle.venue_nodes.specs.Nodes.{nodes, node_rows, node_number, place_of, walkable_units}
-use Rattle.venue_nodes.proofs.Identifiers.{id_same}
-use Rattle.venue_nodes.proofs.Finding.{position_within}
-use Rattle.venue_nodes.proofs.Placed.{place_within}
-use Rattle.venue_build.specs.Places.{places}
-use Rattle.venue_build.specs.PlaceNumbers.{place_number}
+use Rattle.venue_history.specs.Laws.{OccupantsHaveAnchors}
+use Rattle.route_search.specs.Identity.{is_same}
+use Rattle.route_search.specs.Nodes.{nodes, node_rows, node_number, place_of, walkable_units}
+use Rattle.route_search.proofs.Identifiers.{id_same}
+use Rattle.route_search.proofs.Finding.{position_within}
+use Rattle.route_search.proofs.Placed.{place_within}
+use Rattle.venue_history.specs.Places.{places}
+use Rattle.venue_history.specs.PlaceNumbers.{place_number}
 use Rattle.venue_history.specs.Answers.{place_row}
 use Rattle.venue_state.proofs.Marking.{tested}
 

@@ -6,11 +6,11 @@ use Rattle.venue_types.specs.declared.settings.Profile.{Profile}
 use Rattle.walk_laws.specs.Walks.{IsWalk, HasWalk}
 use Rattle.venue_types.specs.declared.features.Features.{Features}
 use Rattle.venue_types.specs.declared.settings.Settings.{Settings}
-use Rattle.venue_nodes.specs.Nodes.{closables}
-use Rattle.link_graph.specs.Marking.{chosen, marked}
-use Rattle.link_graph.specs.Networks.{Network, IsNetworkOf, IsPassable}
-use Rattle.link_graph.specs.Usable.{IsUsable}
-use Rattle.link_graph.specs.Views.{link_view}
+use Rattle.route_search.specs.Nodes.{closables}
+use Rattle.route_search.specs.Marking.{chosen, marked}
+use Rattle.route_search.specs.Networks.{Network, IsNetworkOf, IsPassable}
+use Rattle.route_search.specs.Usable.{IsUsable}
+use Rattle.route_search.specs.Views.{link_view}
 use Rattle.route_search.specs.declared.found.Found.{Found}
 use Rattle.route_search.specs.declared.found.Found.TheVariants.{Route, Cut}
 use Rattle.route_search.specs.Answers.{IsAnswer}

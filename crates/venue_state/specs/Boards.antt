@@ -1,8 +1,8 @@
 -- What a board keeps, and the version that it stands for: the code's own machinery.
 use Rattle.std.specs.Prelude.{◌≡◌, ◌≤◌, length}
 use Rattle.std.specs.Arc.{arc_value}
-use Rattle.venue_nodes.specs.Nodes.{closables}
-use Rattle.link_graph.specs.Marking.{chosen}
+use Rattle.route_search.specs.Nodes.{closables}
+use Rattle.route_search.specs.Marking.{chosen}
 use Rattle.venue_history.specs.Closed.{Version}
 use Rattle.venue_state.specs.declared.stand.Stand.{Stand}
 

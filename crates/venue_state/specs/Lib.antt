@@ -1,3 +1,12 @@
 pub mod Boards
 pub mod Preparing
 pub mod Tallies
+pub mod Making
+pub use Rattle.venue_history.specs.Venues
+pub use Rattle.venue_history.specs.Report
+pub use Rattle.venue_history.specs.Versions
+pub use Rattle.venue_history.specs.declared.entry.Act
+pub use Rattle.venue_history.specs.Histories
+pub use Rattle.venue_history.specs.declared.entry.Entry
+pub use Rattle.venue_history.specs.Answers
+pub use Rattle.venue_history.specs.Closed

@@ -2,7 +2,7 @@
 use Rattle.std.specs.Prelude.{◌≡◌, ◌⊎◌, ℕ, ◌-◌, List, [], Contains, Option, Some, None, IfSome, IsTrue}
 use Rattle.std.specs.Arc.{arc_value}
 use Rattle.venue_types.specs.declared.feature_id.FeatureId.{FeatureId}
-use Rattle.venue_nodes.specs.Nodes.{closables}
+use Rattle.route_search.specs.Nodes.{closables}
 use Rattle.venue_history.specs.declared.entry.Act.{Act}
 use Rattle.venue_history.specs.declared.entry.Act.TheVariants.{Published, Closed, Reopened}
 use Rattle.venue_history.specs.declared.entry.Entry.{Entry}

@@ -1,8 +1,8 @@
 -- Marks that are counted: the code's own machinery.
 use Rattle.std.specs.Prelude.{◌≡◌, List, length, filter, Bool, not, if◌then◌else◌}
 use Rattle.venue_types.specs.declared.feature_id.FeatureId.{FeatureId}
-use Rattle.venue_nodes.specs.Identity.{is_same}
-use Rattle.link_graph.specs.Marking.{chosen}
+use Rattle.route_search.specs.Identity.{is_same}
+use Rattle.route_search.specs.Marking.{chosen}
 use Rattle.venue_history.specs.Closed.{is_one_of}
 use Rattle.venue_state.specs.declared.tally.Tally.{Tally}
 

@@ -2,19 +2,19 @@
 
 ghost use Rattle.std.specs.Prelude.{◌≡◌, ◌+◌, ◌≤◌, length, IfOk, IfSome, IfNone};
 ghost use Rattle.std.specs.Arc.{arc_value};
-ghost use Rattle.venue_nodes.specs.Nodes.{closables};
-ghost use Rattle.link_graph.specs.Graphs.{network};
-ghost use Rattle.link_graph.specs.Marking.{chosen};
-ghost use Rattle.link_graph.specs.Networks.{IsNetworkOf};
+ghost use Rattle.route_search.specs.Nodes.{closables};
+ghost use Rattle.route_search.specs.Graphs.{network};
+ghost use Rattle.route_search.specs.Marking.{chosen};
+ghost use Rattle.route_search.specs.Networks.{IsNetworkOf};
 ghost use Rattle.venue_history.specs.Versions.{opening};
 ghost use Rattle.venue_state.specs.Boards.{IsStand, version_of};
 
 use crate::stand::Stand;
-use link_graph::{Graph, Marks};
+use route_search::{Graph, Marks};
 use std::alloc::Global;
 use std::marker::Model;
 use std::sync::Arc;
-use venue_build::Venue;
+use venue_history::Venue;
 use venue_types::{OutOfMemory, Settings};
 
 /// One version of a venue, to be asked. It is one handle to what it keeps, which several boards may share.

@@ -1,21 +1,24 @@
 //! One version of a venue that can be asked, and changes that are made ready beside it.
 #![tactic(auto)]
 
-mod asking;
+mod act_checks;
+mod base_folders;
 mod board;
-mod closing;
-mod following;
-mod judging;
-mod naming;
+mod board_after;
+mod changes;
+mod closures;
+mod names;
+mod preparation;
 mod prepared;
-mod preparing;
-mod routing;
+mod questions;
 mod stand;
 mod tally;
-#[cfg(test)]
-mod tests;
+mod trips;
 mod unready;
 
+pub use base_folders::BaseFolders;
 pub use board::Board;
+pub use changes::{Outcome, ready_change};
 pub use prepared::Prepared;
 pub use unready::Unready;
+pub use venue_history::{Act, Entry, Venue, entry_law, every_venue, number_law};

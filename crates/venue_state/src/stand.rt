@@ -1,8 +1,8 @@
 //! What a board keeps.
 
-use link_graph::Marks;
+use route_search::Marks;
 use std::sync::Arc;
-use venue_build::Venue;
+use venue_history::Venue;
 use venue_types::Settings;
 
 /// A version, with marks for what is closed by the numbers of the venue's graph.

@@ -1,12 +1,12 @@
 //! Marks, with their count.
 
 ghost use Rattle.std.specs.Prelude.{◌≡◌};
-ghost use Rattle.link_graph.specs.Graphs.{network};
-ghost use Rattle.link_graph.specs.Marking.{chosen};
+ghost use Rattle.route_search.specs.Graphs.{network};
+ghost use Rattle.route_search.specs.Marking.{chosen};
 ghost use Rattle.venue_history.specs.Closed.{is_one_of};
 ghost use Rattle.venue_state.specs.Tallies.{IsTally, remarked};
 
-use link_graph::{Graph, Marks};
+use route_search::{Graph, Marks};
 use venue_types::FeatureId;
 
 /// Marks for what can be closed, and how many say that it is.

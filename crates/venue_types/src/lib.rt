@@ -6,6 +6,7 @@ mod feature_id;
 mod features;
 mod files;
 mod finding;
+mod folder_file;
 mod kind;
 mod link;
 mod list;
@@ -15,8 +16,6 @@ mod query;
 mod reply;
 mod room;
 mod settings;
-#[cfg(test)]
-mod tests;
 mod text;
 
 pub use bytes::Bytes;
@@ -27,6 +26,7 @@ pub use features::{
 };
 pub use files::{Files, Slot};
 pub use finding::{Finding, Note, Report};
+pub use folder_file::{ALL_FILES, File, Geometry, feature_files, file_numbers_law, file_of_type};
 pub use kind::{Class, Kind};
 pub use link::{Link, LinkFacts, Node, Potential, Touches};
 pub use list::List;

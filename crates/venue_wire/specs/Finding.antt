@@ -2,8 +2,8 @@
 use Rattle.std.specs.Prelude.{◌≡◌, ℕ, Bool, List, [], ◌∷◌, flat_map, if◌then◌else◌, bytes_eq}
 use Rattle.std.specs.Cow.{cow_str_bytes}
 use Rattle.venue_wire.specs.Queries.{text_of}
-use Rattle.venue_wire.specs.declared.finding.Sought.{Sought}
-use Rattle.venue_wire.specs.declared.finding.Sought.TheVariants.{Absent, Once, Several}
+use Rattle.venue_wire.specs.declared.query_pairs.Sought.{Sought}
+use Rattle.venue_wire.specs.declared.query_pairs.Sought.TheVariants.{Absent, Once, Several}
 
 -- the pair's name stands for this key
 abbrev pub is_pair_of : List ℕ → List ℕ × List ℕ → Bool

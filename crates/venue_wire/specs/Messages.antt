@@ -1,4 +1,4 @@
--- What a framed message asks for, and what stands at the front of some bytes.
+-- What a framed message asks for, and how some bytes begin.
 use Rattle.std.specs.Prelude.{◌≡◌, ◌<◌, length, ℕ, Bool, false, not, List, [], ◌∷◌, codes, if◌then◌else◌, Option, Some, None, bytes_eq}
 use Rattle.std.specs.List.{list_any}
 use Rattle.http1.specs.Fields.{values_named}

@@ -1,4 +1,4 @@
--- What an answer says beside what stands at the front.
+-- What an answer says beside the message with which the bytes begin.
 use Rattle.std.specs.Prelude.{ℕ, ⊤}
 use Rattle.venue_wire.specs.declared.messages.Taken.{Taken}
 

@@ -15,7 +15,7 @@ use std::alloc::Global;
 use venue_types::{Change, FeatureId, OutOfMemory, Text};
 use wire_frames::Refusal;
 
-/// The value of a body, if it is one.
+// The value of a body, if it is one.
 fn value_in(alloc: Global, body: &[u8]) -> Result<Option<Value>, OutOfMemory>
     ensures read { IfOk result (λ found. IsReadAs body.now found) }
     ensures memory { OnErr result (0 < length body.now) }
@@ -38,7 +38,7 @@ fn text_in<'v>(value: &'v Value, name: &str) -> Option<&'v str>
     value.get(name)?.as_str()
 }
 
-/// The feature, and how it is to stand.
+// The feature, and how it is to stand.
 fn closure_in(value: &Value) -> Option<Change>
     ensures { result ≡ closure_in (view value.now) }
 {
@@ -47,7 +47,7 @@ fn closure_in(value: &Value) -> Option<Change>
     Some(Change::Closure { feature, closed })
 }
 
-/// The folder to be published. A refusal takes no memory.
+// The folder to be published. A refusal takes no memory.
 fn publish_in(alloc: Global, value: &Value) -> Result<Option<Change>, OutOfMemory>
     ensures value { IfOk result (λ change. change ≡ publish_in (view value.now)) }
     ensures memory { OnErr result (is_some (publish_in (view value.now)) ≡ true) }
@@ -62,7 +62,7 @@ fn publish_in(alloc: Global, value: &Value) -> Result<Option<Change>, OutOfMemor
     Ok(Some(Change::Publish { folder }))
 }
 
-/// What a value asks of a path. A refusal takes no memory.
+// What a value asks of a path. A refusal takes no memory.
 fn change_in(alloc: Global, path: Path, value: &Value) -> Result<Option<Change>, OutOfMemory>
     ensures value { IfOk result (λ change. change ≡ change_in path (view value.now)) }
     ensures memory { OnErr result (is_some (change_in path (view value.now)) ≡ true) }
@@ -74,7 +74,7 @@ fn change_in(alloc: Global, path: Path, value: &Value) -> Result<Option<Change>,
     }
 }
 
-/// What a body asks of a path, if it asks for something.
+// What a body asks of a path, if it asks for something.
 fn change_of(alloc: Global, path: Path, body: &[u8]) -> Result<Option<Change>, OutOfMemory>
     ensures some { IfOk result (λ found. IfSome found (λ change. AsksChange path body.now change)) }
     ensures none { IfOk result (λ found. IfNone found ((change : Change) → ¬ AsksChange path body.now change)) }

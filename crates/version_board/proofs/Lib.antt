@@ -1,5 +1,1 @@
-mod Answered
-mod Changed
-pub mod Readying
-pub mod Entering
 pub mod Serving

@@ -5,12 +5,12 @@ use Rattle.venue_types.specs.declared.reply.Reply.{Reply}
 use Rattle.venue_types.specs.declared.reply.Reply.TheVariants as reply
 use Rattle.venue_ports.specs.Causes.{Rose}
 use Rattle.venue_ports.specs.Files.{StoredFile}
-use Rattle.venue_history.specs.declared.entry.Entry.{Entry}
-use Rattle.venue_history.specs.Closed.{Version}
-use Rattle.venue_history.specs.Histories.{Replays}
-use Rattle.venue_history.specs.Replies.{told, IsOutsideFault}
-use Rattle.version_board.specs.Making.{shelf_of, CountsFault}
-use Rattle.version_board.proofs.Entering.{begun}
+use Rattle.venue_hall.specs.Entry.{Entry}
+use Rattle.venue_hall.specs.Closed.{Version}
+use Rattle.venue_hall.specs.Histories.{Replays}
+use Rattle.venue_hall.specs.Replies.{told, IsOutsideFault}
+use Rattle.board_copies.specs.Making.{shelf_of, CountsFault}
+use Rattle.board_copies.proofs.Entering.{begun}
 
 none_behind : (xs : List Entry) → xs ++ [] ≡ xs
 none_behind [] = refl

@@ -1,7 +1,7 @@
 -- The hall of one thread, as its contracts see it.
 use Rattle.venue_ports.specs.declared.folders.Folders.{Ghosts}
 use Rattle.board_copies.specs.Stamps.{entries_of}
-use Rattle.version_board.specs.Facts.{Facts}
+use Rattle.venue_hall.specs.Facts.{Facts}
 use Rattle.version_board.specs.OneThread.{one_thread}
 use Rattle.version_board.specs.declared.alone.Alone.{Alone}
 

@@ -3,11 +3,11 @@ use Rattle.std.specs.Prelude.{ℕ, ◌-◌, List, [], ◌∷◌, Option, length}
 use Rattle.std.specs.declared.alloc.Global.{Global}
 use Rattle.std.specs.declared.sync.Arc.{Arc}
 use Rattle.venue_ports.specs.Files.{StoredFile}
-use Rattle.venue_build.specs.Venues.{SeenVenue as Venue}
-use Rattle.venue_history.specs.declared.entry.Act.TheVariants.{Published}
-use Rattle.venue_history.specs.declared.entry.Entry.{Entry}
-use Rattle.version_board.specs.Facts.{Facts}
-use Rattle.version_board.specs.Making.{shelf_of}
+use Rattle.venue_hall.specs.Venues.{SeenVenue as Venue}
+use Rattle.venue_hall.specs.Act.TheVariants.{Published}
+use Rattle.venue_hall.specs.Entry.{Entry}
+use Rattle.venue_hall.specs.Facts.{Facts}
+use Rattle.board_copies.specs.Making.{shelf_of}
 
 -- it sees all entries, of which it made all but the first, over folders that tell these files below a base and failed so often
 abbrev pub one_thread : Option (List StoredFile) → List ℕ → List Entry → ℕ → ℕ → Facts
@@ -20,7 +20,3 @@ one_thread stored base entries faults looks = record {
   faults = faults;
   looks = looks;
 }
-
--- the history that a venue opens: its publication, by worker 0
-abbrev pub opening_history : Arc Venue Global → List Entry
-opening_history venue = record { worker = 0; act = Published venue } ∷ []

@@ -4,25 +4,21 @@ ghost use Rattle.std.specs.Prelude.{◌≡◌, ◌+◌, ◌≤◌, [], ◌∷◌
 ghost use Rattle.std.specs.Arc.{arc_value};
 ghost use mathlib.Core.List.{IsPrefix};
 ghost use Rattle.venue_ports.specs.Causes.{Rose};
-ghost use Rattle.venue_history.specs.Changes.{Changes};
-ghost use Rattle.venue_history.specs.Histories.{IsLegal};
-ghost use Rattle.venue_history.specs.Replies.{told, IsOutsideFault};
-ghost use Rattle.venue_history.specs.Versions.{MayFollow, after};
+ghost use Rattle.venue_hall.specs.Changes.{Changes};
+ghost use Rattle.venue_hall.specs.Histories.{IsLegal};
+ghost use Rattle.venue_hall.specs.Replies.{told, IsOutsideFault};
+ghost use Rattle.venue_hall.specs.Versions.{MayFollow, after};
 ghost use Rattle.board_copies.specs.Stamps.{entries_of};
-ghost use Rattle.version_board.specs.Facts.{IsSameHall, IsChanged};
-ghost use Rattle.version_board.specs.OneThread.{one_thread, opening_history};
-ghost use Rattle.version_board.specs.Making.{shelf_of, CountsFault};
+ghost use Rattle.venue_hall.specs.Facts.{IsSameHall, IsChanged};
+ghost use Rattle.version_board.specs.OneThread.{one_thread};
+ghost use Rattle.venue_hall.specs.Openings.{opening_history};
+ghost use Rattle.board_copies.specs.Making.{shelf_of, CountsFault};
 
-use crate::hall::{Asks, Hall};
-use crate::making::{Outcome, ready_change};
-use crate::reader::Reader;
-use board_copies::{Held, Roll};
+use board_copies::{BaseFolders, Held, Outcome, Prepared, Roll, ready_change};
 use std::alloc::Global;
 use std::sync::Arc;
-use venue_build::Venue;
-use venue_history::{change_law, number_law, version_law};
+use venue_hall::{Asks, Hall, Unopened, Venue, change_law, number_law, version_law};
 use venue_ports::Folders;
-use venue_state::Prepared;
 use venue_types::{Change, OutOfMemory, Query, Reply, Settings, Text};
 
 /// One history that one thread serves: it answers at the newest version, and whatever it makes it sees at once. Of its entries it keeps
@@ -31,17 +27,11 @@ use venue_types::{Change, OutOfMemory, Query, Reply, Settings, Text};
 pub struct Alone<F: Folders> {
     held: Held,
     roll: Roll,
-    reader: Reader<F>,
+    reader: BaseFolders<F>,
     settings: Arc<Settings>,
     looks: u64,
     alloc: Global,
     ghost settings_are: { arc_value settings ≡ held.board.settings },
-}
-
-/// No hall was opened, since memory ran out. The folders come back.
-#[derive(Drop)]
-pub struct Unopened<F> {
-    pub folders: F,
 }
 
 // The board with which a venue opens a history.
@@ -80,7 +70,7 @@ impl<F: Folders> Alone<F> {
             Ok(held) => Ok(Alone {
                 held,
                 roll,
-                reader: Reader { folders, base },
+                reader: BaseFolders { folders, base },
                 settings,
                 looks: 0,
                 alloc,
@@ -94,7 +84,7 @@ impl<F: Folders> Alone<F> {
         ensures { result ≡ folders_of self }
     {
         let Alone { reader, .. } = self;
-        let Reader { folders, .. } = reader;
+        let BaseFolders { folders, .. } = reader;
         folders
     }
 

@@ -2,15 +2,10 @@
 #![tactic(auto)]
 
 mod alone;
-mod hall;
-mod laws;
-mod making;
-mod reader;
-#[cfg(test)]
-mod tests;
 
-pub use alone::{Alone, Unopened};
-pub use hall::{Asks, Hall};
-pub use laws::{answered_law, changed_law};
-pub use making::{Outcome, ready_change};
-pub use reader::Reader;
+pub use alone::Alone;
+pub use board_copies::{BaseFolders, Outcome, ready_change};
+pub use venue_hall::{
+    Asks, Built, Hall, Unopened, Venue, answered_law, build, change_law, changed_law, entry_law,
+    every_venue, legal_law, number_law,
+};

@@ -2,11 +2,11 @@
 use Rattle.std.proofs.Common.{◌≡◌, ℕ, zero, suc, ◌+◌, ◌<◌, ◌≤◌, Bool, true, false, if◌then◌else◌, List, [], ◌∷◌, ◌++◌, length, take, refl, sym, ap, ◌∙◌, arith, length-append, Option, Some, None}
 use Rattle.httparse.specs.Grammar.{RequestHead, print_request, ReadsRequest}
 use Rattle.wire_frames.specs.declared.heads.Extent.{Extent}
-use Rattle.wire_frames.specs.Heads.{Place, step, ends_head, ends_line, extent_from, head_extent}
+use Rattle.wire_frames.specs.Heads.{HeadState, step, ends_head, ends_line, extent_from, head_extent}
 use Rattle.wire_frames.proofs.HeadLemmas.{extent_of, request_extent}
 
 -- what an extent that was found says of the bytes
-pub record IsFound (place : Place) (n k : ℕ) (bytes : List ℕ) (e : Extent) : Type 0 where
+pub record IsFound (place : HeadState) (n k : ℕ) (bytes : List ℕ) (e : Extent) : Type 0 where
   pub more : n < e.length
   pub fits : e.length ≤ n + length bytes
   pub cut : (t : ℕ) → e.length ≡ n + t → extent_from place n k (take t bytes) ≡ Some e
@@ -19,7 +19,7 @@ abbrev pub lines_of : Option Extent → ℕ
 lines_of None = 0
 lines_of (Some e) = e.lines
 
-found_cons : (place : Place) (n k b : ℕ) (bytes : List ℕ) (e : Extent) (test : Bool) → ends_head place b ≡ test
+found_cons : (place : HeadState) (n k b : ℕ) (bytes : List ℕ) (e : Extent) (test : Bool) → ends_head place b ≡ test
     → (extent_from (step place b) (n + 1) (if ends_line place b then k + 1 else k) bytes ≡ Some e
     → IsFound (step place b) (n + 1) (if ends_line place b then k + 1 else k) bytes e)
     → extent_from place n k (b ∷ bytes) ≡ Some e → IsFound place n k (b ∷ bytes) e
@@ -54,7 +54,7 @@ found_cons place n k b bytes e false t later is =
         else extent_from (step place b) (n + 1) (if ends_line place b then k + 1 else k) (take u bytes)) t
         ∙ more.cut u (omega arith)
 
-pub found : (place : Place) (n k : ℕ) (bytes : List ℕ) (e : Extent) → extent_from place n k bytes ≡ Some e
+pub found : (place : HeadState) (n k : ℕ) (bytes : List ℕ) (e : Extent) → extent_from place n k bytes ≡ Some e
     → IsFound place n k bytes e
 found place n k [] e is = absurd (cc)
 found place n k (b ∷ bytes) e is =
@@ -78,7 +78,7 @@ whole_head head rest lines h extent reads =
     empty (x ∷ xs) e = absurd (omega arith)
 
 -- a head that ends stays where it is, whatever bytes follow
-pub extent_more : (place : Place) (n k : ℕ) (xs ys : List ℕ) (e : Extent) → extent_from place n k xs ≡ Some e
+pub extent_more : (place : HeadState) (n k : ℕ) (xs ys : List ℕ) (e : Extent) → extent_from place n k xs ≡ Some e
     → extent_from place n k (xs ++ ys) ≡ Some e
 extent_more place n k [] ys e is = absurd (cc)
 extent_more place n k (b ∷ xs) ys e is =

@@ -3,7 +3,7 @@ use Rattle.std.proofs.Common.{◌≡◌, ℕ, ◌+◌, ◌<◌, ◌≤◌, inl, 
 use Rattle.std.proofs.lemmas.Bool.{cases_lt}
 use Rattle.httparse.specs.Grammar.{RequestHead}
 use Rattle.wire_frames.specs.declared.fields.Named.{Named}
-use Rattle.wire_frames.specs.declared.framing.Framing.{Framing}
+use Rattle.wire_frames.specs.declared.frames.Framing.{Framing}
 use Rattle.wire_frames.specs.declared.heads.Extent.{Extent}
 use Rattle.wire_frames.specs.declared.parts.Parts.{Parts}
 use Rattle.wire_frames.specs.declared.refusals.Refusal.{Refusal}

@@ -1,7 +1,7 @@
 -- A line at a time the reading of a head comes to the same as a byte at a time.
 use Rattle.std.proofs.Common.{◌≡◌, ℕ, zero, suc, ◌+◌, Bool, true, false, not, ◌==◌, List, [], ◌∷◌, ◌++◌, length, refl, sym, ap, ◌∙◌, arith, length-append, add-one, None}
 use Rattle.std.proofs.lemmas.List.Elements.{All-head, All-tail}
-use Rattle.wire_frames.specs.Heads.{Place, front, front_return, line, fresh, fresh_return, extent_from}
+use Rattle.wire_frames.specs.Heads.{HeadState, front, front_return, line, fresh, fresh_return, extent_from}
 use Rattle.wire_frames.specs.Lines.{IsUnbroken, is_blank_line, place_behind}
 use Rattle.wire_frames.proofs.HeadLemmas.{line_goes}
 
@@ -13,15 +13,15 @@ no_feed b is = by_test (b == 10) is
     by_test false e = refl
 
 -- without a LF no head ends
-pub no_end : (place : Place) (n k : ℕ) (bytes : List ℕ) → IsUnbroken bytes → extent_from place n k bytes ≡ None
+pub no_end : (place : HeadState) (n k : ℕ) (bytes : List ℕ) → IsUnbroken bytes → extent_from place n k bytes ≡ None
 no_end place n k [] all = refl
 no_end place n k (b ∷ bytes) all =
     let P : ℕ → Type 0 = λ v. not (v == 10) ≡ true in
     let ne = no_feed b (All-head P b bytes all) in
-    let later = λ (p : Place) (j : ℕ). no_end p (n + 1) j bytes (All-tail P b bytes all) in
+    let later = λ (p : HeadState) (j : ℕ). no_end p (n + 1) j bytes (All-tail P b bytes all) in
     by_place place ne later
   where
-    by_place : (p : Place) → (b == 10) ≡ false → ((q : Place) (j : ℕ) → extent_from q (n + 1) j bytes ≡ None)
+    by_place : (p : HeadState) → (b == 10) ≡ false → ((q : HeadState) (j : ℕ) → extent_from q (n + 1) j bytes ≡ None)
         → extent_from p n k (b ∷ bytes) ≡ None
     by_place front ne later = later _ _
     by_place front_return ne later = later _ _

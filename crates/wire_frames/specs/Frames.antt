@@ -1,4 +1,4 @@
--- What stands at the front of some bytes: less than a message, a head that is refused, or the frame of a message (RFC 9112, sections 2.2, 3, 5 and 6).
+-- How some bytes begin: less than a message, a head that is refused, or the frame of a message (RFC 9112, sections 2.2, 3, 5 and 6).
 use Rattle.std.specs.Prelude.{◌≡◌, ℕ, ◌+◌, ◌<◌, ◌≤◌, ◌⊎◌, Bool, List, [], length, take, drop, Some, None}
 use Rattle.httparse.specs.Grammar.{RequestHead, ReadsRequest}
 use Rattle.wire_frames.specs.declared.heads.Extent.{Extent}

@@ -5,8 +5,8 @@ use Rattle.http1.specs.Fields.{values_named}
 use Rattle.wire_frames.specs.declared.heads.Extent.{Extent}
 use Rattle.wire_frames.specs.declared.fields.Named.{Named}
 use Rattle.wire_frames.specs.declared.fields.Named.TheVariants.{Absent, Once, Several}
-use Rattle.wire_frames.specs.declared.framing.Framed.{Framed}
-use Rattle.wire_frames.specs.declared.framing.Framing.{Framing}
+use Rattle.wire_frames.specs.declared.frames.Framed.{Framed}
+use Rattle.wire_frames.specs.declared.frames.Framing.{Framing}
 use Rattle.wire_frames.specs.declared.refusals.Refusal.{Refusal}
 use Rattle.wire_frames.specs.Frames.{IsShort, HasHead, PlainFrame}
 

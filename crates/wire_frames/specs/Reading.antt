@@ -6,8 +6,8 @@ use Rattle.httparse.specs.Grammar.{RequestHead}
 use Rattle.httparse.specs.declared.borrowed.Request.{Request}
 use Rattle.wire_frames.specs.declared.refusals.Refusal.{Refusal}
 use Rattle.wire_frames.specs.declared.refusals.Refusal.TheVariants.{HeadTooLarge, BadHead, TransferCoding, BodyTooLarge, NoPath, Method, NotStaff, BadBody, BadQuery}
-use Rattle.wire_frames.specs.declared.framing.Framed.{Framed}
-use Rattle.wire_frames.specs.declared.framing.Framing.{Framing}
+use Rattle.wire_frames.specs.declared.frames.Framed.{Framed}
+use Rattle.wire_frames.specs.declared.frames.Framing.{Framing}
 use Rattle.wire_frames.specs.declared.parts.Parts.{Parts}
 use Rattle.wire_frames.specs.Fields.{body_length, fields_of, closes}
 use Rattle.wire_frames.specs.Frames.{IsPlainHead}

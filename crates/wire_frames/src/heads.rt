@@ -1,4 +1,4 @@
-//! Where the head at the front of some bytes ends.
+//! Where the head with which some bytes begin ends.
 
 ghost use Rattle.std.specs.Prelude.{◌≡◌, ◌∷◌, ◌++◌, IfSome, IfNone};
 ghost use Rattle.wire_frames.specs.Heads.{head_extent};
@@ -13,7 +13,7 @@ pub struct Extent {
     pub lines: usize,
 }
 
-/// The front line without its LF, and what stands behind that.
+// The front line without its LF, and what stands behind that.
 fn cut_line(bytes: &[u8]) -> Option<(&[u8], &[u8])>
     ensures cut { IfSome result (λ cut. IsUnbroken cut.0.now × (bytes.now ≡ cut.0.now ++ 10 ∷ cut.1.now)) }
     ensures none { IfNone result (IsUnbroken bytes.now) }

@@ -2,16 +2,14 @@
 #![tactic(auto)]
 
 mod fields;
-mod framing;
+mod frames;
 mod heads;
 mod laws;
 mod parts;
 mod refusals;
-#[cfg(test)]
-mod tests;
 
 pub use fields::Named;
-pub use framing::{Framed, Framing, frame};
+pub use frames::{Framed, Framing, frame};
 pub use heads::{Extent, find_head};
 pub use laws::{front_more_law, head_extent_law, one_front_law, short_law};
 pub use refusals::{Methods, Refusal};

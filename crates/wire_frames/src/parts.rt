@@ -29,7 +29,7 @@ pub(crate) struct Parts<'b> {
     pub(crate) close: bool,
 }
 
-/// The length of the body that a head of this version and these fields frames.
+// The length of the body that a head of this version and these fields frames.
 fn body_size(minor: u8, headers: &[Header<'_>]) -> Result<usize, Refusal>
     ensures ok { IfOk result (λ body. FrameBody minor (map header_parts headers.now) body) }
     ensures err { IfErr result (λ refusal. RefuseHead minor (map header_parts headers.now) refusal) }
@@ -75,7 +75,7 @@ fn judge<'b>(request: &Request<'_, 'b>) -> Result<Parts<'b>, Refusal>
     })
 }
 
-/// What a whole head of so many lines comes to, read into this room.
+// What a whole head of so many lines comes to, read into this room.
 fn read_into<'b>(
     head: &'b [u8],
     lines: usize,

@@ -1,10 +1,10 @@
 -- The statuses that replies have, for private clauses.
 use Rattle.std.specs.Prelude.{ℕ}
-use Rattle.wire_replies.specs.declared.heads.Status.{Status}
-use Rattle.wire_replies.specs.declared.heads.Status.TheVariants as status
+use Rattle.wire_replies.specs.declared.heads.HttpStatus.{HttpStatus}
+use Rattle.wire_replies.specs.declared.heads.HttpStatus.TheVariants as status
 
 -- the code of a status
-abbrev pub status_code : Status → ℕ
+abbrev pub status_code : HttpStatus → ℕ
 status_code status.Ok = 200
 status_code status.BadRequest = 400
 status_code status.Forbidden = 403

@@ -10,7 +10,7 @@ use json::Writer;
 use std::alloc::{AllocError, Global};
 use venue_types::{FeatureId, Finding, List, PlaceRow, Report, Which};
 
-/// How many findings are told at most.
+// How many findings are told at most.
 const SHOWN: usize = 500;
 
 /// A refusal that is told by its name alone.
@@ -146,14 +146,14 @@ pub(crate) fn write_no_place(
     end(out)
 }
 
-/// As many of the first findings as are told.
+// As many of the first findings as are told.
 fn first_findings(findings: &[Finding]) -> &[Finding]
     ensures { result.now ≡ take 500 findings.now }
 {
     &findings[..SHOWN.min(findings.len())]
 }
 
-/// The findings of a report that are told.
+// The findings of a report that are told.
 #[derive(Clone, Copy)]
 struct Told<'r>(&'r List<Finding>);
 

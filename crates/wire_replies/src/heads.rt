@@ -9,7 +9,7 @@ use wire_frames::{Methods, Refusal};
 
 /// The status of a reply (RFC 9110, section 15).
 #[derive(Clone, Copy)]
-pub(crate) enum Status {
+pub(crate) enum HttpStatus {
     Ok,
     BadRequest,
     Forbidden,
@@ -24,42 +24,42 @@ pub(crate) enum Status {
     Unavailable,
 }
 
-pub(crate) fn reply_status(reply: &Reply) -> Status
+pub(crate) fn reply_status(reply: &Reply) -> HttpStatus
     ensures { status_code result ≡ heads.reply_status reply.now }
 {
     match reply {
-        Reply::Version { .. } => Status::Ok,
-        Reply::Places { .. } => Status::Ok,
-        Reply::Place { .. } => Status::Ok,
-        Reply::Closures { .. } => Status::Ok,
-        Reply::Route { .. } => Status::Ok,
-        Reply::NoRoute { .. } => Status::Ok,
-        Reply::ClosureDone { .. } => Status::Ok,
-        Reply::Published { .. } => Status::Ok,
-        Reply::Ahead { .. } => Status::Conflict,
-        Reply::NoProfile => Status::NotFound,
-        Reply::NoPlace(_) => Status::NotFound,
-        Reply::NoFeature => Status::NotFound,
-        Reply::FolderFault { .. } => Status::BadGateway,
-        Reply::Rejected(_) => Status::Unprocessable,
-        Reply::HistoryFull { .. } => Status::Conflict,
-        Reply::OutOfMemory => Status::Unavailable,
+        Reply::Version { .. } => HttpStatus::Ok,
+        Reply::Places { .. } => HttpStatus::Ok,
+        Reply::Place { .. } => HttpStatus::Ok,
+        Reply::Closures { .. } => HttpStatus::Ok,
+        Reply::Route { .. } => HttpStatus::Ok,
+        Reply::NoRoute { .. } => HttpStatus::Ok,
+        Reply::ClosureDone { .. } => HttpStatus::Ok,
+        Reply::Published { .. } => HttpStatus::Ok,
+        Reply::Ahead { .. } => HttpStatus::Conflict,
+        Reply::NoProfile => HttpStatus::NotFound,
+        Reply::NoPlace(_) => HttpStatus::NotFound,
+        Reply::NoFeature => HttpStatus::NotFound,
+        Reply::FolderFault { .. } => HttpStatus::BadGateway,
+        Reply::Rejected(_) => HttpStatus::Unprocessable,
+        Reply::HistoryFull { .. } => HttpStatus::Conflict,
+        Reply::OutOfMemory => HttpStatus::Unavailable,
     }
 }
 
-pub(crate) fn refusal_status(refusal: Refusal) -> Status
+pub(crate) fn refusal_status(refusal: Refusal) -> HttpStatus
     ensures { status_code result ≡ heads.refusal_status refusal }
 {
     match refusal {
-        Refusal::HeadTooLarge => Status::HeadTooLarge,
-        Refusal::BadHead => Status::BadRequest,
-        Refusal::TransferCoding => Status::NotImplemented,
-        Refusal::BodyTooLarge => Status::ContentTooLarge,
-        Refusal::NoPath => Status::NotFound,
-        Refusal::Method(_) => Status::MethodNotAllowed,
-        Refusal::NotStaff => Status::Forbidden,
-        Refusal::BadBody => Status::BadRequest,
-        Refusal::BadQuery => Status::BadRequest,
+        Refusal::HeadTooLarge => HttpStatus::HeadTooLarge,
+        Refusal::BadHead => HttpStatus::BadRequest,
+        Refusal::TransferCoding => HttpStatus::NotImplemented,
+        Refusal::BodyTooLarge => HttpStatus::ContentTooLarge,
+        Refusal::NoPath => HttpStatus::NotFound,
+        Refusal::Method(_) => HttpStatus::MethodNotAllowed,
+        Refusal::NotStaff => HttpStatus::Forbidden,
+        Refusal::BadBody => HttpStatus::BadRequest,
+        Refusal::BadQuery => HttpStatus::BadRequest,
     }
 }
 
@@ -98,22 +98,22 @@ pub(crate) fn allowed(refusal: Refusal) -> Option<Methods>
 }
 
 /// The first line of a head.
-pub(crate) fn status_line(status: Status) -> &'static str
+pub(crate) fn status_line(status: HttpStatus) -> &'static str
     ensures { result.now ≡ heads.status_line (status_code status) }
 {
     match status {
-        Status::Ok => "HTTP/1.1 200 OK\r\n",
-        Status::BadRequest => "HTTP/1.1 400 Bad Request\r\n",
-        Status::Forbidden => "HTTP/1.1 403 Forbidden\r\n",
-        Status::NotFound => "HTTP/1.1 404 Not Found\r\n",
-        Status::MethodNotAllowed => "HTTP/1.1 405 Method Not Allowed\r\n",
-        Status::Conflict => "HTTP/1.1 409 Conflict\r\n",
-        Status::ContentTooLarge => "HTTP/1.1 413 Payload Too Large\r\n",
-        Status::Unprocessable => "HTTP/1.1 422 Unprocessable Entity\r\n",
-        Status::HeadTooLarge => "HTTP/1.1 431 Request Header Fields Too Large\r\n",
-        Status::NotImplemented => "HTTP/1.1 501 Not Implemented\r\n",
-        Status::BadGateway => "HTTP/1.1 502 Bad Gateway\r\n",
-        Status::Unavailable => "HTTP/1.1 503 Service Unavailable\r\n",
+        HttpStatus::Ok => "HTTP/1.1 200 OK\r\n",
+        HttpStatus::BadRequest => "HTTP/1.1 400 Bad Request\r\n",
+        HttpStatus::Forbidden => "HTTP/1.1 403 Forbidden\r\n",
+        HttpStatus::NotFound => "HTTP/1.1 404 Not Found\r\n",
+        HttpStatus::MethodNotAllowed => "HTTP/1.1 405 Method Not Allowed\r\n",
+        HttpStatus::Conflict => "HTTP/1.1 409 Conflict\r\n",
+        HttpStatus::ContentTooLarge => "HTTP/1.1 413 Payload Too Large\r\n",
+        HttpStatus::Unprocessable => "HTTP/1.1 422 Unprocessable Entity\r\n",
+        HttpStatus::HeadTooLarge => "HTTP/1.1 431 Request Header Fields Too Large\r\n",
+        HttpStatus::NotImplemented => "HTTP/1.1 501 Not Implemented\r\n",
+        HttpStatus::BadGateway => "HTTP/1.1 502 Bad Gateway\r\n",
+        HttpStatus::Unavailable => "HTTP/1.1 503 Service Unavailable\r\n",
     }
 }
 

@@ -12,7 +12,7 @@ use std::alloc::{AllocError, Global};
 use std::collections::BTreeMap;
 use venue_types::{Label, List};
 
-/// Puts in a text by its tag, in place of an earlier one of that tag.
+// Puts in a text by its tag, in place of an earlier one of that tag.
 fn put(texts: &mut BTreeMap<String, String>, tag: String, text: String) -> Result<(), AllocError>
     ensures { OnOk result (text_members texts.new.entries
         ≡ put (string_bytes tag) (string (string_bytes text)) (text_members texts.old.entries)) }
@@ -21,7 +21,7 @@ fn put(texts: &mut BTreeMap<String, String>, tag: String, text: String) -> Resul
     Ok(())
 }
 
-/// Puts in a label.
+// Puts in a label.
 fn put_label(
     alloc: Global,
     texts: &mut BTreeMap<String, String>,
@@ -35,7 +35,7 @@ fn put_label(
     put(texts, tag, text)
 }
 
-/// The texts of labels in the order of their tags, the last of each tag.
+// The texts of labels in the order of their tags, the last of each tag.
 fn texts_by_tag(alloc: Global, labels: &[Label]) -> Result<BTreeMap<String, String>, AllocError>
     ensures { IfOk result (λ texts. text_members texts.entries ≡ label_members labels.now) }
 {
@@ -46,7 +46,7 @@ fn texts_by_tag(alloc: Global, labels: &[Label]) -> Result<BTreeMap<String, Stri
     Ok(texts)
 }
 
-/// Writes the members of an object, a text for each tag.
+// Writes the members of an object, a text for each tag.
 fn write_members(
     alloc: Global,
     out: &mut Writer,
@@ -60,7 +60,7 @@ fn write_members(
     Ok(())
 }
 
-/// Writes texts by their tags.
+// Writes texts by their tags.
 fn write_texts(
     alloc: Global,
     out: &mut Writer,
@@ -79,7 +79,7 @@ fn write_null(out: &mut Writer) -> Result<(), AllocError>
     out.null()
 }
 
-/// Writes a name of one tag.
+// Writes a name of one tag.
 fn write_label(alloc: Global, out: &mut Writer, label: &Label) -> Result<(), AllocError>
     ensures { OnOk result (Adds (data_tokens (name_data (label.now ∷ []))) out.old out.new) }
 {
@@ -88,7 +88,7 @@ fn write_label(alloc: Global, out: &mut Writer, label: &Label) -> Result<(), All
     end(out)
 }
 
-/// Writes a name of several tags, which may come in any order.
+// Writes a name of several tags, which may come in any order.
 fn write_labels(alloc: Global, out: &mut Writer, labels: &[Label]) -> Result<(), AllocError>
     ensures { OnOk result (Adds (data_tokens (object (label_members labels.now))) out.old out.new) }
 {
@@ -96,7 +96,7 @@ fn write_labels(alloc: Global, out: &mut Writer, labels: &[Label]) -> Result<(),
     write_texts(alloc, out, texts)
 }
 
-/// Writes a name, or null where it is empty.
+// Writes a name, or null where it is empty.
 fn write_name(alloc: Global, out: &mut Writer, labels: &[Label]) -> Result<(), AllocError>
     ensures { OnOk result (Adds (data_tokens (name_data labels.now)) out.old out.new) }
 {

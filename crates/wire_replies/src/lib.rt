@@ -1,18 +1,16 @@
 //! The bytes of a reply: a status, its head lines and a body of compact JSON (RFC 9112; RFC 8259).
 #![tactic(auto)]
 
-mod answer;
 mod bodies;
 mod heads;
 mod labels;
 mod replies;
 mod reply;
+mod response;
 mod rows;
-#[cfg(test)]
-mod tests;
 mod walks;
 mod words;
 mod written;
 
-pub use answer::Answer;
 pub use reply::{reply_bytes, want_of_memory};
+pub use response::Response;

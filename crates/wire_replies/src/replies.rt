@@ -87,7 +87,7 @@ impl Written for Reply {
     }
 }
 
-/// Why a message is refused by itself.
+// Why a message is refused by itself.
 fn refusal_name(refusal: Refusal) -> &'static str
     ensures { result.now ≡ refusal_name refusal }
 {

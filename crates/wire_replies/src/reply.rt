@@ -3,15 +3,15 @@
 ghost use Rattle.std.specs.Prelude.{◌≡◌, IfOk};
 ghost use Rattle.serde_json.specs.Written.{compact_text};
 ghost use Rattle.venue_types.specs.declared.reply.Reply.TheVariants.{OutOfMemory as WantOfMemory};
-ghost use Rattle.wire_replies.specs.declared.answer.Answer.TheVariants.{Of, No};
+ghost use Rattle.wire_replies.specs.declared.response.Response.TheVariants.{Of, No};
 ghost use Rattle.wire_replies.specs.Replies.{message_text, reply_text};
 ghost use Rattle.wire_replies.specs.Statuses.{status_code};
 
-use crate::answer::Answer;
 use crate::heads::{
-    Status, allowed, content_lines, ends_session, last_lines, refusal_status, reply_status,
+    HttpStatus, allowed, content_lines, ends_session, last_lines, refusal_status, reply_status,
     status_line,
 };
+use crate::response::Response;
 use crate::written::Written;
 use itoa::Buffer;
 use json::Writer;
@@ -19,13 +19,13 @@ use std::alloc::{AllocError, Global};
 use venue_types::{Bytes, OutOfMemory, Reply};
 use wire_frames::{Methods, Refusal};
 
-/// More bytes than any head has.
+// More bytes than any head has.
 const HEAD_ROOM: usize = 256;
 
-/// Most bodies fit into so many bytes at once.
+// Most bodies fit into so many bytes at once.
 const BODY_ROOM: usize = 512;
 
-/// The text of a body.
+// The text of a body.
 fn body_text<T: Written>(alloc: Global, body: &T) -> Result<Vec<u8>, AllocError>
     ensures { IfOk result (λ text. text.items ≡ compact_text (T.shown body.now)) }
 {
@@ -34,10 +34,10 @@ fn body_text<T: Written>(alloc: Global, body: &T) -> Result<Vec<u8>, AllocError>
     Ok(out.into_inner())
 }
 
-/// A message around a body, in one piece of memory.
+// A message around a body, in one piece of memory.
 fn message(
     alloc: Global,
-    status: Status,
+    status: HttpStatus,
     methods: Option<Methods>,
     close: bool,
     body: &[u8],
@@ -75,24 +75,24 @@ fn refusal_message(alloc: Global, refusal: Refusal, close: bool) -> Result<Vec<u
     )
 }
 
-fn answer_message(alloc: Global, answer: &Answer, close: bool) -> Result<Vec<u8>, AllocError>
+fn response_bytes(alloc: Global, answer: &Response, close: bool) -> Result<Vec<u8>, AllocError>
     ensures { IfOk result (λ bytes. bytes.items ≡ reply_text answer.now close) }
 {
     match answer {
-        Answer::Of(reply) => reply_message(alloc, reply, close),
-        Answer::No(refusal) => refusal_message(alloc, *refusal, close),
+        Response::Of(reply) => reply_message(alloc, reply, close),
+        Response::No(refusal) => refusal_message(alloc, *refusal, close),
     }
 }
 
 /// The bytes of an answer, where the session goes on or ends. It takes time and memory by their number.
-pub fn reply_bytes(alloc: Global, answer: &Answer, close: bool) -> Result<Bytes, OutOfMemory>
+pub fn reply_bytes(alloc: Global, answer: &Response, close: bool) -> Result<Bytes, OutOfMemory>
     ensures { IfOk result (λ bytes. bytes ≡ reply_text answer.now close) }
 {
-    let bytes = answer_message(alloc, answer, close)?;
+    let bytes = response_bytes(alloc, answer, close)?;
     Ok(Bytes::from_vec(bytes))
 }
 
-/// The text of the reply that memory ran out.
+// The text of the reply that memory ran out.
 fn wants_text(close: bool) -> &'static str
     ensures { result.now ≡ reply_text (Of WantOfMemory) close }
 {

@@ -96,7 +96,7 @@ impl Written for FeatureId {
     }
 }
 
-/// How a step is passed.
+// How a step is passed.
 fn kind_name(kind: Kind) -> &'static str
     ensures { result.now ≡ kind_name kind }
 {
@@ -122,7 +122,7 @@ impl Written for Kind {
     }
 }
 
-/// What a place is.
+// What a place is.
 fn class_name(class: Class) -> &'static str
     ensures { result.now ≡ class_name class }
 {
@@ -146,7 +146,7 @@ impl Written for Class {
     }
 }
 
-/// The identifier of a question that names no place.
+// The identifier of a question that names no place.
 fn which_name(which: Which) -> &'static str
     ensures { result.now ≡ which_name which }
 {

@@ -33,21 +33,21 @@ pub(crate) fn end(out: &mut Writer) -> Result<(), AllocError>
     out.end_object()
 }
 
-/// Begins a list.
+// Begins a list.
 fn begin_list(out: &mut Writer) -> Result<(), AllocError>
     ensures { OnOk result (Adds (begin_array ∷ []) out.old out.new) }
 {
     out.begin_array()
 }
 
-/// Ends a list.
+// Ends a list.
 fn end_list(out: &mut Writer) -> Result<(), AllocError>
     ensures { OnOk result (Adds (end_array ∷ []) out.old out.new) }
 {
     out.end_array()
 }
 
-/// Writes the name of a member.
+// Writes the name of a member.
 fn name_member(out: &mut Writer, name: &str) -> Result<(), AllocError>
     ensures { OnOk result (Adds (key name.now ∷ []) out.old out.new) }
 {

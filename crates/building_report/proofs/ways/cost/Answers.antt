@@ -1,7 +1,7 @@
 use Rattle.std.proofs.Common.{◌∙◌, sym}
 use Rattle.std.proofs.lemmas.Result.{IfOk-weaker}
-use Rattle.venue_history.specs.Closed.{Version}
-use Rattle.venue_history.specs.Histories.{Replays}
+use Rattle.version_board.specs.Closed.{Version}
+use Rattle.version_board.specs.Histories.{Replays}
 use Rattle.version_board.specs.Halls.{facts_of}
 use Rattle.building_report.specs.BuildingReports.{IsNamed}
 use Rattle.building_report.specs.Costs.{IsCostBetween, IsCost}

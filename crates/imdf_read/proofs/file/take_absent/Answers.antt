@@ -1,10 +1,10 @@
 use Rattle.std.proofs.Common.{◌∙◌, rules, refl, inl, sym}
 use denote.Enum.Bare.{same_true, true_same}
 use Rattle.venue_types.specs.declared.files.Slot.TheVariants.{Absent}
-use Rattle.imdf_schema.specs.contracts.files.File.{the_type}
-use Rattle.imdf_schema.specs.declared.files.File.TheVariants as file
+use Rattle.venue_types.specs.contracts.folder_file.File.{the_type}
+use Rattle.venue_types.specs.declared.folder_file.File.TheVariants as file
 use Rattle.imdf_read.specs.declared.rules.ReadingRule.TheVariants.{V1}
-use Rattle.report_laws.proofs.Adding.{Adds-found}
+use Rattle.rule_reports.proofs.Adding.{Adds-found}
 use Rattle.imdf_read.proofs.Slots.{no_value_adds, adds_whole, absent_rules}
 use Rattle.imdf_read.proofs.file.take_absent.Goals as goal
 

@@ -1,5 +1,5 @@
 use Rattle.std.proofs.Common.{true}
-use Rattle.report_laws.proofs.Adding.{Adds-found}
+use Rattle.rule_reports.proofs.Adding.{Adds-found}
 use Rattle.imdf_read.proofs.Slots.{fault_adds, fault_notes, fault_takes}
 use Rattle.imdf_read.proofs.file.take_fault.Goals as goal
 

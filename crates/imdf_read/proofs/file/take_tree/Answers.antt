@@ -3,10 +3,10 @@ use Rattle.std.specs.Prelude.{slice_get}
 use Rattle.exact_json.specs.Json.{Json, member}
 use Rattle.exact_json.specs.View.{tree_view}
 use Rattle.imdf_schema.specs.Items.{items_in}
-use Rattle.report_laws.specs.Passes.{Adds}
+use Rattle.rule_reports.specs.Passes.{Adds}
 use Rattle.imdf_read.specs.Gathering.{FindsInItems, NotesInItems}
 use Rattle.imdf_read.specs.Taking.{TakesItems}
-use Rattle.report_laws.proofs.Adding.{Adds-found}
+use Rattle.rule_reports.proofs.Adding.{Adds-found}
 use Rattle.imdf_read.proofs.Narrow.{narrow_member, narrow_listed, narrow_item, texts_member, texts_item}
 use Rattle.imdf_read.proofs.Slots.{adds_collection, adds_not_one, value_adds, value_notes, value_takes}
 use Rattle.imdf_read.proofs.file.take_tree.Goals as goal

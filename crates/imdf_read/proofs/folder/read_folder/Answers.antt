@@ -1,7 +1,7 @@
 use Rattle.std.proofs.Common.{List, nat_lt, subst}
 use Rattle.venue_types.specs.declared.files.Slot.{Slot}
 use Rattle.imdf_read.specs.Progress.{IsUpTo, HaveRows}
-use Rattle.report_laws.proofs.Adding.{Adds-found}
+use Rattle.rule_reports.proofs.Adding.{Adds-found}
 use Rattle.imdf_read.proofs.FolderReports.{report, notes_listed, all_rows}
 use Rattle.imdf_read.proofs.folder.read_folder.Goals as goal
 

@@ -1,6 +1,6 @@
 use Rattle.std.proofs.Common.{nat_lt}
 use Rattle.exact_json.specs.View.{tree_view}
-use Rattle.report_laws.proofs.Adding.{Adds-found, on_ok}
+use Rattle.rule_reports.proofs.Adding.{Adds-found, on_ok}
 use Rattle.imdf_read.proofs.ItemRules.{geometry_adds}
 use Rattle.imdf_read.proofs.item.judge_figure.Goals as goal
 

@@ -1,6 +1,6 @@
 use Rattle.std.proofs.Common.{◌∙◌, true, sym}
 use Rattle.exact_json.specs.View.{tree_view}
-use Rattle.report_laws.proofs.Adding.{Adds-found}
+use Rattle.rule_reports.proofs.Adding.{Adds-found}
 use Rattle.imdf_read.proofs.ItemRules.{no_feature_adds}
 use Rattle.imdf_read.proofs.item.judge_item.Goals as goal
 

@@ -7,7 +7,7 @@ use Rattle.exact_json.specs.Json.{Json}
 use Rattle.exact_json.specs.View.{tree_view}
 use Rattle.imdf_read.specs.Counts.{item_positions}
 use Rattle.imdf_read.specs.Gathering.{FindsInItem, NotesInItem}
-use Rattle.report_laws.proofs.Adding.{Adds-step, Adds-end}
+use Rattle.rule_reports.proofs.Adding.{Adds-step, Adds-end}
 use Rattle.imdf_read.proofs.ItemLists.{finds_in_items, notes_in_items, map_more, more_positions, takes_all}
 use Rattle.imdf_read.proofs.items.take_items.Goals as goal
 

@@ -4,9 +4,9 @@ use Rattle.std.specs.List.{AllZip}
 use Rattle.exact_json.specs.View.{tree_view}
 use Rattle.venue_types.specs.declared.finding.Finding.{Finding}
 use Rattle.imdf_read.specs.Counts.{item_positions}
-use Rattle.report_laws.specs.Passes.{Adds}
+use Rattle.rule_reports.specs.Passes.{Adds}
 use Rattle.imdf_read.specs.Gathering.{FindsInItem, NotesInItem}
-use Rattle.report_laws.proofs.Adding.{Below}
+use Rattle.rule_reports.proofs.Adding.{Below}
 use Rattle.imdf_read.proofs.items.take_items.Given as goal
 
 -- what the items before add, their rows, and their positions

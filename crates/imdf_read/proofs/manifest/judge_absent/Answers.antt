@@ -1,5 +1,5 @@
 use Rattle.std.proofs.Common.{true}
-use Rattle.report_laws.proofs.Adding.{Adds-found, on_ok}
+use Rattle.rule_reports.proofs.Adding.{Adds-found, on_ok}
 use Rattle.imdf_read.proofs.Manifests.{absent_adds}
 use Rattle.imdf_read.proofs.manifest.judge_absent.Goals as goal
 

@@ -3,7 +3,7 @@ use Rattle.exact_json.specs.Json.{Json, depth}
 use Rattle.exact_json.specs.Grammar.{IsJson, Misread}
 use Rattle.exact_json.specs.View.{tree_view}
 use Rattle.exact_json.specs.declared.fault.JsonFault.{JsonFault}
-use Rattle.report_laws.proofs.Adding.{on_ok}
+use Rattle.rule_reports.proofs.Adding.{on_ok}
 use Rattle.imdf_read.proofs.Slots.{value_known, text_fault, deep_fault}
 use Rattle.imdf_read.proofs.manifest.judge_manifest.Goals as goal
 

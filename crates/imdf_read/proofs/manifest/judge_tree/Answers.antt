@@ -1,5 +1,5 @@
 use Rattle.exact_json.specs.View.{tree_view}
-use Rattle.report_laws.proofs.Adding.{Adds-found, on_ok}
+use Rattle.rule_reports.proofs.Adding.{Adds-found, on_ok}
 use Rattle.imdf_read.proofs.Manifests.{value_adds}
 use Rattle.imdf_read.proofs.manifest.judge_tree.Goals as goal
 

@@ -3,7 +3,7 @@ use Rattle.std.proofs.lemmas.Option.{slice_get-get_or}
 use Rattle.exact_json.specs.View.{tree_view}
 use Rattle.imdf_schema.specs.declared.rules.NoteKind.{NoteKind}
 use Rattle.imdf_schema.specs.Places.{note_at}
-use Rattle.report_laws.proofs.Adding.{Adds-start, Adds-step, Adds-end, Adds-found}
+use Rattle.rule_reports.proofs.Adding.{Adds-start, Adds-step, Adds-end, Adds-found}
 use Rattle.imdf_read.proofs.NoteRules.{Due, adds_note, notes_by}
 use Rattle.imdf_read.proofs.note_rules.judge_kinds.Goals as goal
 

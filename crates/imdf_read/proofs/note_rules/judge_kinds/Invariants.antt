@@ -1,6 +1,6 @@
 use Rattle.exact_json.specs.View.{tree_view}
-use Rattle.report_laws.specs.Passes.{Adds}
-use Rattle.report_laws.proofs.Adding.{Below}
+use Rattle.rule_reports.specs.Passes.{Adds}
+use Rattle.rule_reports.proofs.Adding.{Below}
 use Rattle.imdf_read.proofs.NoteRules.{Due}
 use Rattle.imdf_read.proofs.note_rules.judge_kinds.Given as goal
 

@@ -1,6 +1,6 @@
 use Rattle.std.proofs.Common.{◌∙◌, sym}
 use Rattle.exact_json.specs.View.{tree_view}
-use Rattle.report_laws.proofs.Adding.{on_ok}
+use Rattle.rule_reports.proofs.Adding.{on_ok}
 use Rattle.imdf_read.proofs.NoteRules.{feature_notes, no_notes}
 use Rattle.imdf_read.proofs.note_rules.judge_notes.Goals as goal
 

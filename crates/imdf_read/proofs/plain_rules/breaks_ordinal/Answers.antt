@@ -1,8 +1,8 @@
 use Rattle.std.proofs.Common.{rules, sym}
 use denote.Enum.Bare.{same_true}
 use Rattle.exact_json.specs.View.{tree_view}
-use Rattle.imdf_schema.specs.contracts.files.File.{the_type}
-use Rattle.imdf_schema.specs.declared.files.File.TheVariants as file
+use Rattle.venue_types.specs.contracts.folder_file.File.{the_type}
+use Rattle.venue_types.specs.declared.folder_file.File.TheVariants as file
 use Rattle.imdf_schema.specs.Values.{seen}
 use Rattle.imdf_read.proofs.PlainRules.{ordinal_rule}
 use Rattle.imdf_read.proofs.plain_rules.breaks_ordinal.Goals as goal

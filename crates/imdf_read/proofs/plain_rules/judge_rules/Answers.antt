@@ -5,7 +5,7 @@ use Rattle.imdf_schema.specs.declared.rules.Rule.{Rule}
 use Rattle.imdf_schema.specs.Places.{finding_at}
 use Rattle.imdf_read.specs.declared.rules.ReadingRule.TheVariants.{C3}
 use Rattle.imdf_read.specs.Gathering.{FindsRule}
-use Rattle.report_laws.proofs.Adding.{Adds-step, Adds-end, Adds-found}
+use Rattle.rule_reports.proofs.Adding.{Adds-step, Adds-end, Adds-found}
 use Rattle.imdf_read.proofs.PlainRules.{adds_rule, finds_by, next_plain}
 use Rattle.imdf_read.proofs.plain_rules.judge_rules.Goals as goal
 

@@ -1,9 +1,9 @@
 use Rattle.std.proofs.Common.{◌≡◌, true, drop}
 use Rattle.std.specs.List.{list_all}
 use Rattle.exact_json.specs.View.{tree_view}
-use Rattle.report_laws.specs.Passes.{Adds}
+use Rattle.rule_reports.specs.Passes.{Adds}
 use Rattle.imdf_read.specs.Gathering.{FindsRule, is_plain}
-use Rattle.report_laws.proofs.Adding.{Below}
+use Rattle.rule_reports.proofs.Adding.{Below}
 use Rattle.imdf_read.proofs.plain_rules.judge_rules.Given as goal
 
 -- what the rules before add; those that are left are plain

@@ -1,7 +1,7 @@
 use Rattle.std.proofs.Common.{List, refl, subst}
 use Rattle.venue_types.specs.declared.finding.Finding.{Finding}
-use Rattle.imdf_schema.specs.declared.files.File.TheVariants as file
-use Rattle.report_laws.specs.Passes.{Adds}
+use Rattle.venue_types.specs.declared.folder_file.File.TheVariants as file
+use Rattle.rule_reports.specs.Passes.{Adds}
 use Rattle.imdf_read.specs.Gathering.{FindsInSlot}
 use Rattle.imdf_read.proofs.Folders.{started}
 use Rattle.imdf_read.proofs.progress.read_manifest.Goals as goal

@@ -7,7 +7,7 @@ use Rattle.imdf_schema.specs.Properties.{property_number}
 use Rattle.imdf_read.specs.declared.rules.ReadingRule.TheVariants.{C6}
 use Rattle.imdf_schema.specs.Places.{finding_at}
 use Rattle.imdf_read.specs.Rules.{rule_of}
-use Rattle.report_laws.proofs.Adding.{Adds-start, Adds-step, Adds-end, Adds-found}
+use Rattle.rule_reports.proofs.Adding.{Adds-start, Adds-step, Adds-end, Adds-found}
 use Rattle.imdf_read.proofs.PropertyRule.{BadItem, adds_bad_item, bad_items}
 use Rattle.imdf_read.proofs.property_rule.judge_list.Goals as goal
 

@@ -1,7 +1,7 @@
 use Rattle.std.proofs.Common.{map}
 use Rattle.exact_json.specs.View.{tree_view}
-use Rattle.report_laws.specs.Passes.{Adds}
-use Rattle.report_laws.proofs.Adding.{Below}
+use Rattle.rule_reports.specs.Passes.{Adds}
+use Rattle.rule_reports.proofs.Adding.{Below}
 use Rattle.imdf_read.proofs.PropertyRule.{BadItem}
 use Rattle.imdf_read.proofs.property_rule.judge_list.Given as goal
 

@@ -3,15 +3,15 @@ use Rattle.std.specs.Result.{OnOk}
 use denote.Enum.Bare.{differs_true, differs_false}
 use Rattle.exact_json.specs.Json.{Json}
 use Rattle.exact_json.specs.View.{tree_view}
-use Rattle.imdf_schema.specs.contracts.files.File.{the_type}
+use Rattle.venue_types.specs.contracts.folder_file.File.{the_type}
 use Rattle.imdf_schema.specs.Forms.{Fits, items_of}
 use Rattle.imdf_schema.specs.Items.{property}
 use Rattle.imdf_schema.specs.Properties.{property_number}
 use Rattle.imdf_read.specs.declared.rules.ReadingRule.TheVariants.{C6}
-use Rattle.report_laws.specs.Passes.{Adds}
+use Rattle.rule_reports.specs.Passes.{Adds}
 use Rattle.imdf_schema.specs.Places.{finding_at}
 use Rattle.imdf_read.specs.Rules.{rule_of}
-use Rattle.report_laws.proofs.Adding.{Adds-found}
+use Rattle.rule_reports.proofs.Adding.{Adds-found}
 use Rattle.imdf_read.proofs.Narrow.{narrow_property, few_items}
 use Rattle.imdf_read.proofs.PropertyRule.{BadWhole, adds_bad_whole, misformed, no_items, not_ours}
 use Rattle.imdf_read.proofs.property_rule.judge_property.Goals as goal

@@ -1,6 +1,6 @@
 use Rattle.std.proofs.Common.{arith}
 use Rattle.std.proofs.lemmas.Option.{slice_get-get_or}
-use Rattle.report_laws.proofs.Adding.{Adds-start, Adds-step, Adds-end}
+use Rattle.rule_reports.proofs.Adding.{Adds-start, Adds-step, Adds-end}
 use Rattle.imdf_read.proofs.PropertyRule.{misformed_of}
 use Rattle.imdf_read.proofs.property_rule.judge_table.Goals as goal
 

@@ -3,7 +3,7 @@ use Rattle.std.specs.Prelude.{slice_get}
 use Rattle.std.proofs.lemmas.Option.{slice_get-get_or}
 use Rattle.venue_types.specs.declared.feature_id.FeatureId.{FeatureId}
 use Rattle.feature_rows.specs.Rows.{ids_of, IsFeature}
-use Rattle.report_laws.proofs.Adding.{Adds-start, Adds-step, Adds-end, Adds-found}
+use Rattle.rule_reports.proofs.Adding.{Adds-start, Adds-step, Adds-end, Adds-found}
 use Rattle.imdf_refs.proofs.Indexing.{one_more_of, one_file}
 use Rattle.imdf_refs.proofs.Naming.{RepeatsAt, told, told_in_file}
 use Rattle.imdf_refs.proofs.identifiers.judge_file.Goals as goal

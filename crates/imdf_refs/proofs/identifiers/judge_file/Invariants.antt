@@ -1,6 +1,6 @@
-use Rattle.imdf_schema.specs.Files.{file_number}
-use Rattle.report_laws.specs.Passes.{Adds}
-use Rattle.report_laws.proofs.Adding.{Below}
+use Rattle.venue_types.specs.FolderFiles.{file_number}
+use Rattle.rule_reports.specs.Passes.{Adds}
+use Rattle.rule_reports.proofs.Adding.{Below}
 use Rattle.imdf_refs.specs.Index.{HasBefore}
 use Rattle.imdf_refs.proofs.Naming.{RepeatsAt}
 use Rattle.imdf_refs.proofs.identifiers.judge_file.Given as goal

@@ -1,12 +1,12 @@
 use Rattle.std.proofs.Common.{◌≡◌, ℕ, ◌+◌, ◌<◌, ◌≤◌, List, Some, length, get_or, sym, ap, subst, arith}
 use Rattle.std.specs.Prelude.{slice_get}
 use Rattle.std.proofs.lemmas.Option.{slice_get-get_or}
-use Rattle.imdf_schema.specs.declared.files.File.{File}
-use Rattle.imdf_schema.specs.Files.{feature_files}
-use Rattle.report_laws.proofs.Adding.{Adds-start, Adds-step, Adds-end}
+use Rattle.venue_types.specs.declared.folder_file.File.{File}
+use Rattle.venue_types.specs.FolderFiles.{feature_files}
+use Rattle.rule_reports.proofs.Adding.{Adds-start, Adds-step, Adds-end}
 use Rattle.imdf_refs.specs.Index.{HasBefore}
 use Rattle.imdf_refs.specs.Gathering.{RepeatsIn}
-use Rattle.imdf_schema.proofs.FileNumbers.{nth_number}
+use Rattle.venue_types.proofs.FileNumbers.{nth_number}
 use Rattle.imdf_refs.proofs.Indexing.{starts, all_files}
 use Rattle.imdf_refs.proofs.Naming.{told_in_files}
 use Rattle.imdf_refs.proofs.identifiers.judge_identifiers.Goals as goal

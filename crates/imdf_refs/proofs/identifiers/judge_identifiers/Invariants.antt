@@ -1,7 +1,7 @@
 use Rattle.std.proofs.Common.{◌+◌}
-use Rattle.imdf_schema.specs.Files.{feature_files}
-use Rattle.report_laws.specs.Passes.{Adds}
-use Rattle.report_laws.proofs.Adding.{Below}
+use Rattle.venue_types.specs.FolderFiles.{feature_files}
+use Rattle.rule_reports.specs.Passes.{Adds}
+use Rattle.rule_reports.proofs.Adding.{Below}
 use Rattle.imdf_refs.specs.Index.{HasBefore}
 use Rattle.imdf_refs.specs.Gathering.{RepeatsIn}
 use Rattle.imdf_refs.proofs.identifiers.judge_identifiers.Given as goal

@@ -2,7 +2,7 @@ use Rattle.std.proofs.Common.{List, [], subst}
 use Rattle.venue_types.specs.declared.finding.Finding.{Finding}
 use Rattle.imdf_schema.specs.declared.table.PropertyRow.{PropertyRow}
 use Rattle.imdf_schema.specs.Properties.{properties}
-use Rattle.report_laws.specs.Passes.{Adds}
+use Rattle.rule_reports.specs.Passes.{Adds}
 use Rattle.imdf_refs.specs.Gathering.{DanglesInTable, Repeats}
 use Rattle.imdf_refs.proofs.Misnaming.{misnamed}
 use Rattle.imdf_refs.proofs.references.gather.Goals as goal

@@ -1,4 +1,4 @@
-use Rattle.report_laws.proofs.Adding.{on_ok}
+use Rattle.rule_reports.proofs.Adding.{on_ok}
 use Rattle.ring_rules.proofs.FolderLemmas.{fit_fixtures, fit_footprints, fit_levels, fit_units, fit_venues, five_files}
 use Rattle.ring_rules.proofs.ring_findings.add_ring_findings.Goals as goal
 

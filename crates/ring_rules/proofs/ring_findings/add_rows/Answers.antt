@@ -3,9 +3,9 @@ use Rattle.std.proofs.lemmas.List.{length-map}
 use Rattle.std.proofs.lemmas.Option.{slice_get_read}
 use Rattle.venue_types.proofs.Items.{at_map}
 use Rattle.venue_types.specs.declared.point.Shape.{Shape}
-use Rattle.report_laws.proofs.Beginnings.{begins_then}
-use Rattle.report_laws.specs.Passes.{Adds}
-use Rattle.report_laws.proofs.Adding.{Adds-step, Adds-end}
+use Rattle.rule_reports.proofs.Beginnings.{begins_then}
+use Rattle.rule_reports.specs.Passes.{Adds}
+use Rattle.rule_reports.proofs.Adding.{Adds-step, Adds-end}
 use Rattle.ring_rules.specs.Rings.{placed_rings}
 use Rattle.ring_rules.specs.Findings.{FindsFrom}
 use Rattle.ring_rules.proofs.FindingLemmas.{in_shapes}

@@ -1,7 +1,7 @@
 use Rattle.std.proofs.Common.{map}
 use mathlib.Core.List.{IsPrefix}
-use Rattle.report_laws.specs.Passes.{Adds}
-use Rattle.report_laws.proofs.Adding.{Below}
+use Rattle.rule_reports.specs.Passes.{Adds}
+use Rattle.rule_reports.proofs.Adding.{Below}
 use Rattle.ring_rules.specs.Rings.{placed_rings}
 use Rattle.ring_rules.specs.Findings.{FindsFrom}
 use Rattle.ring_rules.proofs.ring_findings.add_rows.Given as goal

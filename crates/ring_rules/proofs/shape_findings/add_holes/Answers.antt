@@ -1,11 +1,11 @@
 use Rattle.std.proofs.Common.{List, map, refl, subst, sym, arith}
 use Rattle.std.proofs.lemmas.List.{take_all}
 use Rattle.venue_types.specs.declared.point.Ring.{Ring}
-use Rattle.report_laws.specs.Passes.{Adds}
+use Rattle.rule_reports.specs.Passes.{Adds}
 use Rattle.ring_rules.specs.Rings.{as_hole}
 use Rattle.ring_rules.specs.Findings.{FindsFrom}
 use Rattle.ring_rules.proofs.FitLemmas.{fit_hole}
-use Rattle.report_laws.proofs.Beginnings.{begins_same, begins_then}
+use Rattle.rule_reports.proofs.Beginnings.{begins_same, begins_then}
 use Rattle.ring_rules.proofs.FindingLemmas.{adds_none, hole_step}
 use Rattle.ring_rules.proofs.shape_findings.add_holes.Goals as goal
 

@@ -1,12 +1,12 @@
 use Rattle.std.proofs.Common.{◌≡◌, ◌+◌, [], ◌∷◌, List, OnOk, IfOk, length, map, refl, sym, subst, arith}
 use mathlib.Core.Path.{subst₂}
 use Rattle.venue_types.specs.declared.point.Ring.{Ring}
-use Rattle.report_laws.specs.Passes.{Adds}
+use Rattle.rule_reports.specs.Passes.{Adds}
 use Rattle.ring_rules.specs.Rings.{as_hole}
 use Rattle.ring_rules.specs.Judged.{AreFit}
 use Rattle.ring_rules.specs.Findings.{FindsFrom}
 use Rattle.ring_rules.proofs.FitLemmas.{close_first}
-use Rattle.report_laws.proofs.Beginnings.{begins_same}
+use Rattle.rule_reports.proofs.Beginnings.{begins_same}
 use Rattle.ring_rules.proofs.FindingLemmas.{adds_none}
 use Rattle.ring_rules.proofs.shape_findings.add_holes_of.Goals as goal
 

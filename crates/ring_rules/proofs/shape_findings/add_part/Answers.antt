@@ -1,5 +1,5 @@
 use Rattle.std.proofs.Common.{[], ◌∷◌, map}
-use Rattle.report_laws.proofs.Adding.{on_ok}
+use Rattle.rule_reports.proofs.Adding.{on_ok}
 use Rattle.ring_rules.specs.Rings.{as_hole}
 use Rattle.ring_rules.specs.Findings.{alone}
 use Rattle.ring_rules.proofs.FitLemmas.{fit_first}

@@ -1,11 +1,11 @@
 use Rattle.std.proofs.Common.{List, flat_map, refl, subst, sym}
 use Rattle.std.proofs.lemmas.List.{take_all}
 use Rattle.venue_types.specs.declared.point.Part.{Part}
-use Rattle.report_laws.specs.Passes.{Adds}
+use Rattle.rule_reports.specs.Passes.{Adds}
 use Rattle.ring_rules.specs.Rings.{placed_in}
 use Rattle.ring_rules.specs.Findings.{FindsFrom}
 use Rattle.ring_rules.proofs.FitLemmas.{fit_part}
-use Rattle.report_laws.proofs.Beginnings.{begins_same, begins_then}
+use Rattle.rule_reports.proofs.Beginnings.{begins_same, begins_then}
 use Rattle.ring_rules.proofs.FindingLemmas.{adds_none, part_step, part_count}
 use Rattle.ring_rules.proofs.shape_findings.add_parts.Goals as goal
 

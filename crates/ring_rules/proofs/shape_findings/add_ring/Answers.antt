@@ -1,4 +1,4 @@
-use Rattle.report_laws.proofs.Adding.{on_ok}
+use Rattle.rule_reports.proofs.Adding.{on_ok}
 use Rattle.ring_rules.specs.declared.rules.RingRule.TheVariants.{G3, G5}
 use Rattle.ring_rules.specs.Findings.{alone}
 use Rattle.ring_rules.proofs.FindingLemmas.{adds_rule, adds_alone}

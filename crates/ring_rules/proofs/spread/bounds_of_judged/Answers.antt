@@ -4,7 +4,7 @@ use Rattle.venue_types.specs.declared.features.AmenityRow.{AmenityRow}
 use Rattle.venue_types.specs.declared.features.AnchorRow.{AnchorRow}
 use Rattle.venue_types.specs.declared.features.UnitRow.{UnitRow}
 use Rattle.venue_types.specs.declared.point.Point.{Point}
-use Rattle.imdf_schema.specs.declared.files.File.TheVariants as file
+use Rattle.venue_types.specs.declared.folder_file.File.TheVariants as file
 use Rattle.feature_rows.specs.Figures.{positions_of, display_of}
 use Rattle.ring_rules.specs.Bounds.{AreBounds}
 use Rattle.ring_rules.proofs.BoundsLemmas.{regroup}

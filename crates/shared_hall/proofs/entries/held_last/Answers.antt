@@ -1,6 +1,6 @@
 use Rattle.std.proofs.Common.{rules, ◌≡◌, List, [], ◌∷◌, ◌++◌, sym, ap, ◌∙◌}
 use Rattle.std.specs.Vec.Iter.{into_iter_items}
-use Rattle.venue_history.specs.declared.entry.Entry.{Entry}
+use Rattle.venue_hall.specs.Entry.{Entry}
 use Rattle.board_copies.specs.Stamps.{entries_of}
 use Rattle.shared_hall.proofs.FirstEntries.{front_legal, first_in}
 use Rattle.shared_hall.proofs.entries.held_last.Goals as goal

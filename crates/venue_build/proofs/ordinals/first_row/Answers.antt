@@ -1,6 +1,6 @@
 use Rattle.std.proofs.Common.{Some, None, ap, sym, ◌∙◌}
 use Rattle.std.specs.Option.{option_copied}
-use Rattle.venue_nodes.specs.Identity.{is_same}
+use Rattle.link_graph.specs.Identity.{is_same}
 use Rattle.venue_build.proofs.FirstRows.{found_at}
 use Rattle.venue_build.proofs.ordinals.first_row.Goals as goal
 

@@ -2,8 +2,8 @@ use Rattle.std.proofs.Common.{List, [], ◌∷◌, ◌++◌, subst, ap, ◌∙�
 use Rattle.std.proofs.lemmas.Bool.{both_ways}
 use Rattle.std.specs.Prelude.{Contains}
 use Rattle.venue_types.specs.declared.finding.Finding.{Finding}
-use Rattle.report_laws.specs.Passes.{Adds}
-use Rattle.report_laws.specs.Reports.{IsReport}
+use Rattle.rule_reports.specs.Passes.{Adds}
+use Rattle.rule_reports.specs.Reports.{IsReport}
 use Rattle.ring_rules.specs.Rules.{BreaksInRing}
 use Rattle.venue_build.proofs.Planes.{spread_report, misplaced_report}
 use Rattle.venue_build.proofs.plane.plane_findings.Goals as goal

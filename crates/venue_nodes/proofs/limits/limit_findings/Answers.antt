@@ -1,6 +1,6 @@
 use Rattle.std.proofs.Common.{List, sym, subst}
 use Rattle.venue_types.specs.declared.finding.Finding.{Finding}
-use Rattle.report_laws.specs.Reports.{IsReport}
+use Rattle.rule_reports.specs.Reports.{IsReport}
 use Rattle.venue_nodes.specs.Limits.{BreaksLimit}
 use Rattle.venue_nodes.proofs.Limiting.{report}
 use Rattle.venue_nodes.proofs.limits.limit_findings.Goals as goal

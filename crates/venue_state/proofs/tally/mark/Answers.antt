@@ -4,10 +4,10 @@ use Rattle.std.specs.Int.{from_bool}
 use Rattle.std.proofs.Math.ListN.{length-set}
 use Rattle.std.proofs.lemmas.Option.{slice_get_within}
 use Rattle.venue_types.specs.declared.feature_id.FeatureId.{FeatureId}
-use Rattle.venue_nodes.specs.Numbering.{number_among}
-use Rattle.venue_nodes.proofs.Finding.{stands_there}
-use Rattle.link_graph.specs.Graphs.{network}
-use Rattle.link_graph.specs.Marking.{chosen}
+use Rattle.route_search.specs.Numbering.{number_among}
+use Rattle.route_search.proofs.Finding.{stands_there}
+use Rattle.route_search.specs.Graphs.{network}
+use Rattle.route_search.specs.Marking.{chosen}
 use Rattle.venue_history.proofs.Identities.{one_of_there}
 use Rattle.venue_state.proofs.Marking.{remark, unmarked, numbered, not_there, chosen_short, count_set}
 use Rattle.venue_state.proofs.tally.mark.Goals as goal

@@ -1,9 +1,9 @@
 use Rattle.std.proofs.Common.{rules, ◌≡◌, ◌∷◌, [], ◌∙◌, ap, subst}
 use Rattle.std.specs.Arc.{arc_value}
-use Rattle.venue_build.specs.Venues.{SeenVenue as Venue}
-use Rattle.venue_build.specs.Report.{AreValid}
-use Rattle.venue_history.specs.Versions.{opening}
-use Rattle.venue_history.specs.declared.entry.Act.TheVariants.{Published}
+use Rattle.venue_state.specs.Venues.{SeenVenue as Venue}
+use Rattle.venue_state.specs.Report.{AreValid}
+use Rattle.venue_state.specs.Versions.{opening}
+use Rattle.venue_state.specs.Act.TheVariants.{Published}
 use Rattle.board_copies.specs.Stamps.{entries_of}
 use Rattle.board_copies.proofs.Standing.{begins}
 use Rattle.board_copies.proofs.held.Held.first.Goals as goal

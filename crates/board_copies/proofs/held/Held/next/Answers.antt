@@ -1,5 +1,5 @@
 use Rattle.std.proofs.Common.{rules, ◌≡◌, ◌++◌, ◌∷◌, [], ◌∙◌}
-use Rattle.venue_history.specs.Versions.{after}
+use Rattle.venue_state.specs.Versions.{after}
 use Rattle.board_copies.specs.Stamps.{entries_of}
 use Rattle.board_copies.proofs.Standing.{replays_so}
 use Rattle.board_copies.proofs.held.Held.next.Goals as goal

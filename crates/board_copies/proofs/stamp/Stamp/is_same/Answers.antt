@@ -1,7 +1,7 @@
 use Rattle.std.proofs.Common.{arith, ◌≡◌, List, ap, sym, ◌∙◌, subst}
 use Rattle.std.proofs.lemmas.Bool.Decides.{nat_tests}
 use mathlib.Core.List.{IsPrefix}
-use Rattle.board_copies.specs.declared.counting.Tried.{Tried}
+use Rattle.board_copies.specs.declared.counter.Tried.{Tried}
 use Rattle.board_copies.specs.Lists.{listed}
 use Rattle.board_copies.proofs.Fronts.{listed_prefix}
 use Rattle.board_copies.proofs.stamp.Stamp.is_same.Goals as goal

@@ -1,7 +1,7 @@
 use Rattle.std.proofs.Common.{List, map, subst, sym}
 use Rattle.venue_types.specs.declared.features.LevelRow.{LevelRow}
 use Rattle.venue_types.specs.declared.features.UnitRow.{UnitRow}
-use Rattle.imdf_schema.specs.declared.files.File.TheVariants as file
+use Rattle.venue_types.specs.declared.folder_file.File.TheVariants as file
 use Rattle.feature_rows.specs.Indexes.{AreOnce}
 use Rattle.contain_rules.specs.Banding.{AreCloseShapes}
 use Rattle.contain_rules.specs.Holders.{IsShapeIndex}

@@ -3,9 +3,9 @@ use Rattle.std.proofs.Common.{rules, ◌≡◌, refl, sym, subst}
 use Rattle.std.specs.Arc.{arc_value}
 use Rattle.board_copies.specs.declared.held.Held.{Held}
 use Rattle.board_copies.specs.Rules.{list_of}
-use Rattle.venue_history.specs.Histories.{Replays}
-use Rattle.version_board.specs.Making.{shelf_of}
-use Rattle.version_board.proofs.Entering.{enters, stays}
+use Rattle.venue_hall.specs.Histories.{Replays}
+use Rattle.board_copies.specs.Making.{shelf_of}
+use Rattle.board_copies.proofs.Entering.{enters, stays}
 use Rattle.shared_hall.proofs.Seen.{changes_seen}
 use Rattle.shared_hall.proofs.office.OfficeOf+N+F+Keeper.change.Goals as goal
 

@@ -1,7 +1,7 @@
 -- The published board is the one version to which the office's entries lead.
 use Rattle.std.proofs.Common.{subst}
 use Rattle.std.specs.Arc.{arc_value}
-use Rattle.venue_history.specs.Histories.{Replays}
+use Rattle.venue_hall.specs.Histories.{Replays}
 use Rattle.shared_hall.specs.Offices.{OfficeFacts}
 use Rattle.shared_hall.proofs.office.OfficeOf+N+F+Keeper.enter.Goals as goal
 

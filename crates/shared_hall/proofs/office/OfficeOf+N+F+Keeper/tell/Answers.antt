@@ -1,8 +1,8 @@
 -- What the pass has seen then is what the office has published.
 use Rattle.std.proofs.Common.{rules, ◌≡◌, ◌∙◌, List, length, sym, ap, subst}
 use Rattle.std.specs.Arc.{arc_value}
-use Rattle.venue_history.specs.declared.entry.Entry.{Entry}
-use Rattle.venue_history.specs.Histories.{IsLegal, Replays}
+use Rattle.venue_hall.specs.Entry.{Entry}
+use Rattle.venue_hall.specs.Histories.{IsLegal, Replays}
 use Rattle.board_copies.specs.Rules.{list_of}
 use Rattle.shared_hall.proofs.office.OfficeOf+N+F+Keeper.tell.Goals as goal
 

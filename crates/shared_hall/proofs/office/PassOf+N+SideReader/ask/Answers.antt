@@ -1,7 +1,7 @@
 -- Where nothing more was seen, what was seen still leads to a version.
 use Rattle.std.proofs.Common.{sym, subst}
 use Rattle.board_copies.specs.declared.view.View.{View}
-use Rattle.venue_history.specs.Histories.{IsLegal}
+use Rattle.venue_hall.specs.Histories.{IsLegal}
 use Rattle.shared_hall.proofs.office.PassOf+N+SideReader.ask.Goals as goal
 
 pub returns-in-None-clause-reply : goal.returns-in-None-clause-reply

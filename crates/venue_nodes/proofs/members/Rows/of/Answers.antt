@@ -1,5 +1,5 @@
 use Rattle.std.proofs.Common.{◌∙◌}
-use Rattle.imdf_schema.specs.declared.files.File.TheVariants as file
+use Rattle.venue_types.specs.declared.folder_file.File.TheVariants as file
 use Rattle.venue_nodes.proofs.Folder.{IsTouched, rows_are, few_rows}
 use Rattle.venue_nodes.proofs.members.Rows.of.Goals as goal
 

@@ -2,9 +2,9 @@
 use Rattle.std.proofs.Common.{◌≡◌, ◌∙◌, length, List, [], ap, sym, subst, Bool}
 use Rattle.std.specs.Arc.{arc_value}
 use Rattle.venue_types.specs.declared.feature_id.FeatureId.{FeatureId}
-use Rattle.venue_nodes.specs.Nodes.{closables}
-use Rattle.link_graph.specs.Marking.{chosen, marked}
-use Rattle.link_graph.specs.Networks.{Network}
+use Rattle.route_search.specs.Nodes.{closables}
+use Rattle.route_search.specs.Marking.{chosen, marked}
+use Rattle.route_search.specs.Networks.{Network}
 use Rattle.venue_state.specs.Boards.{version_of}
 use Rattle.venue_state.proofs.board.Board.first.Goals as goal
 

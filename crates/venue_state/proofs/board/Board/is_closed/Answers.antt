@@ -1,5 +1,5 @@
 -- What can't be closed isn't.
-use Rattle.venue_nodes.specs.Nodes.{closables}
+use Rattle.route_search.specs.Nodes.{closables}
 use Rattle.venue_state.proofs.Replying.{never_closed}
 use Rattle.venue_state.proofs.board.Board.is_closed.Goals as goal
 

@@ -1,6 +1,6 @@
 -- A number below the count has a node.
 use Rattle.std.proofs.Common.{arith}
-use Rattle.link_graph.specs.Graphs.{network}
+use Rattle.route_search.specs.Graphs.{network}
 use Rattle.venue_state.proofs.Names.{named, nameless}
 use Rattle.venue_state.proofs.board.Board.name.Goals as goal
 

@@ -1,7 +1,7 @@
 -- What marks choose is chosen again by what it has.
 use Rattle.std.proofs.Common.{◌≡◌, List, subst, filter}
 use Rattle.venue_types.specs.declared.feature_id.FeatureId.{FeatureId}
-use Rattle.venue_nodes.specs.Nodes.{closables}
+use Rattle.route_search.specs.Nodes.{closables}
 use Rattle.venue_history.specs.Closed.{is_one_of}
 use Rattle.venue_state.proofs.Marking.{AreApart, chosen_again}
 use Rattle.venue_state.proofs.board.Board.order_law.Goals as goal

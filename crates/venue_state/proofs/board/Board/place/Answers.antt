@@ -1,7 +1,7 @@
 -- A place is found by its number, and what is none is at no node.
 use Rattle.std.proofs.Common.{◌≡◌, ℕ, Some, None, sym, subst}
 use Rattle.venue_types.specs.declared.features.Features.{Features}
-use Rattle.venue_nodes.specs.Nodes.{place_of}
+use Rattle.route_search.specs.Nodes.{place_of}
 use Rattle.venue_history.specs.Answers.{place_row}
 use Rattle.venue_state.proofs.Placing.{no_place, placed, place_short, row_there}
 use Rattle.venue_state.proofs.board.Board.place.Goals as goal

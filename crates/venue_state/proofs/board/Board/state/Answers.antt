@@ -2,9 +2,9 @@
 use Rattle.std.proofs.Common.{◌≡◌, ◌∙◌, List, ap, sym, subst, Contains, Some, arith}
 use Rattle.std.proofs.lemmas.Option.{slice_get_within}
 use Rattle.venue_types.specs.declared.feature_id.FeatureId.{FeatureId}
-use Rattle.venue_nodes.specs.Nodes.{closables}
-use Rattle.venue_nodes.specs.Numbering.{number_among}
-use Rattle.venue_nodes.proofs.Finding.{stands_there}
+use Rattle.route_search.specs.Nodes.{closables}
+use Rattle.route_search.specs.Numbering.{number_among}
+use Rattle.route_search.proofs.Finding.{stands_there}
 use Rattle.venue_history.specs.Closed.{is_one_of}
 use Rattle.venue_state.proofs.Marking.{no_number, numbered, marked_here}
 use Rattle.venue_state.proofs.board.Board.state.Goals as goal

@@ -1,8 +1,8 @@
 -- What becomes of a change at the board becomes of the history.
 use Rattle.std.proofs.Common.{refl}
 use Rattle.board_copies.specs.Stamps.{entries_of}
-use Rattle.version_board.specs.Making.{shelf_of}
-use Rattle.version_board.proofs.Entering.{enters, stays}
+use Rattle.board_copies.specs.Making.{shelf_of}
+use Rattle.board_copies.proofs.Entering.{enters, stays}
 use Rattle.version_board.proofs.alone.Alone.make.Goals as goal
 
 pub ready_change-requires-clause-closable : goal.ready_change-requires-clause-closable

@@ -1,6 +1,6 @@
 use Rattle.std.proofs.Common.{refl}
 use Rattle.board_copies.specs.Stamps.{entries_of}
-use Rattle.version_board.specs.Making.{shelf_of}
+use Rattle.board_copies.specs.Making.{shelf_of}
 use Rattle.version_board.proofs.Serving.{itself, made_more, later_faults, risen_faults, same_shelf}
 use Rattle.version_board.proofs.alone.AloneHall.change.Goals as goal
 

@@ -1,4 +1,0 @@
-use Rattle.board_copies.proofs.tests.readers_find_what_was_published.Given as goal
-
-abbrev pub invariant-loop-call : goal.invariant-loop-call
-invariant-loop-call g l = Unit {0}

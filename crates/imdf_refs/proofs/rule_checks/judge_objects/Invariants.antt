@@ -1,0 +1,10 @@
+use Rattle.std.proofs.Common.{map}
+use Rattle.rule_reports.specs.Passes.{Adds}
+use Rattle.rule_reports.proofs.Adding.{Below}
+use Rattle.imdf_refs.specs.References.{by_object}
+use Rattle.imdf_refs.specs.Gathering.{DanglesAt}
+use Rattle.imdf_refs.proofs.rule_checks.judge_objects.Given as goal
+
+-- what dangles at the objects before is added
+abbrev pub invariant-loop-k : goal.invariant-loop-k
+invariant-loop-k l = Adds (Below (DanglesAt l.known l.row l.index) (map by_object l.objects) l.k) l.initial.findings.items l.findings.items

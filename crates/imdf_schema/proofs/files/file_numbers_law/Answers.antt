@@ -1,8 +1,0 @@
-use Rattle.imdf_schema.proofs.FileNumbers.{same_number, up_to_16}
-use Rattle.imdf_schema.proofs.files.file_numbers_law.Goals as goal
-
-pub returns-clause-one : goal.returns-clause-one
-returns-clause-one c = same_number
-
-pub returns-clause-few : goal.returns-clause-few
-returns-clause-few c = up_to_16

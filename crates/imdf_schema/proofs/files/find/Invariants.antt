@@ -1,7 +1,0 @@
-use Rattle.std.proofs.Common.{◌≡◌, drop}
-use Rattle.imdf_schema.specs.Files.{file_among}
-use Rattle.imdf_schema.proofs.files.find.Given as goal
-
--- the files before are of other types
-abbrev pub invariant-loop-file : goal.invariant-loop-file
-invariant-loop-file l = file_among (drop l.file-index l.files) l.name ≡ file_among l.files l.name

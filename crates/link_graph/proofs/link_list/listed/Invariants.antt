@@ -1,0 +1,8 @@
+use Rattle.std.proofs.Common.{◌≡◌, ◌++◌, drop}
+use Rattle.venue_nodes.specs.Rows.{row_list}
+use Rattle.link_graph.specs.Cores.{links_across_all}
+use Rattle.link_graph.proofs.link_list.listed.Given as goal
+
+abbrev pub invariant-loop-w : goal.invariant-loop-w
+invariant-loop-w l =
+    l.links.items ++ links_across_all l.core (drop l.w l.core.crossings.items) (drop l.w (row_list l.core.rows)) ≡ links_across_all l.core l.core.crossings.items (row_list l.core.rows)

@@ -1,7 +1,0 @@
-use Rattle.std.proofs.Common.{◌≡◌, take, filter}
-use Rattle.link_graph.specs.Graphs.{network}
-use Rattle.link_tables.specs.Passing.{passes_node}
-use Rattle.link_tables.proofs.passing.passing.Given as goal
-
-abbrev pub invariant-loop-m : goal.invariant-loop-m
-invariant-loop-m l = l.passed.items ≡ filter (passes_node (network l.graph) l.profile) (take l.m-index l.members)

@@ -1,9 +1,0 @@
-use Rattle.std.proofs.Common.{length, take, flat_map}
-use Rattle.link_graph.specs.Areas.{area_links, areas}
-use Rattle.link_graph.specs.Graphs.{network}
-use Rattle.link_tables.specs.Adding.{Adds}
-use Rattle.link_tables.specs.Passing.{rows_of}
-use Rattle.link_tables.proofs.rows.add_areas.Given as goal
-
-abbrev pub invariant-loop-w : goal.invariant-loop-w
-invariant-loop-w l = Adds (length (network l.graph).nodes) l.initial.rows.items l.rows.items (rows_of (network l.graph) l.profile (flat_map (area_links l.graph) (take l.w (areas l.graph))))

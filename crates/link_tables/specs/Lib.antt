@@ -1,5 +1,0 @@
-pub mod Tables
-pub mod Places
-pub mod Passing
-pub mod Adding
-pub mod Placing

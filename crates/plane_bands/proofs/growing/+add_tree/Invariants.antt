@@ -1,4 +1,0 @@
-use Rattle.plane_bands.proofs.growing.+add_tree.Given as goal
-
-abbrev pub decreases-add_tree : goal.decreases-add_tree
-decreases-add_tree l = l.depth

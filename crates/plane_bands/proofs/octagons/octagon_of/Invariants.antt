@@ -1,8 +1,0 @@
-use Rattle.std.proofs.Common.{◌∷◌, take, drop}
-use Rattle.plane_exact.specs.Figure.{AllClose}
-use Rattle.plane_bands.specs.Octagons.{IsRound}
-use Rattle.plane_bands.proofs.octagons.octagon_of.Given as goal
-
--- round the points so far
-abbrev pub invariant-loop-q : goal.invariant-loop-q
-invariant-loop-q l = IsRound l.octagon l.origin (l.fn.start ∷ take l.q-index l.rest)

@@ -1,4 +1,0 @@
-use Rattle.plane_bands.proofs.over.+add_grove.Given as goal
-
-abbrev pub decreases-add_grove : goal.decreases-add_grove
-decreases-add_grove l = l.depth

@@ -1,4 +1,0 @@
-use Rattle.plane_bands.proofs.run_borders.+is_near_run.Given as goal
-
-abbrev pub decreases-is_near_run : goal.decreases-is_near_run
-decreases-is_near_run l = l.run.depth

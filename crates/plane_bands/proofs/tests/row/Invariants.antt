@@ -1,7 +1,0 @@
-use Rattle.std.proofs.Common.{All, flat_map}
-use Rattle.plane_exact.specs.Testing.{IsInBox}
-use Rattle.plane_exact.specs.Figure.{part_points}
-use Rattle.plane_bands.proofs.tests.row.Given as goal
-
-abbrev pub invariant-loop-i : goal.invariant-loop-i
-invariant-loop-i l = All IsInBox (flat_map part_points l.parts.items)

@@ -1,5 +1,0 @@
-use Rattle.plane_exact.proofs.BoxLemmas.{all_close}
-use Rattle.plane_exact.proofs.tests.near_at.Goals as goal
-
-pub near-requires-clause-close : goal.near-requires-clause-close
-near-requires-clause-close c = all_close _ _ c.at.ensures c.requires

@@ -1,6 +1,0 @@
-use Rattle.std.proofs.lemmas.List.Elements.{All-same, All-push}
-use Rattle.plane_exact.specs.Testing.{IsInBox}
-use Rattle.plane_exact.proofs.tests.ring.Goals as goal
-
-pub loop-point-preserved : goal.loop-point-preserved
-loop-point-preserved c = All-same IsInBox _ _ c.in_ok-push.ensures.items (All-push IsInBox c.loop-point.list.items c.at.result c.loop-point.invariant c.at.ensures)

@@ -1,5 +1,0 @@
-use Rattle.plane_exact.proofs.BoxLemmas.{doubled_close}
-use Rattle.plane_exact.proofs.tests.spans_at.Goals as goal
-
-pub spans-requires-clause-close : goal.spans-requires-clause-close
-spans-requires-clause-close c = doubled_close _ _ c.spot_at.ensures c.spot_at-2.ensures

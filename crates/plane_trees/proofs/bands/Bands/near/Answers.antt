@@ -1,0 +1,29 @@
+use Rattle.std.proofs.Common.{◌≡◌, ◌↔◌, IsTrue, List, Contains, ap, ◌∙◌, subst}
+use mathlib.Core.Path.{subst₂}
+use Rattle.venue_types.specs.declared.point.Point.{Point}
+use Rattle.venue_types.specs.declared.point.Ring.{Ring}
+use Rattle.venue_types.specs.declared.point.Shape.{Shape}
+use Rattle.plane_exact.specs.Figure.{rings, vertices, ring_points, ring_edges, IsNear, IsNearSome}
+use Rattle.plane_trees.specs.declared.groves.Over.{Over}
+use Rattle.plane_trees.specs.Groves.{IsOver}
+use Rattle.plane_exact.proofs.CloseLemmas.{origin_close}
+use Rattle.plane_trees.proofs.RunLemmas.{IfSome-at}
+use Rattle.plane_trees.proofs.bands.Bands.near.Goals as goal
+
+pub of-requires : goal.of-requires
+of-requires c =
+    let known = IfSome-at c.self.inside.over c.in-Some.over (λ (over : Over). IsOver c.self.inside.banded.items over) c.in-Some.is c.self.invariant.1 in
+    let whole : c.self.inside.banded.items ≡ rings c.args.self.now = c.self.invariant.0 ∙ ap (λ (shape : Shape). rings shape) c.self.view_is in
+    origin_close c.args.p c.in-Some.over.origin (vertices c.args.self.now) (subst (λ (list : List Ring). Contains (ring_points list) c.in-Some.over.origin) whole known.origin) c.requires.close
+
+pub returns-in-None : goal.returns-in-None
+unfolding IsNear
+returns-in-None c =
+    let whole : c.as_slice.result.now ≡ rings c.args.self.now = c.as_slice.ensures.value ∙ c.self.invariant.0 ∙ ap (λ (shape : Shape). rings shape) c.self.view_is in
+    subst (λ (list : List Ring). IsTrue c.is_near_bands.result ↔ IsNearSome c.args.p c.args.t (ring_edges list)) whole c.is_near_bands.ensures
+
+pub returns-in-Some : goal.returns-in-Some
+unfolding IsNear
+returns-in-Some c =
+    let whole : c.as_slice-in-Some.result.now ≡ rings c.args.self.now = c.as_slice-in-Some.ensures.value ∙ c.self.invariant.0 ∙ ap (λ (shape : Shape). rings shape) c.self.view_is in
+    subst₂ (λ (q : Point) (list : List Ring). IsTrue c.is_near_grove.result ↔ IsNearSome q c.args.t (ring_edges list)) c.of.ensures.position whole c.is_near_grove.ensures

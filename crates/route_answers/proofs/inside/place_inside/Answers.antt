@@ -1,0 +1,49 @@
+use Rattle.std.proofs.Common.{◌≡◌, ℕ, List, filter, sym, ◌∙◌, subst, arith}
+use Rattle.std.proofs.lemmas.Option.{same_Some, slice_get_within}
+use Rattle.link_graph.specs.declared.areas.Area.{Area}
+use Rattle.link_graph.specs.Areas.{area_links}
+use Rattle.link_graph.specs.Graphs.{network}
+use Rattle.route_answers.specs.Passing.{passes_node}
+use Rattle.route_answers.specs.Placing.{StandsFirst}
+use Rattle.route_answers.proofs.UnitPlaces.{inside, ranks, unit_place}
+use Rattle.route_answers.proofs.inside.place_inside.Goals as goal
+
+pub pair_place-requires-clause-start : goal.pair_place-requires-clause-start
+pair_place-requires-clause-start c =
+    let graph = c.args.graph.now in
+    let profile = c.args.profile.now in
+    let link = c.args.link.now in
+    let area = c.area.result.0 in
+    let members = c.area.result.1.now in
+    let is_link = inside graph area members link (c.requires.there (area, members) c.area.ensures.there) in
+    let are = ranks c.network_parts_law.ensures graph profile area members link c.passing_below-start.result c.passing_below-end.result c.area.ensures.area is_link c.requires.allowed c.passing_below-start.ensures c.passing_below-end.ensures in
+    let within = slice_get_within (filter (passes_node (network graph) profile) members) c.passing_below-start.result link.from are.from in
+    let count = c.passing_count-count.ensures.number in
+    omega (arith, within, count)
+
+pub pair_place-requires-clause-end : goal.pair_place-requires-clause-end
+pair_place-requires-clause-end c =
+    let graph = c.args.graph.now in
+    let profile = c.args.profile.now in
+    let link = c.args.link.now in
+    let area = c.area.result.0 in
+    let members = c.area.result.1.now in
+    let is_link = inside graph area members link (c.requires.there (area, members) c.area.ensures.there) in
+    let are = ranks c.network_parts_law.ensures graph profile area members link c.passing_below-start.result c.passing_below-end.result c.area.ensures.area is_link c.requires.allowed c.passing_below-start.ensures c.passing_below-end.ensures in
+    let within = slice_get_within (filter (passes_node (network graph) profile) members) c.passing_below-end.result link.to are.to in
+    let count = c.passing_count-count.ensures.number in
+    omega (arith, within, count)
+
+pub returns : goal.returns
+returns c = λ pair there.
+    let graph = c.args.graph.now in
+    let profile = c.args.profile.now in
+    let link = c.args.link.now in
+    let area = c.area.result.0 in
+    let members = c.area.result.1.now in
+    let is_link = inside graph area members link (c.requires.there (area, members) c.area.ensures.there) in
+    let are = ranks c.network_parts_law.ensures graph profile area members link c.passing_below-start.result c.passing_below-end.result c.area.ensures.area is_link c.requires.allowed c.passing_below-start.ensures c.passing_below-end.ensures in
+    let same : (area, members) ≡ pair = same_Some (area, members) pair (sym c.area.ensures.there ∙ there) in
+    subst (λ (p : Area × List ℕ). StandsFirst (network graph) profile (area_links graph p) link c.pair_place.result) same
+    (unit_place c.network_parts_law.ensures graph profile area members link c.passing_count-count.result c.passing_below-start.result c.passing_below-end.result c.pair_place.result c.area.ensures.area is_link c.requires.allowed
+    c.passing_count-count.ensures.number are c.pair_place.ensures.before c.pair_place.ensures.behind)

@@ -1,4 +1,0 @@
-use Rattle.route_answers.proofs.trials.graphs.the_graph_of_the_station.Given as goal
-
-abbrev pub ghosts-judge_rows : goal.ghosts-judge_rows
-ghosts-judge_rows a b = record { name = b.blank.name; parts = b.blank.parts }

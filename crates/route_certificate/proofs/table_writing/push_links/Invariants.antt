@@ -1,7 +1,0 @@
-use Rattle.std.proofs.Common.{◌≡◌, ◌++◌, take}
-use Rattle.std.specs.List.{flat_map}
-use Rattle.route_certificate.specs.Forms.{link_line}
-use Rattle.route_certificate.proofs.table_writing.push_links.Given as goal
-
-abbrev pub invariant-loop-link : goal.invariant-loop-link
-invariant-loop-link l = l.out.items ≡ l.initial.out.items ++ flat_map link_line (take l.link-index l.links)

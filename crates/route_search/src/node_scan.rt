@@ -1,0 +1,155 @@
+//! The links of a node that is settled.
+
+ghost use Rattle.std.specs.Prelude.{◌≡◌, ◌+◌, ◌<◌, ◌≤◌, OnOk, Contains, length};
+ghost use Rattle.link_graph.specs.Graphs.{network};
+ghost use Rattle.route_search.specs.Scans.{AreMarked, Followed, IsStretchOf, Regarded, Regards, node_count, out_count_of};
+ghost use Rattle.route_search.specs.States.{cost_in};
+
+use crate::passed_links::{can_leave, can_pass, is_passed_over};
+use crate::quiet::has_to_wait;
+use crate::relaxation::lower;
+use crate::state::State;
+use crate::ways::Ways;
+use link_graph::Stretch;
+use std::sync::ledger::Ledger;
+use venue_types::{Link, OutOfMemory};
+use walk_laws::Steps;
+
+// Where the link can be passed, its end is known by it from now on.
+fn follow(ways: &Ways, to: u32, link: &Link, state: &mut State) -> Result<(), OutOfMemory>
+    requires marks { AreMarked ways.now }
+    requires there { Contains (network ways.now.graph.now).links link.now }
+    requires cheap { cost_in state.old link.now.from + link.now.cost < cost_in state.old link.now.to }
+    requires amid { Regards ways.now link.now.from state.old }
+    ensures { OnOk result (Followed ways.now link.now state.old state.new) }
+{
+    if !can_pass(ways, link) {
+        return Ok(());
+    }
+    ways.graph.range_law();
+    let waits = has_to_wait(ways.graph, link, to);
+    lower(state, link, waits)
+}
+
+// Looks at the link at one place.
+fn look<L: Ledger>(
+    ways: &Ways,
+    to: u32,
+    node: u32,
+    place: u32,
+    state: &mut State,
+    steps: &mut Steps<L>,
+) -> Result<(), OutOfMemory>
+    requires marks { AreMarked ways.now }
+    requires node { node < node_count ways.now.graph.now }
+    requires place { place < out_count_of ways.now.graph.now node }
+    requires amid { Regards ways.now node state.old }
+    ensures scanned { OnOk result (Regarded ways.now node place 1 state.old state.new) }
+    ensures step { steps.new ≡ steps.old + 1 }
+{
+    ways.graph.member_law();
+    ways.graph.range_law();
+    let cost = state.costs[node as usize];
+    match ways
+        .graph
+        .lower_link(node, place, cost, &state.costs, steps)
+    {
+        Some(link) => follow(ways, to, &link, state),
+        None => Ok(()),
+    }
+}
+
+// Looks at the links of one stretch.
+fn look_along<L: Ledger>(
+    ways: &Ways,
+    to: u32,
+    node: u32,
+    stretch: &Stretch,
+    state: &mut State,
+    steps: &mut Steps<L>,
+) -> Result<(), OutOfMemory>
+    requires marks { AreMarked ways.now }
+    requires node { node < node_count ways.now.graph.now }
+    requires stretch { IsStretchOf (network ways.now.graph.now) node stretch.now }
+    requires amid { Regards ways.now node state.old }
+    ensures scanned { OnOk result (Regarded ways.now node stretch.now.first stretch.now.count state.old state.new) }
+    ensures steps { steps.new ≤ steps.old + stretch.now.count }
+{
+    ways.graph.range_law();
+    for turn in 0..stretch.count {
+        let place = stretch.first + turn;
+        look(ways, to, node, place, state, steps)?;
+    }
+    Ok(())
+}
+
+// Looks at the links of one stretch, or passes it over.
+fn scan_stretch<L: Ledger>(
+    ways: &Ways,
+    to: u32,
+    node: u32,
+    stretch: &Stretch,
+    state: &mut State,
+    steps: &mut Steps<L>,
+) -> Result<(), OutOfMemory>
+    requires marks { AreMarked ways.now }
+    requires node { node < node_count ways.now.graph.now }
+    requires stretch { IsStretchOf (network ways.now.graph.now) node stretch.now }
+    requires amid { Regards ways.now node state.old }
+    ensures scanned { OnOk result (Regarded ways.now node stretch.now.first stretch.now.count state.old state.new) }
+    ensures steps { steps.new ≤ steps.old + stretch.now.count }
+{
+    ways.graph.stretch_law();
+    ways.graph.member_law();
+    ways.graph.range_law();
+    let last = state.lasts[node as usize].by;
+    if is_passed_over(ways, last, stretch.way) {
+        ways.graph.detour_law();
+        return Ok(());
+    }
+    look_along(ways, to, node, stretch, state, steps)
+}
+
+// Looks at the links of a node, stretch by stretch.
+fn scan_stretches<L: Ledger>(
+    ways: &Ways,
+    to: u32,
+    node: u32,
+    state: &mut State,
+    steps: &mut Steps<L>,
+) -> Result<(), OutOfMemory>
+    requires marks { AreMarked ways.now }
+    requires node { node < node_count ways.now.graph.now }
+    requires amid { Regards ways.now node state.old }
+    ensures scanned { OnOk result (Regarded ways.now node 0 (out_count_of ways.now.graph.now node) state.old state.new) }
+    ensures steps { steps.new ≤ steps.old + out_count_of ways.now.graph.now node }
+{
+    ways.graph.stretch_law();
+    for k in 0..ways.graph.stretches(node) {
+        let stretch = ways.graph.stretch(node, k);
+        scan_stretch(ways, to, node, &stretch, state, steps)?;
+    }
+    Ok(())
+}
+
+/// Looks at the links of a node that is settled now. Passes over those that can't be passed by the node or by the way that they go,
+/// and those across the unit by which the node was reached, since what they lead to is known from the start of its last link.
+pub(crate) fn scan<L: Ledger>(
+    ways: &Ways,
+    to: u32,
+    node: u32,
+    state: &mut State,
+    steps: &mut Steps<L>,
+) -> Result<(), OutOfMemory>
+    requires marks { AreMarked ways.now }
+    requires node { node < node_count ways.now.graph.now }
+    requires amid { Regards ways.now node state.old }
+    ensures scanned { OnOk result (Regarded ways.now node 0 (out_count_of ways.now.graph.now node) state.old state.new) }
+    ensures steps { steps.new ≤ steps.old + out_count_of ways.now.graph.now node }
+{
+    if !can_leave(ways, node) {
+        ways.graph.member_law();
+        return Ok(());
+    }
+    scan_stretches(ways, to, node, state, steps)
+}

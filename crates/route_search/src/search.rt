@@ -1,0 +1,53 @@
+//! Least walks.
+
+ghost use Rattle.std.specs.Prelude.{◌+◌, ◌<◌, ◌≤◌, length, IfOk};
+ghost use Rattle.link_graph.specs.Graphs.{network};
+ghost use Rattle.link_graph.specs.Marking.{AreMarksOf, marked};
+ghost use Rattle.link_graph.specs.Networks.{IsPassable};
+ghost use Rattle.route_search.specs.Answers.{IsAnswer, IsSmall};
+
+use crate::answers::{cut, route};
+use crate::found::Found;
+use crate::growth::grow;
+use crate::labels::NO_COST;
+use crate::start::begin;
+use crate::ways::Ways;
+use link_graph::{Graph, Marks};
+use std::alloc::Global;
+use std::sync::ledger::Ledger;
+use venue_types::{OutOfMemory, Profile};
+use walk_laws::Steps;
+
+/// A walk from node to node over links that the profile allows and nothing closes, which costs least, with potentials by which anyone
+/// can check that none costs less; or where there is no walk, the nodes to which one leads. From a node to itself no link is taken,
+/// whatever is closed. Looks at each link once at most, and at most of them never.
+pub fn least<L: Ledger>(
+    alloc: Global,
+    graph: &Graph,
+    marks: &Marks,
+    profile: &Profile,
+    from: u32,
+    to: u32,
+    steps: &mut Steps<L>,
+) -> Result<Found, OutOfMemory>
+    requires from { from < length (network graph.now).nodes }
+    requires to { to < length (network graph.now).nodes }
+    requires marks { AreMarksOf (network graph.now) marks.now }
+    ensures answer { IfOk result (IsAnswer (IsPassable (network graph.now) (marked (network graph.now) marks.now) profile.now) from to) }
+    ensures small { IfOk result (IsSmall (length (network graph.now).nodes)) }
+    ensures steps { steps.new ≤ steps.old + length (network graph.now).links }
+{
+    graph.range_law();
+    let mut state = begin(alloc, graph.nodes(), from)?;
+    let ways = Ways {
+        graph,
+        marks,
+        profile,
+    };
+    grow(&ways, to, &mut state, steps)?;
+    if state.costs[to as usize] < NO_COST {
+        route(alloc, &state.costs, &state.lasts, from, to)
+    } else {
+        cut(alloc, &state.costs, &state.lasts, from, to)
+    }
+}

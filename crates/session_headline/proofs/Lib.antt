@@ -1,4 +1,0 @@
-pub mod Ways
-pub mod Exchanges
-pub mod Endings
-pub mod Completing

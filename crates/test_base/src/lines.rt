@@ -1,0 +1,46 @@
+//! Each call on values that were worked out by hand.
+
+ghost use Rattle.std.specs.Prelude.{ℕ, List, [], ◌∷◌};
+
+use line_forms::{
+    Form, Spelled, after, cut_at, fault_line_law, front_law, number, number_word, push_number,
+};
+
+struct Empty;
+
+impl Form for Empty {
+    ghost is_text = { λ _. ⊥ };
+}
+
+impl Spelled for u8 {
+    ghost spelling = { λ b. b ∷ [] };
+
+    ghost fits = { λ _. Unit {0} };
+}
+
+#[test]
+fn reads_and_writes(rt: HostRuntime) {
+    let words = [
+        ("0", Some(0)),
+        ("7", Some(7)),
+        ("18446744073709551615", Some(18_446_744_073_709_551_615)),
+        ("18446744073709551616", None),
+        ("184467440737095516150", None),
+        ("", None),
+        ("00", None),
+        ("07", None),
+        ("+7", None),
+        ("7a", None),
+    ];
+    for (word, want) in words {
+        assert_eq!(rt; number(word.as_bytes()), want, "{word}");
+    }
+    assert!(rt; cut_at(b"a b c", b' ') == Some((b"a".as_slice(), b"b c".as_slice())));
+    assert!(rt; after(b"step 4", b"step ") == Some(b"4".as_slice()));
+    assert!(rt; number_word(b"40 2") == Some((40, b"2".as_slice())));
+    let mut out = Vec::new(rt.alloc());
+    push_number(&mut out, 18_446_744_073_709_551_615).expect(&rt, "memory");
+    assert!(rt; out.as_slice() == b"18446744073709551615".as_slice());
+    fault_line_law::<Empty>();
+    front_law::<u8>();
+}

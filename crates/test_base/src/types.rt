@@ -1,0 +1,102 @@
+//! Identifiers against RFC 9562, section 4, and the thin types once each.
+
+use std::test::Fail;
+use venue_types::{
+    Bytes, Extras, FeatureId, Label, List, Profile, Settings, Text, push_reserved, reserve,
+};
+
+#[test]
+fn values_go_in_and_come_out(rt: HostRuntime) -> Result<(), Fail> {
+    let id = FeatureId(0xf81d4fae_7dec_11d0_a765_00a0c91e6bf6);
+    for text in [
+        "f81d4fae-7dec-11d0-a765-00a0c91e6bf6",
+        "F81D4FAE-7DEC-11D0-A765-00A0C91E6BF6",
+        "f81d4fae7dec11d0a76500a0c91e6bf6",
+        "{f81d4fae-7dec-11d0-a765-00a0c91e6bf6}",
+        "urn:uuid:f81d4fae-7dec-11d0-a765-00a0c91e6bf6",
+    ] {
+        assert_eq!(rt; FeatureId::read(text.as_bytes()), Some(id), "at {text}");
+    }
+    assert_eq!(rt;
+        FeatureId::read(b"f81d4fae-7dec-11d0-a765-00a0c91e6bf"),
+        None
+    );
+    let written = id.write();
+    assert_eq!(rt;
+        written.as_slice(),
+        b"f81d4fae-7dec-11d0-a765-00a0c91e6bf6".as_slice()
+    );
+    let mut list = List::new(rt.alloc());
+    assert!(rt; list.is_empty());
+    list.push(7u8).expect(&rt, "memory");
+    assert_eq!(rt; list.as_slice(), [7].as_slice());
+    assert_eq!(rt; list.get(0), Some(&7));
+    assert_eq!(rt; list.get(1), None);
+    assert_eq!(rt; list.iter().count(), 1);
+    assert_eq!(rt; List::from_vec(list.into_vec()).len(), 1);
+    let bytes = Bytes::from_vec(Vec::from_slice(rt.alloc(), b"ab")?);
+    assert_eq!(rt; bytes.as_slice(), b"ab".as_slice());
+    assert_eq!(rt; bytes.into_vec().len(), 2);
+    let mut items = Vec::new(rt.alloc());
+    reserve(&mut items, 1).expect(&rt, "memory");
+    push_reserved(&mut items, 7u8);
+    assert_eq!(rt; items.as_slice(), [7].as_slice());
+    let text = Text::from_string(String::from_str(rt.alloc(), "ab")?);
+    assert_eq!(rt; text.as_str(), "ab");
+    assert_eq!(rt; text.into_string().len(), 2);
+    Ok(())
+}
+
+#[test]
+fn copies_have_what_was_copied(rt: HostRuntime) -> Result<(), Fail> {
+    let alloc = rt.alloc();
+    let name = Text::from_string(String::from_str(alloc, "wheels")?);
+    let label = Label {
+        tag: name.copy(alloc).expect(&rt, "memory"),
+        text: name.copy(alloc).expect(&rt, "memory"),
+    };
+    let copy = label.copy(alloc).expect(&rt, "memory");
+    assert_eq!(rt; copy.tag.as_str(), "wheels");
+    assert_eq!(rt; copy.text.as_str(), "wheels");
+    let profile = Profile {
+        name,
+        elevator: true,
+        escalator: false,
+        movingwalkway: false,
+        ramp: true,
+        stairs: false,
+        revolving: false,
+        turnstile: false,
+        restricted: false,
+        marked: true,
+    };
+    let settings = Settings {
+        kx: 7_000_000,
+        ky: 11_000_000,
+        border_tol: 1_000,
+        contain_tol: 5_000,
+        extras: Extras {
+            elevator: 3_000,
+            escalator: 0,
+            movingwalkway: 0,
+            ramp: 0,
+            stairs: 0,
+            traversal: 0,
+        },
+        last_version: 1,
+        staff_keys: List::from_vec(vec![in alloc; label.text]?),
+        profiles: List::from_vec(vec![in alloc; profile]?),
+    };
+    let copy = settings.copy(alloc).expect(&rt, "memory");
+    assert_eq!(rt; copy.kx, 7_000_000);
+    assert_eq!(rt; copy.extras, settings.extras);
+    for key in copy.staff_keys.iter() {
+        assert_eq!(rt; key.as_str(), "wheels");
+    }
+    for profile in copy.profiles.iter() {
+        assert_eq!(rt; profile.name.as_str(), "wheels");
+        assert!(rt; profile.elevator && profile.marked && !profile.stairs);
+    }
+    assert_eq!(rt; copy.profiles.len(), 1);
+    Ok(())
+}

@@ -1,0 +1,68 @@
+//! The texts of a report and of notes.
+
+use check_text::names::{file_name, note_name, rule_name};
+use check_text::{accepted_text, rejected_text};
+use std::test::Fail;
+use venue_types::{Finding, List, Note, Report};
+
+// How many lines a text has.
+fn lines(text: &str) -> usize {
+    text.as_bytes()
+        .iter()
+        .filter(|byte| **byte == b'\n')
+        .count()
+}
+
+#[test]
+fn a_check_is_printed(rt: HostRuntime) -> Result<(), Fail> {
+    let alloc = rt.alloc();
+    for (number, rule, file) in [
+        (0, "?", "manifest.json"),
+        (1, "F1", "address.geojson"),
+        (6, "M2", "fixture.geojson"),
+        (15, "L1", "unit.geojson"),
+        (16, "Q1", "venue.geojson"),
+        (17, "S1", "?"),
+        (26, "G6", "?"),
+        (35, "S6", "?"),
+        (36, "?", "?"),
+    ] {
+        assert_eq!(rt; rule_name(number), rule);
+        assert_eq!(rt; file_name(number), file);
+    }
+    assert_eq!(rt; note_name(5), "N5");
+    let found = Finding {
+        rule: 23,
+        file: 15,
+        index: 7,
+        member: 4294967295,
+    };
+    let mut report = Report {
+        first: List::new(alloc),
+        total: 501,
+    };
+    report.first.push(found).expect(&rt, "memory");
+    assert_eq!(rt;
+        rejected_text(alloc, &report)?.as_str(),
+        "rejected 501\nfinding C7 unit.geojson 7 4294967295\n"
+    );
+    for _ in 1..501 {
+        report.first.push(found).expect(&rt, "memory");
+    }
+    assert_eq!(rt; lines(rejected_text(alloc, &report)?.as_str()), 501);
+    let noted = Note {
+        note: 3,
+        file: 13,
+        index: 0,
+        member: 8,
+    };
+    assert_eq!(rt;
+        accepted_text(alloc, 44, &[])?.as_str(),
+        "accepted 44\nnotes 0\n"
+    );
+    assert_eq!(rt;
+        accepted_text(alloc, 9, &[noted])?.as_str(),
+        "accepted 9\nnotes 1\nnote N3 relationship.geojson 0 8\n"
+    );
+    Ok(())
+}

@@ -1,0 +1,92 @@
+//! The station, and edits of it.
+
+use std::alloc::Global;
+use std::process::Abort;
+use std::test::Fail;
+use test_station::{
+    AMENITY, Change, DETAIL, Edit, GONE, MANIFEST, UNIT, folder_files, settings_file, slots_of,
+    station_files,
+};
+use venue_types::Slot;
+
+const MANIFEST_TEXT: &str =
+    "{\"version\":\"1.0.0\",\"created\":\"2024-01-01T00:00:00Z\",\"language\":\"en\"}\n";
+
+const AMENITY_TEXT: &str =
+    "{\"type\":\"FeatureCollection\",\"features\":[\n{\"type\":\"Feature\",\"id\":\"00000000-0000-4000-8000-000000000031\",\"feature_type\":\"amenity\",\"geometry\":{\"type\":\"Point\",\"coordinates\":[10.00030,50.00025]},\"properties\":{\"category\":\"restroom\",\"unit_ids\":[\"00000000-0000-4000-8000-000000000300\"]}}\n]}\n";
+
+// The text of a slot.
+fn text_of(slot: &Slot) -> Option<&[u8]> {
+    match slot {
+        Slot::Absent => None,
+        Slot::Held(bytes) => Some(bytes.as_slice()),
+    }
+}
+
+// The edits are told to be wrong so.
+fn judge_fault(
+    rt: &impl Abort,
+    alloc: Global,
+    edits: &'static [Edit],
+    told: &str,
+) -> Result<(), Fail> {
+    let fault = match slots_of(alloc, Change::of(edits)) {
+        Ok(_) => return Err(Fail::new("there is a fault")),
+        Err(fault) => fault,
+    };
+    let text = format!(in alloc; "{fault:?}")?;
+    assert_eq!(rt; text.as_str(), told);
+    Ok(())
+}
+
+#[test]
+fn the_station_has_twelve_files(rt: HostRuntime) -> Result<(), Fail> {
+    let alloc = rt.alloc();
+    let slots = slots_of(alloc, Change::of(&[]))?;
+    let texts = slots.slots.as_slice();
+    assert_eq!(rt; text_of(&texts[MANIFEST]), Some(MANIFEST_TEXT.as_bytes()));
+    assert_eq!(rt; text_of(&texts[AMENITY]), Some(AMENITY_TEXT.as_bytes()));
+    assert_eq!(rt; text_of(&texts[DETAIL]), None);
+    let files = folder_files(alloc, "base/night", Change::of(&[]))?;
+    assert_eq!(rt; files.len(), 12);
+    let (first, last) = (
+        files.first().expect(&rt, "a file"),
+        files.last().expect(&rt, "a file"),
+    );
+    assert_eq!(rt; first.file.as_str(), "manifest.json");
+    assert_eq!(rt; last.folder.as_str(), "base/night");
+    assert_eq!(rt; last.file.as_str(), "venue.geojson");
+    let settings = settings_file(alloc, "base", Change::of(&[]))?.expect(&rt, "the settings");
+    assert_eq!(rt; settings.file.as_str(), "venue.toml");
+    let fewer = station_files(alloc, "base", "night", Change::of(&[(UNIT, "", "", GONE)]))?;
+    assert_eq!(rt; fewer.len(), 12);
+    Ok(())
+}
+
+#[test]
+fn edits_follow_each_other(rt: HostRuntime) -> Result<(), Fail> {
+    let alloc = rt.alloc();
+    let change = Change {
+        piece: "%,",
+        times: 2,
+        third: ",3",
+        ..Change::of(&[
+            (AMENITY, "", "", "one + two"),
+            (AMENITY, "one", " two", "(1,2)"),
+        ])
+    };
+    let slots = slots_of(alloc, change)?;
+    let told = text_of(&slots.slots.as_slice()[AMENITY]);
+    assert_eq!(rt;
+        told,
+        Some(b"one 5000,5001,[10.00001,50.00002,3]".as_slice())
+    );
+    judge_fault(&rt, alloc, &[(DETAIL, "", "a", "b")], "NoFile")?;
+    judge_fault(
+        &rt,
+        alloc,
+        &[(UNIT, "@0999", "a", "b")],
+        "NoPlace(\"@0999\")",
+    )?;
+    judge_fault(&rt, alloc, &[(UNIT, "", "@0999", "b")], "NoText(\"@0999\")")
+}

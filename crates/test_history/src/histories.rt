@@ -1,0 +1,26 @@
+//! Each law once.
+
+use venue_history::{
+    Act, Entry, act_law, answer_law, beginning_law, change_law, closed_law, entry_law, legal_law,
+    number_law, refusal_law, version_law,
+};
+use venue_types::FeatureId;
+
+#[test]
+fn the_laws_are_called(rt: HostRuntime) {
+    number_law();
+    legal_law();
+    beginning_law();
+    entry_law();
+    version_law();
+    act_law();
+    closed_law();
+    answer_law();
+    change_law();
+    refusal_law();
+    let entry = Entry {
+        worker: 1,
+        act: Act::Closed(FeatureId(7)),
+    };
+    assert!(rt; matches!(entry.act, Act::Closed(FeatureId(7))));
+}

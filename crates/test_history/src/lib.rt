@@ -1,0 +1,15 @@
+//! Tests of histories, boards and halls.
+#![tactic(auto)]
+
+#[cfg(test)]
+mod boards;
+#[cfg(test)]
+mod buildings;
+#[cfg(test)]
+mod copies;
+#[cfg(test)]
+mod histories;
+#[cfg(test)]
+mod one_thread;
+#[cfg(test)]
+mod shared;

@@ -1,0 +1,431 @@
+//! The bytes of answers, each as a client reads it.
+
+use std::alloc::{AllocError, Global};
+use std::process::Abort;
+use std::test::Fail;
+use venue_types::{
+    Class, FeatureId, Finding, Kind, Label, List, Mark, PlaceRow, Reply, Report, StepRow, Text,
+    Which,
+};
+use wire_frames::{Methods, Refusal};
+use wire_replies::{Response, reply_bytes, want_of_memory};
+
+// The identifier that ends with these digits.
+fn id(last: u16) -> FeatureId {
+    FeatureId(0x4000_8000_0000_0000_0000 | u128::from(last))
+}
+
+// The text in which `@` stands for all but the last four digits of an identifier.
+fn whole(alloc: Global, text: &str) -> Result<String, AllocError> {
+    let mut whole = String::new(alloc);
+    for letter in text.chars() {
+        if letter == '@' {
+            whole.push_str("00000000-0000-4000-8000-00000000")?;
+        } else {
+            whole.push(letter)?;
+        }
+    }
+    Ok(whole)
+}
+
+fn text(alloc: Global, text: &str) -> Result<Text, AllocError> {
+    Ok(Text::from_string(String::from_str(alloc, text)?))
+}
+
+fn label(alloc: Global, tag: &str, name: &str) -> Result<Label, AllocError> {
+    let tag = text(alloc, tag)?;
+    let text = text(alloc, name)?;
+    Ok(Label { tag, text })
+}
+
+fn step(cost: u32, kind: Kind, to: u16, via: u16) -> StepRow {
+    let to = id(to);
+    let via = id(via);
+    StepRow {
+        to,
+        via,
+        cost,
+        kind,
+    }
+}
+
+fn mark(node: u16, value: u64) -> Mark {
+    let node = id(node);
+    Mark { node, value }
+}
+
+fn place(last: u16, class: Class, ordinal: i16, name: Vec<Label>) -> PlaceRow {
+    let id = id(last);
+    let name = List::from_vec(name);
+    PlaceRow {
+        id,
+        class,
+        ordinal,
+        name,
+    }
+}
+
+fn route(alloc: Global, potentials: Option<List<Mark>>) -> Result<Reply, AllocError> {
+    let profile = text(alloc, "wheelchair")?;
+    let steps = List::from_vec(vec![in alloc;
+        step(633, Kind::Floor, 0x105, 0x305),
+        step(3007, Kind::Floor, 0x101, 0x300),
+        step(200, Kind::Elevator, 0x301, 0x301),
+        step(3000, Kind::Elevator, 0x401, 0x21),
+        step(200, Kind::Elevator, 0x201, 0x401),
+        step(2000, Kind::Floor, 0x42, 0x400),
+    ]?);
+    Ok(Reply::Route {
+        number: 1,
+        from: id(0x51),
+        to: id(0x52),
+        profile,
+        start: id(0x41),
+        cost: 9040,
+        steps,
+        potentials,
+    })
+}
+
+fn no_route(alloc: Global, reached: Option<List<FeatureId>>) -> Result<Reply, AllocError> {
+    let profile = text(alloc, "wheelchair")?;
+    Ok(Reply::NoRoute {
+        number: 3,
+        from: id(0x51),
+        to: id(0x52),
+        profile,
+        reached,
+    })
+}
+
+// What a client is told: the status, the bytes of the body, and further lines.
+#[derive(Clone, Copy)]
+struct Told<'t>(&'t str, usize, &'t str);
+
+fn sees(
+    rt: &impl Abort,
+    alloc: Global,
+    answer: &Response,
+    close: bool,
+    told: Told<'_>,
+    body: &str,
+) -> Result<(), AllocError> {
+    let Told(status, length, lines) = told;
+    let body = whole(alloc, body)?;
+    let text = format!(in alloc;
+        "HTTP/1.1 {status}\r\ncontent-type: application/json\r\ncontent-length: {length}\r\n{lines}\r\n{body}"
+    )?;
+    let bytes = reply_bytes(alloc, answer, close).expect(rt, "memory");
+    assert!(rt; bytes.as_slice() == text.as_bytes(), "{text}");
+    Ok(())
+}
+
+// A reply of status 200, in a session that goes on.
+fn reads(
+    rt: &impl Abort,
+    alloc: Global,
+    reply: Reply,
+    length: usize,
+    body: &str,
+) -> Result<(), AllocError> {
+    let told = Told("200 OK", length, "");
+    sees(rt, alloc, &Response::Of(reply), false, told, body)
+}
+
+fn sees_changes(rt: &impl Abort, alloc: Global) -> Result<(), AllocError> {
+    let reply = Reply::ClosureDone {
+        number: 2,
+        feature: id(0x301),
+        closed: true,
+        changed: true,
+    };
+    let body = r#"{"changed":true,"closed":true,"feature":"@0301","version":2}"#;
+    reads(rt, alloc, reply, 91, body)?;
+    let dropped = List::from_vec(vec![in alloc; id(0x301)]?);
+    let reply = Reply::Published { number: 3, dropped };
+    let body = r#"{"dropped":["@0301"],"version":3}"#;
+    reads(rt, alloc, reply, 64, body)
+}
+
+fn sees_closures(rt: &impl Abort, alloc: Global) -> Result<(), AllocError> {
+    let closed = List::new(alloc);
+    let reply = Reply::Closures { number: 3, closed };
+    reads(rt, alloc, reply, 27, r#"{"closures":[],"version":3}"#)?;
+    let closed = List::from_vec(vec![in alloc; id(0x24), id(0x301)]?);
+    let reply = Reply::Closures { number: 4, closed };
+    let body = r#"{"closures":["@0024","@0301"],"version":4}"#;
+    reads(rt, alloc, reply, 104, body)
+}
+
+fn sees_walks(rt: &impl Abort, alloc: Global) -> Result<(), AllocError> {
+    let body =
+        r#"{"cost":9040,"from":"@0051","profile":"wheelchair","result":"route","start":"@0041","steps":[{"cost":633,"kind":"floor","to":"@0105","via":"@0305"},{"cost":3007,"kind":"floor","to":"@0101","via":"@0300"},{"cost":200,"kind":"elevator","to":"@0301","via":"@0301"},{"cost":3000,"kind":"elevator","to":"@0401","via":"@0021"},{"cost":200,"kind":"elevator","to":"@0201","via":"@0401"},{"cost":2000,"kind":"floor","to":"@0042","via":"@0400"}],"to":"@0052","version":1}"#;
+    reads(rt, alloc, route(alloc, None)?, 926, body)?;
+    let marks = List::from_vec(vec![in alloc; mark(0x41, 0), mark(0x105, 633)]?);
+    let body =
+        r#"{"cost":9040,"from":"@0051","potentials":[{"node":"@0041","value":0},{"node":"@0105","value":633}],"profile":"wheelchair","result":"route","start":"@0041","steps":[{"cost":633,"kind":"floor","to":"@0105","via":"@0305"},{"cost":3007,"kind":"floor","to":"@0101","via":"@0300"},{"cost":200,"kind":"elevator","to":"@0301","via":"@0301"},{"cost":3000,"kind":"elevator","to":"@0401","via":"@0021"},{"cost":200,"kind":"elevator","to":"@0201","via":"@0401"},{"cost":2000,"kind":"floor","to":"@0042","via":"@0400"}],"to":"@0052","version":1}"#;
+    reads(rt, alloc, route(alloc, Some(marks))?, 1059, body)
+}
+
+fn sees_that_none_is(rt: &impl Abort, alloc: Global) -> Result<(), AllocError> {
+    let body =
+        r#"{"from":"@0051","profile":"wheelchair","result":"none","to":"@0052","version":3}"#;
+    reads(rt, alloc, no_route(alloc, None)?, 142, body)?;
+    let reached = List::from_vec(vec![in alloc; id(0x31), id(0x41)]?);
+    let body =
+        r#"{"from":"@0051","profile":"wheelchair","reached":["@0031","@0041"],"result":"none","to":"@0052","version":3}"#;
+    reads(rt, alloc, no_route(alloc, Some(reached))?, 232, body)
+}
+
+fn sees_a_place(rt: &impl Abort, alloc: Global) -> Result<(), AllocError> {
+    let name = vec![in alloc; label(alloc, "en", "Tickets")?]?;
+    let reply = Reply::Place {
+        number: 1,
+        row: place(0x52, Class::Occupant, 1, name),
+        closed: false,
+    };
+    let body =
+        r#"{"closed":false,"id":"@0052","kind":"occupant","name":{"en":"Tickets"},"ordinal":1,"version":1}"#;
+    reads(rt, alloc, reply, 126, body)
+}
+
+// One tag comes twice, and the texts have what is escaped.
+fn sees_names(rt: &impl Abort, alloc: Global) -> Result<(), AllocError> {
+    let name = vec![in alloc;
+        label(alloc, "en", "First")?,
+        label(alloc, "de", "T\"\\\n\u{e4}")?,
+        label(alloc, "en", "Last")?,
+    ]?;
+    let reply = Reply::Place {
+        number: 7,
+        row: place(0x31, Class::Amenity, 0, name),
+        closed: true,
+    };
+    let body =
+        r#"{"closed":true,"id":"@0031","kind":"amenity","name":{"de":"T\"\\\nä","en":"Last"},"ordinal":0,"version":7}"#;
+    reads(rt, alloc, reply, 138, body)
+}
+
+fn sees_places(rt: &impl Abort, alloc: Global) -> Result<(), AllocError> {
+    let rows = List::from_vec(vec![in alloc;
+        place(0x31, Class::Anchor, -3, Vec::new(alloc)),
+        place(0x404, Class::Unit, 1, Vec::new(alloc)),
+    ]?);
+    let reply = Reply::Places { number: 1, rows };
+    let body =
+        r#"{"places":[{"id":"@0031","kind":"anchor","name":null,"ordinal":-3},{"id":"@0404","kind":"unit","name":null,"ordinal":1}],"version":1}"#;
+    reads(rt, alloc, reply, 195, body)
+}
+
+fn sees_findings(rt: &impl Abort, alloc: Global) -> Result<(), AllocError> {
+    let found = Finding {
+        rule: 30,
+        file: 15,
+        index: 7,
+        member: 0,
+    };
+    let report = Report {
+        first: List::from_vec(vec![in alloc; found]?),
+        total: 1,
+    };
+    let told = Told("422 Unprocessable Entity", 100, "");
+    let body =
+        r#"{"error":"rejected","findings":[{"file":"unit.geojson","index":7,"member":0,"rule":"K1"}],"total":1}"#;
+    sees(
+        rt,
+        alloc,
+        &Response::Of(Reply::Rejected(report)),
+        false,
+        told,
+        body,
+    )
+}
+
+#[test]
+fn answers_have_their_bytes(rt: HostRuntime) -> Result<(), Fail> {
+    let alloc = rt.alloc();
+    for (close, bytes) in [
+        (
+            false,
+            b"HTTP/1.1 200 OK\r\ncontent-type: application/json\r\ncontent-length: 36\r\n\r\n{\"closed\":0,\"places\":33,\"version\":1}".as_slice(),
+        ),
+        (
+            true,
+            b"HTTP/1.1 200 OK\r\ncontent-type: application/json\r\ncontent-length: 36\r\nconnection: close\r\n\r\n{\"closed\":0,\"places\":33,\"version\":1}".as_slice(),
+        ),
+    ] {
+        let version = Response::Of(Reply::Version {
+            number: 1,
+            closed: 0,
+            places: 33,
+        });
+        let written = reply_bytes(alloc, &version, close).expect(&rt, "memory");
+        assert_eq!(rt; written.as_slice(), bytes);
+    }
+    let bytes =
+        b"HTTP/1.1 503 Service Unavailable\r\ncontent-type: application/json\r\ncontent-length: 26\r\nconnection: close\r\n\r\n{\"error\":\"want_of_memory\"}";
+    assert_eq!(rt; want_of_memory(true), bytes.as_slice());
+    assert_eq!(rt; want_of_memory(false).len(), 114);
+    let table = [
+        (
+            Response::Of(Reply::NoProfile),
+            "404 Not Found",
+            27,
+            r#"{"error":"no_such_profile"}"#,
+        ),
+        (
+            Response::Of(Reply::NoPlace(Which::From)),
+            "404 Not Found",
+            40,
+            r#"{"error":"no_such_place","which":"from"}"#,
+        ),
+        (
+            Response::Of(Reply::NoPlace(Which::To)),
+            "404 Not Found",
+            38,
+            r#"{"error":"no_such_place","which":"to"}"#,
+        ),
+        (
+            Response::Of(Reply::NoPlace(Which::Id)),
+            "404 Not Found",
+            38,
+            r#"{"error":"no_such_place","which":"id"}"#,
+        ),
+        (
+            Response::Of(Reply::NoFeature),
+            "404 Not Found",
+            27,
+            r#"{"error":"no_such_feature"}"#,
+        ),
+        (
+            Response::Of(Reply::FolderFault {
+                before: 1,
+                after: 2,
+            }),
+            "502 Bad Gateway",
+            24,
+            r#"{"error":"folder_fault"}"#,
+        ),
+        (
+            Response::Of(Reply::Ahead {
+                since: 9,
+                number: 3,
+            }),
+            "409 Conflict",
+            47,
+            r#"{"error":"version_ahead","since":9,"version":3}"#,
+        ),
+        (
+            Response::Of(Reply::HistoryFull { number: 2 }),
+            "409 Conflict",
+            36,
+            r#"{"error":"history_full","version":2}"#,
+        ),
+        (
+            Response::Of(Reply::OutOfMemory),
+            "503 Service Unavailable",
+            26,
+            r#"{"error":"want_of_memory"}"#,
+        ),
+    ];
+    for (answer, status, length, body) in &table {
+        sees(&rt, alloc, answer, false, Told(status, *length, ""), body)?;
+    }
+    for (refusal, status, length, lines, body) in [
+        (
+            Refusal::HeadTooLarge,
+            "431 Request Header Fields Too Large",
+            26,
+            "connection: close\r\n",
+            r#"{"error":"head_too_large"}"#,
+        ),
+        (
+            Refusal::BadHead,
+            "400 Bad Request",
+            20,
+            "connection: close\r\n",
+            r#"{"error":"bad_head"}"#,
+        ),
+        (
+            Refusal::TransferCoding,
+            "501 Not Implemented",
+            27,
+            "connection: close\r\n",
+            r#"{"error":"transfer_coding"}"#,
+        ),
+        (
+            Refusal::BodyTooLarge,
+            "413 Payload Too Large",
+            26,
+            "connection: close\r\n",
+            r#"{"error":"body_too_large"}"#,
+        ),
+        (
+            Refusal::NoPath,
+            "404 Not Found",
+            24,
+            "",
+            r#"{"error":"no_such_path"}"#,
+        ),
+        (
+            Refusal::Method(Methods::Get),
+            "405 Method Not Allowed",
+            18,
+            "allow: GET\r\n",
+            r#"{"error":"method"}"#,
+        ),
+        (
+            Refusal::Method(Methods::Post),
+            "405 Method Not Allowed",
+            18,
+            "allow: POST\r\n",
+            r#"{"error":"method"}"#,
+        ),
+        (
+            Refusal::Method(Methods::Both),
+            "405 Method Not Allowed",
+            18,
+            "allow: GET, POST\r\n",
+            r#"{"error":"method"}"#,
+        ),
+        (
+            Refusal::NotStaff,
+            "403 Forbidden",
+            21,
+            "",
+            r#"{"error":"not_staff"}"#,
+        ),
+        (
+            Refusal::BadBody,
+            "400 Bad Request",
+            20,
+            "",
+            r#"{"error":"bad_body"}"#,
+        ),
+        (
+            Refusal::BadQuery,
+            "400 Bad Request",
+            21,
+            "",
+            r#"{"error":"bad_query"}"#,
+        ),
+    ] {
+        sees(
+            &rt,
+            alloc,
+            &Response::No(refusal),
+            false,
+            Told(status, length, lines),
+            body,
+        )?;
+    }
+    sees_changes(&rt, alloc)?;
+    sees_closures(&rt, alloc)?;
+    sees_walks(&rt, alloc)?;
+    sees_that_none_is(&rt, alloc)?;
+    sees_a_place(&rt, alloc)?;
+    sees_names(&rt, alloc)?;
+    sees_places(&rt, alloc)?;
+    sees_findings(&rt, alloc)?;
+    Ok(())
+}

@@ -1,0 +1,425 @@
+//! Requests and what they ask for, worked out by hand.
+
+use std::alloc::{AllocError, Global};
+use std::process::Abort;
+use std::test::Fail;
+use venue_types::{Ask, Change, List, Query, Text};
+use venue_wire::{
+    Front, Message, Taken, message_length_law, message_more_law, more_is_short_law,
+    one_message_law, path_law, take,
+};
+use wire_frames::{Methods, Refusal};
+
+#[derive(Clone, Copy, Debug, PartialEq, Eq)]
+enum What<'t> {
+    Version,
+    Places,
+    Place(u128),
+    Closures,
+    Route(u128, u128, &'t str, bool),
+}
+
+/// What a front comes to, without its length.
+#[derive(Clone, Copy, Debug, PartialEq, Eq)]
+enum Outcome<'t> {
+    More,
+    Fault(Refusal),
+    Ask(Option<u32>, What<'t>),
+    Closure(u128, bool),
+    Publish(&'t str),
+    Refused(Refusal),
+    OutOfMemory,
+}
+
+fn what_of(ask: &Ask) -> What<'_> {
+    match ask {
+        Ask::Version => What::Version,
+        Ask::Places => What::Places,
+        Ask::Place(place) => What::Place(place.0),
+        Ask::Closures => What::Closures,
+        Ask::Route {
+            from,
+            to,
+            profile,
+            certificate,
+        } => What::Route(from.0, to.0, profile.as_str(), *certificate),
+    }
+}
+
+fn asked(query: &Query) -> Outcome<'_> {
+    Outcome::Ask(query.since, what_of(&query.what))
+}
+
+fn changed(change: &Change) -> Outcome<'_> {
+    match change {
+        Change::Closure { feature, closed } => Outcome::Closure(feature.0, *closed),
+        Change::Publish { folder } => Outcome::Publish(folder.as_str()),
+    }
+}
+
+fn message_outcome(message: &Message) -> Outcome<'_> {
+    match message {
+        Message::Ask(query) => asked(query),
+        Message::Do(change) => changed(change),
+        Message::Refused(refusal) => Outcome::Refused(*refusal),
+    }
+}
+
+fn come_of(taken: &Taken) -> Outcome<'_> {
+    match taken {
+        Taken::More { .. } => Outcome::More,
+        Taken::Fault(refusal) => Outcome::Fault(*refusal),
+        Taken::Message { message, .. } => message_outcome(message),
+        Taken::OutOfMemory => Outcome::OutOfMemory,
+    }
+}
+
+fn length(taken: &Taken) -> usize {
+    match taken {
+        Taken::Message { length, .. } => *length,
+        _ => 0,
+    }
+}
+
+/// A request of these pieces: its method and target, the fields behind `host`, and its body.
+fn request(alloc: Global, line: &str, fields: &str, body: &[u8]) -> Result<Vec<u8>, AllocError> {
+    let mut bytes = Vec::new(alloc);
+    bytes.extend_from_slice(line.as_bytes())?;
+    bytes.extend_from_slice(b" HTTP/1.1\r\nhost: a\r\n")?;
+    bytes.extend_from_slice(fields.as_bytes())?;
+    let size = format!(in alloc; "content-length: {}\r\n\r\n", body.len())?;
+    bytes.extend_from_slice(size.as_bytes())?;
+    bytes.extend_from_slice(body)?;
+    Ok(bytes)
+}
+
+/// The front piece, the middle one so many times, the last one.
+fn repeated(
+    alloc: Global,
+    front: &[u8],
+    middle: &[u8],
+    times: usize,
+    last: &[u8],
+) -> Result<Vec<u8>, AllocError> {
+    let mut text = Vec::new(alloc);
+    text.extend_from_slice(front)?;
+    for _ in 0..times {
+        text.extend_from_slice(middle)?;
+    }
+    text.extend_from_slice(last)?;
+    Ok(text)
+}
+
+/// A closing whose member `z` is so many nested lists.
+fn nested(alloc: Global, times: usize) -> Result<Vec<u8>, AllocError> {
+    let front = repeated(
+        alloc,
+        b"{\"feature\":\"00000000-0000-4000-8000-000000000301\",\"closed\":true,\"z\":",
+        b"[",
+        times,
+        b"",
+    )?;
+    repeated(alloc, &front, b"]", times, b"}")
+}
+
+/// The request comes to this, also with another behind it, and isn't there without its last byte.
+fn check(
+    rt: &impl Abort,
+    alloc: Global,
+    front: &Front,
+    bytes: &[u8],
+    want: Outcome<'_>,
+    row: usize,
+) -> Result<(), AllocError> {
+    let whole = take(alloc, front, bytes);
+    assert_eq!(rt; come_of(&whole), want, "row {row}");
+    assert_eq!(rt; length(&whole), bytes.len(), "row {row}");
+    let more = repeated(alloc, bytes, b"GET / HTTP/1.1\r\nhost: a\r\n\r\n", 1, b"")?;
+    let followed = take(alloc, front, &more);
+    assert_eq!(rt; come_of(&followed), want, "row {row}, followed");
+    assert_eq!(rt; length(&followed), bytes.len(), "row {row}, followed");
+    let cut = take(alloc, front, &bytes[..bytes.len() - bytes.len().min(1)]);
+    assert_eq!(rt; come_of(&cut), Outcome::More, "row {row}, cut");
+    Ok(())
+}
+
+const KEY: &str = "x-staff-key: desk-key-1\r\n";
+
+const CLOSING: &[u8] = b"{\"feature\":\"00000000-0000-4000-8000-000000000301\",\"closed\":true}";
+
+const I_0301: u128 = 0x00000000_0000_4000_8000_000000000301;
+
+const I_51: u128 = 0x00000000_0000_4000_8000_000000000051;
+
+const I_52: u128 = 0x00000000_0000_4000_8000_000000000052;
+
+const NO_PATH: Outcome<'static> = Outcome::Refused(Refusal::NoPath);
+
+const NOT_STAFF: Outcome<'static> = Outcome::Refused(Refusal::NotStaff);
+
+const BAD_BODY: Outcome<'static> = Outcome::Refused(Refusal::BadBody);
+
+const BAD_QUERY: Outcome<'static> = Outcome::Refused(Refusal::BadQuery);
+
+const CLOSED: Outcome<'static> = Outcome::Closure(I_0301, true);
+
+const VERSION: Outcome<'static> = Outcome::Ask(None, What::Version);
+
+fn only(methods: Methods) -> Outcome<'static> {
+    Outcome::Refused(Refusal::Method(methods))
+}
+
+fn since(version: u32) -> Outcome<'static> {
+    Outcome::Ask(Some(version), What::Version)
+}
+
+fn route(profile: &str, certificate: bool) -> Outcome<'_> {
+    Outcome::Ask(None, What::Route(I_51, I_52, profile, certificate))
+}
+
+fn desk(alloc: Global) -> Result<List<Text>, AllocError> {
+    let mut keys = Vec::new(alloc);
+    for key in ["gate-key-2", "desk-key-1"] {
+        if keys
+            .push(Text::from_string(String::from_str(alloc, key)?))
+            .is_err()
+        {
+            return Err(AllocError);
+        }
+    }
+    Ok(List::from_vec(keys))
+}
+
+/// Each request of the table, which has neither fields nor a body, comes to what stands beside it.
+fn check_bare(
+    rt: &impl Abort,
+    alloc: Global,
+    front: &Front,
+    table: &[(&str, Outcome<'_>)],
+) -> Result<(), AllocError> {
+    for (row, (line, want)) in table.iter().enumerate() {
+        let bytes = request(alloc, line, "", b"")?;
+        check(rt, alloc, front, &bytes, *want, row)?;
+    }
+    Ok(())
+}
+
+/// With each body of the table such a request by staff comes to what stands beside it.
+fn check_posted(
+    rt: &impl Abort,
+    alloc: Global,
+    front: &Front,
+    line: &str,
+    table: &[(&[u8], Outcome<'_>)],
+) -> Result<(), AllocError> {
+    for (row, (body, want)) in table.iter().enumerate() {
+        let bytes = request(alloc, line, KEY, body)?;
+        check(rt, alloc, front, &bytes, *want, row)?;
+    }
+    Ok(())
+}
+
+/// Paths and methods.
+fn check_paths(rt: &impl Abort, alloc: Global, front: &Front) -> Result<(), AllocError> {
+    let table = [
+        ("GET /v1/version", VERSION),
+        ("GET /v1/version?", VERSION),
+        ("GET /v1/places", Outcome::Ask(None, What::Places)),
+        ("GET /v1/version/", NO_PATH),
+        ("GET /V1/version", NO_PATH),
+        ("GET /v2", NO_PATH),
+        ("GET /v1/place/", NO_PATH),
+        ("GET /v1/place/a/b", NO_PATH),
+        ("GET http://a/v1/version", NO_PATH),
+        ("OPTIONS *", NO_PATH),
+        ("HEAD /v1/version", only(Methods::Get)),
+        ("POST /v1/version", only(Methods::Get)),
+        ("GET /v1/publish", only(Methods::Post)),
+        ("PUT /v1/closures", only(Methods::Both)),
+        (
+            "GET /v1/place/00000000-0000-4000-8000-000000000052",
+            Outcome::Ask(None, What::Place(I_52)),
+        ),
+        (
+            "GET /v1/place/00000000000040008000000000000052",
+            Outcome::Ask(None, What::Place(I_52)),
+        ),
+        (
+            "GET /v1/place/URN:UUID:00000000-0000-4000-8000-000000000052",
+            Outcome::Ask(None, What::Place(I_52)),
+        ),
+        ("GET /v1/place/x", BAD_QUERY),
+        (
+            "GET /v1/place/%300000000-0000-4000-8000-000000000052",
+            BAD_QUERY,
+        ),
+    ];
+    check_bare(rt, alloc, front, &table)
+}
+
+/// The version that is asked for at least, and what other paths' keys do.
+fn check_queries(rt: &impl Abort, alloc: Global, front: &Front) -> Result<(), AllocError> {
+    let table = [
+        (
+            "GET /v1/closures?since=7",
+            Outcome::Ask(Some(7), What::Closures),
+        ),
+        ("GET /v1/version?since=0", since(0)),
+        ("GET /v1/version?since=%31", since(1)),
+        ("GET /v1/version?since=4294967295", since(4_294_967_295)),
+        ("GET /v1/version?since=", BAD_QUERY),
+        ("GET /v1/version?since=00", BAD_QUERY),
+        ("GET /v1/version?since=01", BAD_QUERY),
+        ("GET /v1/version?since=+1", BAD_QUERY),
+        ("GET /v1/version?since=4294967296", BAD_QUERY),
+        ("GET /v1/version?since=1&since=1", BAD_QUERY),
+        ("GET /v1/version?sinc%65=1&since=1", BAD_QUERY),
+        ("GET /v1/version?x=1&x=2", VERSION),
+        ("GET /v1/version?from=1&from=2", VERSION),
+    ];
+    check_bare(rt, alloc, front, &table)
+}
+
+/// Routes.
+fn check_routes(rt: &impl Abort, alloc: Global, front: &Front) -> Result<(), AllocError> {
+    let table = [
+        (
+            "GET /v1/route?from=00000000-0000-4000-8000-000000000051",
+            BAD_QUERY,
+        ),
+        (
+            "GET /v1/route?from=00000000-0000-4000-8000-000000000051&to=00000000-0000-4000-8000-000000000052",
+            BAD_QUERY,
+        ),
+        (
+            "GET /v1/route?from=00000000-0000-4000-8000-000000000051&to=00000000-0000-4000-8000-000000000052&profile=&certificate=maybe",
+            BAD_QUERY,
+        ),
+        (
+            "GET /v1/route?from=00000000-0000-4000-8000-000000000051&to=00000000-0000-4000-8000-000000000052&profile=&certificate=1",
+            BAD_QUERY,
+        ),
+        (
+            "GET /v1/route?from=x&to=00000000-0000-4000-8000-000000000052&profile=",
+            BAD_QUERY,
+        ),
+        (
+            "GET /v1/route?from=00000000-0000-4000-8000-000000000051&to=00000000-0000-4000-8000-000000000052&profile=",
+            route("", false),
+        ),
+        (
+            "GET /v1/route?from=00000000-0000-4000-8000-000000000051&to=00000000-0000-4000-8000-000000000052&profile=a+b&certificate=yes",
+            route("a b", true),
+        ),
+        (
+            "GET /v1/route?from=00000000-0000-4000-8000-000000000051&to=00000000-0000-4000-8000-000000000052&profile=%77&certificate=no",
+            route("w", false),
+        ),
+    ];
+    check_bare(rt, alloc, front, &table)
+}
+
+/// Staff keys.
+fn check_staff(rt: &impl Abort, alloc: Global, front: &Front) -> Result<(), AllocError> {
+    let table = [
+        (KEY, CLOSED),
+        ("X-Staff-Key: desk-key-1\r\n", CLOSED),
+        ("x-staff-key: \t desk-key-1 \r\n", CLOSED),
+        ("", NOT_STAFF),
+        (
+            "x-staff-key: desk-key-1\r\nx-staff-key: desk-key-1\r\n",
+            NOT_STAFF,
+        ),
+        ("x-staff-key: desk-key-1\r\nx-staff-key: a\r\n", NOT_STAFF),
+        ("x-staff-key: Desk-key-1\r\n", NOT_STAFF),
+        ("x-staff-key: desk-key-12\r\n", NOT_STAFF),
+    ];
+    for (row, (fields, want)) in table.iter().enumerate() {
+        let bytes = request(alloc, "POST /v1/closures", fields, CLOSING)?;
+        check(rt, alloc, front, &bytes, *want, row)?;
+    }
+    let bytes = request(alloc, "POST /v1/closures", "", b"[]")?;
+    check(rt, alloc, front, &bytes, NOT_STAFF, 8)?;
+    let bytes = request(alloc, "POST /v1/closures?since=x", KEY, CLOSING)?;
+    check(rt, alloc, front, &bytes, CLOSED, 9)
+}
+
+/// Bodies.
+fn check_bodies(rt: &impl Abort, alloc: Global, front: &Front) -> Result<(), AllocError> {
+    let table: &[(&[u8], Outcome<'_>)] = &[
+        (
+            b"\xef\xbb\xbf{\"feature\":\"00000000-0000-4000-8000-000000000301\",\"closed\":true}",
+            BAD_BODY,
+        ),
+        (b"\"\"", BAD_BODY),
+        (b"[]", BAD_BODY),
+        (b"", BAD_BODY),
+        (
+            b"{\"feature\":\"00000000-0000-4000-8000-000000000301\",\"closed\":true,\"z\":\"\xff\"}",
+            BAD_BODY,
+        ),
+        (
+            b"{\"feature\":\"00000000-0000-4000-8000-000000000301\",\"closed\":null}",
+            BAD_BODY,
+        ),
+        (
+            b"{\"feature\":\"00000000-0000-4000-8000-000000000301\"}",
+            BAD_BODY,
+        ),
+        (b"{\"feature\":301,\"closed\":true}", BAD_BODY),
+        (
+            b"{\"feature\":\"00000000-0000-4000-8000-000000000301\",\"closed\":true,\"z\":\"\\ud800\"}",
+            BAD_BODY,
+        ),
+        (
+            b"{\"feature\":\"00000000-0000-4000-8000-000000000301\",\"closed\":true,\"z\":1e400}",
+            BAD_BODY,
+        ),
+        (
+            b"{\"closed\":1,\"feature\":\"x\",\"feature\":\"00000000-0000-4000-8000-000000000301\",\"closed\":false}",
+            Outcome::Closure(I_0301, false),
+        ),
+    ];
+    check_posted(rt, alloc, front, "POST /v1/closures", table)
+}
+
+/// Bodies at the limits of depth and of a folder's name.
+fn check_limits(rt: &impl Abort, alloc: Global, front: &Front) -> Result<(), AllocError> {
+    let deep = nested(alloc, 126)?;
+    let deeper = nested(alloc, 127)?;
+    let long = repeated(alloc, b"{\"folder\":\"", b"a", 64, b"\"}")?;
+    let longer = repeated(alloc, b"{\"folder\":\"", b"a", 65, b"\"}")?;
+    let folder = "aaaaaaaaaaaaaaaaaaaaaaaaaaaaaaaaaaaaaaaaaaaaaaaaaaaaaaaaaaaaaaaa";
+    let table: &[(&[u8], Outcome<'_>)] = &[(&deep, CLOSED), (&deeper, BAD_BODY)];
+    check_posted(rt, alloc, front, "POST /v1/closures", table)?;
+    let table: &[(&[u8], Outcome<'_>)] = &[
+        (b"{\"folder\":\"tall\"}", Outcome::Publish("tall")),
+        (&long, Outcome::Publish(folder)),
+        (&longer, BAD_BODY),
+        (b"{\"folder\":\"../tall\"}", BAD_BODY),
+        (b"{\"folder\":\"Tall\"}", BAD_BODY),
+        (b"{\"folder\":\"\"}", BAD_BODY),
+    ];
+    check_posted(rt, alloc, front, "POST /v1/publish", table)
+}
+
+#[test]
+fn requests(rt: HostRuntime) -> Result<(), Fail> {
+    let alloc = rt.alloc();
+    let keys = desk(alloc)?;
+    let front = Front::new(alloc, &keys).expect(&rt, "memory");
+    check_paths(&rt, alloc, &front)?;
+    check_queries(&rt, alloc, &front)?;
+    check_routes(&rt, alloc, &front)?;
+    check_staff(&rt, alloc, &front)?;
+    check_bodies(&rt, alloc, &front)?;
+    check_limits(&rt, alloc, &front)?;
+    let refused = take(alloc, &front, b"GET /v1/version\r\n\r\n");
+    assert_eq!(&rt; come_of(&refused), Outcome::Fault(Refusal::BadHead));
+    one_message_law();
+    message_more_law();
+    more_is_short_law();
+    message_length_law();
+    path_law();
+    Ok(())
+}

@@ -1,0 +1,288 @@
+//! Sessions over streams in memory: what is written, and how they end, was worked out by hand.
+
+ghost use Rattle.std.specs.Prelude.{◌≡◌, IfOk};
+ghost use Rattle.std.specs.Arc.{arc_value};
+
+use std::alloc::Global;
+use std::process::Abort;
+use std::sync::Arc;
+use std::test::Fail;
+use test_station::{Change, slots_of, station_settings};
+use venue_build::{Built, Venue, build};
+use venue_ports::{MemoryFolders, MemoryStream};
+use venue_session::{End, serve_session};
+use venue_types::{Settings, Text};
+use venue_wire::Front;
+use version_board::{Alone, Hall, Unopened};
+
+// The version asked for.
+const VERSION: &str = "GET /v1/version HTTP/1.1\r\nhost: a\r\n\r\n";
+
+// It is asked for, and nothing else.
+const LAST: &str = "GET /v1/version HTTP/1.1\r\nhost: a\r\nconnection: close\r\n\r\n";
+
+// The begin of the same with a field to be filled.
+const PADDED: &str = "GET /v1/version HTTP/1.1\r\nhost: a\r\nx: ";
+
+// Version 9 or a later one is asked for.
+const SINCE: &str = "GET /v1/version?since=9 HTTP/1.1\r\nhost: a\r\n\r\n";
+
+// There are two hosts.
+const TWICE: &str = "GET /v1/version HTTP/1.1\r\nhost: a\r\nhost: b\r\n\r\n";
+
+// The head of a request of staff, 84 bytes.
+const CLOSURE: &str =
+    "POST /v1/closures HTTP/1.1\r\nhost: a\r\nx-staff-key: desk-key-1\r\ncontent-length: 64\r\n\r\n";
+
+// Its body, 64 bytes: the lift is to be closed.
+const LIFT: &str = "{\"feature\":\"00000000-0000-4000-8000-000000000301\",\"closed\":true}";
+
+// Version 1.
+const FIRST: &str =
+    "HTTP/1.1 200 OK\r\ncontent-type: application/json\r\ncontent-length: 36\r\n\r\n{\"closed\":0,\"places\":33,\"version\":1}";
+
+// Version 1, and the end.
+const FIRST_LAST: &str =
+    "HTTP/1.1 200 OK\r\ncontent-type: application/json\r\ncontent-length: 36\r\nconnection: close\r\n\r\n{\"closed\":0,\"places\":33,\"version\":1}";
+
+// Version 2, at which the lift is closed.
+const SECOND: &str =
+    "HTTP/1.1 200 OK\r\ncontent-type: application/json\r\ncontent-length: 36\r\n\r\n{\"closed\":1,\"places\":33,\"version\":2}";
+
+// The lift was closed.
+const CLOSED: &str =
+    "HTTP/1.1 200 OK\r\ncontent-type: application/json\r\ncontent-length: 91\r\n\r\n{\"changed\":true,\"closed\":true,\"feature\":\"00000000-0000-4000-8000-000000000301\",\"version\":2}";
+
+// It stood so.
+const AS_ASKED: &str =
+    "HTTP/1.1 200 OK\r\ncontent-type: application/json\r\ncontent-length: 92\r\n\r\n{\"changed\":false,\"closed\":true,\"feature\":\"00000000-0000-4000-8000-000000000301\",\"version\":2}";
+
+const AHEAD: &str =
+    "HTTP/1.1 409 Conflict\r\ncontent-type: application/json\r\ncontent-length: 47\r\n\r\n{\"error\":\"version_ahead\",\"since\":9,\"version\":1}";
+
+const TOO_LARGE: &str =
+    "HTTP/1.1 431 Request Header Fields Too Large\r\ncontent-type: application/json\r\ncontent-length: 26\r\nconnection: close\r\n\r\n{\"error\":\"head_too_large\"}";
+
+const BAD_HEAD: &str =
+    "HTTP/1.1 400 Bad Request\r\ncontent-type: application/json\r\ncontent-length: 20\r\nconnection: close\r\n\r\n{\"error\":\"bad_head\"}";
+
+// The sizes of pieces in which each input comes, in turn; 0 where it comes whole.
+static PIECES: [usize; 3] = [0, 1, 7];
+
+// What comes, what is written for it, and how the session then ends.
+#[derive(Clone, Copy)]
+struct Row {
+    name: &'static str,
+    input: &'static [&'static str],
+    // How many letters stand for the sign `*` in the input.
+    fill: usize,
+    // Which write fails, from 1.
+    failing_write: u64,
+    written: &'static [&'static str],
+    end: End,
+}
+
+fn telling(
+    name: &'static str,
+    input: &'static [&'static str],
+    written: &'static [&'static str],
+    end: End,
+) -> Row {
+    Row {
+        name,
+        input,
+        fill: 0,
+        failing_write: 0,
+        written,
+        end,
+    }
+}
+
+fn joined(alloc: Global, texts: &[&'static str], fill: usize) -> Result<Vec<u8>, Fail> {
+    let mut bytes = Vec::new(alloc);
+    for text in texts {
+        if *text == "*" {
+            bytes.resize(fill.saturating_add(bytes.len()), b'a')?;
+        } else {
+            bytes.extend_from_slice(text.as_bytes())?;
+        }
+    }
+    Ok(bytes)
+}
+
+fn sizes(alloc: Global, size: usize, length: usize) -> Result<Vec<usize>, Fail> {
+    let count = if size == 0 { 0 } else { length };
+    Ok(vec![in alloc; size; count]?)
+}
+
+// The input of a row in pieces of a size.
+fn stream(alloc: Global, row: &Row, size: usize) -> Result<MemoryStream, Fail> {
+    let input = joined(alloc, row.input, row.fill)?;
+    let pieces = sizes(alloc, size, input.len())?;
+    let writes = vec![in alloc; row.failing_write]?;
+    match MemoryStream::new(alloc, input, pieces, 2_000, Vec::new(alloc), writes) {
+        Ok(stream) => Ok(stream),
+        Err(_) => Err(Fail::new("no stream")),
+    }
+}
+
+// A session of a row over a hall.
+fn judge_session(
+    rt: &impl Abort,
+    alloc: Global,
+    hall: &mut impl Hall,
+    front: &Front,
+    row: &Row,
+    size: usize,
+) -> Result<(), Fail> {
+    let mut link = stream(alloc, row, size)?;
+    let end = serve_session(alloc, hall, front, &mut link);
+    let written = joined(alloc, row.written, 0)?;
+    assert!(rt;
+        link.written() == written.as_slice(),
+        "{} in pieces of {size}",
+        row.name
+    );
+    assert_eq!(rt; end, row.end, "{} in pieces of {size}", row.name);
+    Ok(())
+}
+
+fn venue_of(alloc: Global, settings: &Settings) -> Result<Arc<Venue>, Fail>
+    ensures { IfOk result (λ venue. (arc_value venue).settings ≡ settings.now) }
+{
+    let files = slots_of(alloc, Change::of(&[]))?;
+    match build(alloc, &files, settings)? {
+        Built::Venue(venue) => Ok(Arc::new(alloc, venue)?),
+        Built::Rejected(_) => Err(Fail::new("the folder is rejected")),
+    }
+}
+
+// A hall of the venue, over no folders.
+fn hall(
+    alloc: Global,
+    settings: &Arc<Settings>,
+    venue: &Arc<Venue>,
+) -> Result<Alone<MemoryFolders>, Fail>
+    requires { (arc_value venue.now).settings ≡ arc_value settings.now }
+{
+    let Ok(folders) = MemoryFolders::new(Vec::new(alloc), Vec::new(alloc)) else {
+        return Err(Fail::new("no folders"));
+    };
+    let base = Text::from_string(String::from_str(alloc, "base")?);
+    let settings = Arc::try_clone(settings)?;
+    let venue = Arc::try_clone(venue)?;
+    match Alone::begin(alloc, settings, venue, folders, base) {
+        Ok(hall) => Ok(hall),
+        Err(Unopened { .. }) => Err(Fail::new("no hall")),
+    }
+}
+
+// The session of a row, over a hall of its own for each size of pieces.
+fn judge(
+    rt: &impl Abort,
+    alloc: Global,
+    settings: &Arc<Settings>,
+    venue: &Arc<Venue>,
+    front: &Front,
+    row: &Row,
+) -> Result<(), Fail>
+    requires { (arc_value venue.now).settings ≡ arc_value settings.now }
+{
+    for size in &PIECES {
+        let mut hall = hall(alloc, settings, venue)?;
+        judge_session(rt, alloc, &mut hall, front, row, *size)?;
+    }
+    Ok(())
+}
+
+#[test]
+fn sessions_end(rt: HostRuntime) -> Result<(), Fail> {
+    let alloc = rt.alloc();
+    let settings = Arc::new(alloc, station_settings(alloc)?)?;
+    let venue = venue_of(alloc, &settings)?;
+    let front = Front::new(alloc, &settings.staff_keys)?;
+    for row in [
+        telling("nothing", &[], &[], End::Done),
+        telling("a version", &[VERSION], &[FIRST], End::Done),
+        telling(
+            "two versions",
+            &[VERSION, VERSION],
+            &[FIRST, FIRST],
+            End::Done,
+        ),
+        telling(
+            "ten bytes more",
+            &[VERSION, VERSION, "GET /v1/ve"],
+            &[FIRST, FIRST],
+            End::Cut(10),
+        ),
+        telling("a line end more", &[VERSION, "\n"], &[FIRST], End::Cut(1)),
+        telling(
+            "behind the last",
+            &[LAST, VERSION],
+            &[FIRST_LAST],
+            End::Done,
+        ),
+        Row {
+            fill: 16_343,
+            ..telling(
+                "a head of 16,385 bytes",
+                &[PADDED, "*", "\r\n\r\n"],
+                &[TOO_LARGE],
+                End::Refused(431),
+            )
+        },
+        Row {
+            fill: 16_342,
+            ..telling(
+                "a head of 16,384 bytes",
+                &[PADDED, "*", "\r\n\r\n"],
+                &[FIRST],
+                End::Done,
+            )
+        },
+        telling(
+            "two hosts",
+            &[VERSION, TWICE, VERSION],
+            &[FIRST, BAD_HEAD],
+            End::Refused(400),
+        ),
+        telling(
+            "a closure",
+            &[CLOSURE, LIFT, VERSION, CLOSURE, LIFT],
+            &[CLOSED, SECOND, AS_ASKED],
+            End::Done,
+        ),
+        telling("a later version", &[SINCE], &[AHEAD], End::Done),
+        telling(
+            "a body cut",
+            &[
+                CLOSURE,
+                "{\"feature\":\"00000000-0000-4000-8000-000000000301\",\"closed\":true",
+            ],
+            &[],
+            End::Cut(147),
+        ),
+        Row {
+            failing_write: 1,
+            ..telling(
+                "the first write fails",
+                &[VERSION, VERSION],
+                &[],
+                End::LinkFault,
+            )
+        },
+        Row {
+            failing_write: 2,
+            ..telling(
+                "the second write fails",
+                &[VERSION, VERSION],
+                &[FIRST],
+                End::LinkFault,
+            )
+        },
+    ] {
+        judge(&rt, alloc, &settings, &venue, &front, &row)?;
+    }
+    Ok(())
+}

@@ -1,0 +1,6 @@
+use Rattle.std.proofs.lemmas.List.Elements.{All-same, All-push}
+use Rattle.test_figures.specs.Boxes.{IsInBox}
+use Rattle.test_plane.proofs.figures.ring.Goals as goal
+
+pub loop-point-preserved : goal.loop-point-preserved
+loop-point-preserved c = All-same IsInBox _ _ c.in_ok-push.ensures.items (All-push IsInBox c.loop-point.list.items c.at.result c.loop-point.invariant c.at.ensures)

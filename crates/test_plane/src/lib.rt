@@ -1,0 +1,7 @@
+//! Tests of the plane: figures, and trees of octagons over them.
+#![tactic(auto)]
+
+#[cfg(test)]
+mod figures;
+#[cfg(test)]
+mod trees;

@@ -1,0 +1,7 @@
+//! Tests of the program over an outside in memory.
+#![tactic(auto)]
+
+#[cfg(test)]
+mod hostile;
+#[cfg(test)]
+mod services;

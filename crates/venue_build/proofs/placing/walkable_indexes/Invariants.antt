@@ -1,6 +1,0 @@
-use Rattle.std.proofs.Common.{◌≡◌, take}
-use Rattle.venue_build.specs.Placing.{walkable_indexes}
-use Rattle.venue_build.proofs.placing.walkable_indexes.Given as goal
-
-abbrev pub invariant-loop-k : goal.invariant-loop-k
-invariant-loop-k l = l.indexes.items ≡ walkable_indexes (take l.k l.units)

@@ -1,7 +1,0 @@
-use Rattle.venue_commands.proofs.Ending.{ends_failed}
-use Rattle.venue_commands.proofs.running.print_fault.Goals as goal
-
-pub returns-clause-ends : goal.returns-clause-ends
-returns-clause-ends g c words files before now asks rose =
-    let printed = c.write_all.ensures in
-    ends_failed words files _ c.write_all.result asks rose printed.ok printed.err printed.cause.kept printed.cause.failed printed.left

@@ -1,0 +1,62 @@
+//! The venue of a base's folder, or the answer that stops a command.
+
+ghost use Rattle.std.specs.Prelude.{◌≡◌, IfOk, IfErr, IfSome, length};
+ghost use Rattle.venue_ports.specs.Files.{HasReadCause};
+ghost use Rattle.venue_ports.specs.declared.folders.ReadFault.TheVariants.{OutOfMemory as NoMemory};
+ghost use Rattle.venue_commands.specs.Steps.{IsMade, IsMadeOf, IsPlain};
+
+use crate::printout::{Printout, printed};
+use crate::settings::settings_of;
+use crate::status::Status;
+use check_text::rejected_text;
+use std::alloc::Global;
+use venue_folder::files_of;
+use venue_ports::{Folders, ReadFault};
+use venue_session::{Built, Venue, build};
+use venue_types::{Files, OutOfMemory, Settings};
+
+/// What becomes of a folder of a base.
+#[derive(Drop)]
+pub(crate) enum Made {
+    /// There is no venue, and this is printed.
+    Stopped(Printout),
+    Venue(Venue),
+}
+
+// What becomes of a folder under settings.
+fn made_of(alloc: Global, files: &Files, settings: &Settings) -> Result<Made, ReadFault>
+    requires { length files.now.slots ≡ 17 }
+    ensures told { IfOk result (IsMadeOf files.now settings.now) }
+    ensures plain { IfOk result IsPlain }
+    ensures memory { IfErr result (λ why. why ≡ NoMemory) }
+{
+    match build(alloc, files, settings) {
+        Ok(Built::Rejected(report)) => {
+            let text = rejected_text(alloc, &report)?;
+            Ok(Made::Stopped(printed(Status::Negative, text)))
+        }
+        Ok(Built::Venue(venue)) => Ok(Made::Venue(venue)),
+        Err(OutOfMemory) => Err(ReadFault::OutOfMemory),
+    }
+}
+
+/// The venue of a folder of the base, under the base's settings, or the answer where there is none.
+pub(crate) fn venue_of<F: Folders>(
+    alloc: Global,
+    base: &str,
+    folder: &str,
+    folders: &mut F,
+) -> Result<Made, ReadFault>
+    ensures told { IfOk result (λ made. IfSome (F.files folders.old) (λ files. IsMade files base.now folder.now made)) }
+    ensures plain { IfOk result IsPlain }
+    ensures same { F.files folders.new ≡ F.files folders.old }
+    ensures cause { HasReadCause (F.faults folders.old) (F.faults folders.new) result }
+{
+    let settings = match settings_of(alloc, base, folders)? {
+        Ok(settings) => settings,
+        Err(text) => return Ok(Made::Stopped(printed(Status::Wrong, text))),
+    };
+    let path = format!(in alloc; "{base}/{folder}")?;
+    let files = files_of(alloc, path.as_str(), folders)?;
+    made_of(alloc, &files, &settings)
+}

@@ -1,7 +1,0 @@
-use Rattle.std.proofs.Common.{◌≡◌, ◌++◌, ◌∷◌, [], map, take}
-use Rattle.venue_types.specs.declared.features.AnchorRow.{AnchorRow}
-use Rattle.venue_nodes.specs.Naming.{numbers}
-use Rattle.venue_nodes.proofs.naming.add_anchors.Given as goal
-
-abbrev pub invariant-loop-row : goal.invariant-loop-row
-invariant-loop-row l = l.lists ≡ l.initial.lists ++ map (λ (row : AnchorRow). numbers l.walkables.ids.items (row.unit ∷ [])) (take l.row-index l.rows)

@@ -1,0 +1,88 @@
+//! With which number the process ends.
+
+ghost use Rattle.std.specs.Prelude.{◌≡◌, ◌≤◌, ◌↔◌, false};
+ghost use Rattle.std.specs.Process.{exit_status};
+ghost use Rattle.venue_commands.specs.Codes.{status_code};
+ghost use Rattle.venue_commands.specs.Runs.{run_between};
+ghost use Rattle.venue_program.specs.Doors.{doors_between};
+ghost use Rattle.venue_program.specs.Exits.{ExitsAfter, KeepsAfter, LeavesAfter};
+
+use crate::outcome::Outcome;
+use crate::program::run;
+use std::alloc::Global;
+use std::io::ErrorKind;
+use std::process::ExitCode;
+use std::sync::Wait;
+use std::thread::Threads;
+use venue_commands::Status;
+use venue_ports::{Doors, Folders, Stream};
+
+/// Why the words of the command line were not read.
+#[derive(Clone, Copy, Debug, PartialEq, Eq)]
+pub enum WordsFault {
+    /// One of them is not UTF-8.
+    NotText,
+    /// Memory ran out.
+    OutOfMemory,
+}
+
+/// What is handed to the system, and what was handed in.
+#[derive(Drop)]
+pub struct Exit<F, D> {
+    pub code: ExitCode,
+    pub folders: F,
+    pub doors: D,
+}
+
+/// Why the words were not read, where the system reports an error of this kind.
+pub fn words_fault(kind: ErrorKind) -> WordsFault
+    ensures { (result ≡ WordsFault.OutOfMemory) ↔ (kind ≡ ErrorKind.OutOfMemory) }
+{
+    match kind {
+        ErrorKind::OutOfMemory => WordsFault::OutOfMemory,
+        _ => WordsFault::NotText,
+    }
+}
+
+// The number of an outcome's status.
+fn exit_of<F, D>(outcome: Outcome<F, D>) -> Exit<F, D>
+    ensures code { exit_status result.code ≡ status_code outcome.status }
+    ensures folders { result.folders ≡ outcome.folders }
+    ensures doors { result.doors ≡ outcome.doors }
+{
+    Exit {
+        code: ExitCode::from(outcome.status.code()),
+        folders: outcome.folders,
+        doors: outcome.doors,
+    }
+}
+
+/// Runs the command that the words name, where they were read, and gives the number with which the process ends.
+pub fn exit_after<F: Folders + Send, D: Doors + Send, C: Stream, R: Threads + Wait + Sync>(
+    rt: &R,
+    alloc: Global,
+    words: Result<Vec<String>, WordsFault>,
+    folders: F,
+    doors: D,
+    console: &mut C,
+) -> Exit<F, D>
+    requires { D.ready doors ≡ false }
+    ensures exits { ExitsAfter words (F.files folders)
+        (run_between C.Stream console.old console.new (F.faults folders) (F.faults result.folders))
+        (doors_between D.Doors doors result.doors) (exit_status result.code) }
+    ensures files { F.files result.folders ≡ F.files folders }
+    ensures doors { KeepsAfter words (result.doors ≡ doors) }
+    ensures left { LeavesAfter words (C.left console.old) (C.left console.new) }
+    ensures folders_later { F.faults folders ≤ F.faults result.folders }
+    ensures console_later { C.faults console.old ≤ C.faults console.new }
+{
+    match words {
+        Ok(words) => exit_of(run(rt, alloc, words.as_slice(), folders, doors, console)),
+        Err(WordsFault::NotText) => exit_of(run(rt, alloc, &[], folders, doors, console)),
+        Err(WordsFault::OutOfMemory) => Exit {
+            code: ExitCode::from(Status::Memory.code()),
+            folders,
+            doors,
+        },
+    }
+}

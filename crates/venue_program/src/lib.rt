@@ -1,0 +1,12 @@
+//! The whole program, over folders, doors and a console that it is handed: the command that the words name, and the number with which the process ends.
+#![tactic(auto)]
+
+mod exit;
+mod outcome;
+mod program;
+mod ready;
+mod serve_command;
+
+pub use exit::{Exit, WordsFault, exit_after, words_fault};
+pub use outcome::Outcome;
+pub use program::run;

@@ -1,6 +1,0 @@
--- A worker serves at one hall.
-use Rattle.version_board.specs.Facts.{IsSameHall}
-use Rattle.venue_service.proofs.working.work.Given as goal
-
-abbrev pub invariant-loop : goal.invariant-loop
-invariant-loop g l = IsSameHall l.initial.seat l.seat

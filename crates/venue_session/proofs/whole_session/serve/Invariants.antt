@@ -1,0 +1,12 @@
+use Rattle.std.proofs.Common.{◌-◌, ◌^◌}
+use Rattle.venue_session.specs.Going.{moment, Awaits, IsGoing}
+use Rattle.venue_session.proofs.whole_session.serve.Given as goal
+
+abbrev pub invariant-reads : goal.invariant-reads
+invariant-reads g l =
+    IsGoing l.front (moment (g.H.Asks.facts l.fn.hall) (g.L.Stream.left l.fn.link) (g.L.Stream.written l.fn.link) (g.L.Stream.faults l.fn.link))
+    (moment (g.H.Asks.facts l.hall) (g.L.Stream.left l.link) (g.L.Stream.written l.link) (g.L.Stream.faults l.link)) l.taken l.input
+    × Awaits l.input l.least
+
+abbrev pub decreases-reads : goal.decreases-reads
+decreases-reads g l = 2 ^ 40 - l.taken

@@ -1,0 +1,43 @@
+-- What a request gets to which no refusal applies.
+use Rattle.std.specs.Prelude.{◌≡◌, ◌⊎◌, ◌<◌, Contains, Option}
+use Rattle.venue_types.specs.declared.query.Ask.{Ask}
+use Rattle.venue_types.specs.declared.query.Ask.TheVariants as ask
+use Rattle.venue_types.specs.declared.query.Change.{Change}
+use Rattle.venue_types.specs.declared.query.Change.TheVariants as change
+use Rattle.venue_hall.specs.Nodes.{closables}
+use Rattle.venue_hall.specs.Venues.{SeenVenue as Venue}
+use Rattle.venue_folder.specs.Shelves.{Shelf}
+use Rattle.venue_hall.specs.Answers.{HasProfile, IsPlace}
+use Rattle.venue_hall.specs.Changes.{Makes}
+use Rattle.venue_hall.specs.Closed.{Version}
+use Rattle.venue_hall.specs.Replies.{ReplyKind, version, places, place, closures, route, no_route, closure_done, published, folder_fault}
+
+-- what a question names is there: a place, and for a route a profile and both places
+abbrev pub IsThere : Version → Ask → Type 0
+IsThere v ask.Version = Unit {0}
+IsThere v ask.Places = Unit {0}
+IsThere v (ask.Place id) = IsPlace v id
+IsThere v ask.Closures = Unit {0}
+IsThere v (ask.Route from to name certificate) = HasProfile v name × IsPlace v from × IsPlace v to
+
+-- the reply is of the kind that the question asks for; a route's may say that there is none
+abbrev pub IsOfKind : Ask → ReplyKind → Type 0
+IsOfKind ask.Version kind = kind ≡ version
+IsOfKind ask.Places kind = kind ≡ places
+IsOfKind (ask.Place id) kind = kind ≡ place
+IsOfKind ask.Closures kind = kind ≡ closures
+IsOfKind (ask.Route from to name certificate) kind = (kind ≡ route) ⊎ (kind ≡ no_route)
+
+-- there is room for one version more
+abbrev pub HasRoom : Version → Type 0
+HasRoom v = v.number < v.settings.last_version
+
+-- the change can be made: the feature can be closed, or the files of the folder make a venue
+abbrev pub CanBeMade : Option Shelf → Version → Change → Type 0
+CanBeMade shelf v (change.Closure feature closed) = Contains (closables v.features) feature
+CanBeMade shelf v (change.Publish folder) = (venue : Venue) × Makes shelf v folder venue
+
+-- the reply tells that the change stands; or, of a publication, that the folder couldn't be read
+abbrev pub IsMadeKind : Change → ReplyKind → Type 0
+IsMadeKind (change.Closure feature closed) kind = kind ≡ closure_done
+IsMadeKind (change.Publish folder) kind = (kind ≡ published) ⊎ (kind ≡ folder_fault)

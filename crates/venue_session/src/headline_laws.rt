@@ -1,0 +1,47 @@
+//! The headline, and which requests are not refused.
+
+ghost use Rattle.std.specs.Prelude.{◌≡◌, ◌⊎◌, ℕ, ◌++◌, Bool, List, Option, Some};
+ghost use Rattle.venue_types.specs.declared.feature_id.FeatureId.{FeatureId};
+ghost use Rattle.venue_types.specs.declared.query.Change.{Change};
+ghost use Rattle.venue_types.specs.declared.query.Change.TheVariants.{Closure};
+ghost use Rattle.venue_types.specs.declared.query.Query.{Query};
+ghost use Rattle.venue_types.specs.declared.reply.Reply.{Reply};
+ghost use Rattle.venue_folder.specs.Shelves.{Shelf};
+ghost use Rattle.venue_hall.specs.Entry.{Entry};
+ghost use Rattle.venue_hall.specs.Answers.{Answers, IsTooEarly};
+ghost use Rattle.venue_hall.specs.Changes.{Changes, StandsSo};
+ghost use Rattle.venue_hall.specs.Closed.{Version};
+ghost use Rattle.venue_hall.specs.Histories.{Replays};
+ghost use Rattle.venue_hall.specs.Replies.{kind_of, closure_done, out_of_memory};
+ghost use Rattle.venue_hall.specs.Facts.{Facts};
+ghost use Rattle.venue_session.specs.Ends.{Measured};
+ghost use Rattle.venue_session.specs.Sessions.{IsSession};
+ghost use Rattle.venue_session.specs.declared.ends.End.{End};
+ghost use Rattle.venue_session.specs.Headline.{Headline, IsWhole};
+ghost use Rattle.venue_session.specs.Complete.{CanBeMade, HasRoom, IsMadeKind, IsOfKind, IsThere};
+
+use venue_hall::one_outcome;
+
+/// The bytes that a session wrote answer its messages, one for one and in order, none left over, each at a legal history that begins
+/// with the one before; a route costs what it says and no way costs less, and where it is said that there is none there is none. That
+/// is said of sessions that ended by themselves, over a link that tells its bytes.
+pub fn headline_law()
+    ensures { (keys : List (List ℕ)) (old new : Facts) (link : Measured) (end : End) (came left before written : List ℕ)
+        → IsSession keys old new link end → IsWhole end
+        → link.left_before ≡ Some came → link.left_after ≡ Some left → link.written_before ≡ Some before → link.written_after ≡ Some (before ++ written)
+        → Headline keys old.files old.worker old.seen came left written }
+{}
+
+/// A question at a version that isn't too early, in which what it names is there, gets what it asks for, or memory ran out. A change
+/// that can be made, with room for one version more, is made or stands so already; or a folder couldn't be read, or memory ran out. A
+/// closure that stands so already is told so without room, or memory ran out.
+pub fn complete_law()
+    ensures questions { (v : Version) (query : Query) (r : Reply) → (IsTooEarly v query.since → ⊥) → IsThere v query.what → Answers v query r
+        → IsOfKind query.what (kind_of r) ⊎ (kind_of r ≡ out_of_memory) }
+    ensures changes { (shelf : Shelf) (worker : ℕ) (asked : Change) (h k : List Entry) (v : Version) (r : Reply) → Replays h v → HasRoom v
+        → CanBeMade (Some shelf) v asked → Changes (Some shelf) worker asked h r k → IsMadeKind asked (kind_of r) ⊎ (kind_of r ≡ out_of_memory) }
+    ensures standing { (shelf : Option Shelf) (worker : ℕ) (feature : FeatureId) (closed : Bool) (h k : List Entry) (v : Version) (r : Reply) → Replays h v
+        → StandsSo v feature closed → Changes shelf worker (Closure feature closed) h r k → (kind_of r ≡ closure_done) ⊎ (kind_of r ≡ out_of_memory) }
+{
+    one_outcome();
+}

@@ -1,0 +1,55 @@
+//! The end of a session by a head that is refused.
+
+ghost use Rattle.std.specs.Prelude.{◌≡◌, ℕ, List, IfOk};
+ghost use Rattle.venue_hall.specs.Facts.{Facts};
+ghost use Rattle.wire_frames.specs.Frames.{IsRefused};
+ghost use Rattle.wire_replies.specs.Heads.{refusal_status};
+ghost use Rattle.venue_session.specs.Ends.{refused_text};
+ghost use Rattle.venue_session.specs.Going.{Moment, moment, IsGoing, HasEnded};
+
+use crate::ends::End;
+use crate::writer::write_all;
+use std::alloc::Global;
+use venue_ports::Stream;
+use venue_types::{Bytes, OutOfMemory};
+use wire_frames::Refusal;
+use wire_replies::{Response, reply_bytes};
+
+// The status of a refusal.
+fn status_of(refusal: Refusal) -> u16
+    ensures { result ≡ refusal_status refusal }
+{
+    match refusal {
+        Refusal::HeadTooLarge => 431,
+        Refusal::BadHead => 400,
+        Refusal::TransferCoding => 501,
+        Refusal::BodyTooLarge => 413,
+        Refusal::NoPath => 404,
+        Refusal::Method(_) => 405,
+        Refusal::NotStaff => 403,
+        Refusal::BadBody => 400,
+        Refusal::BadQuery => 400,
+    }
+}
+
+fn refusal_text(alloc: Global, refusal: Refusal) -> Result<Bytes, OutOfMemory>
+    ensures { IfOk result (λ bytes. bytes ≡ refused_text refusal) }
+{
+    reply_bytes(alloc, &Response::No(refusal), true)
+}
+
+/// Writes why the head that waits is refused, and tells how the session ends by it.
+pub(crate) fn refuse<L: Stream>(alloc: Global, link: &mut L, refusal: Refusal) -> End
+    ensures { (keys : List (List ℕ)) (first : Moment) (facts : Facts) (taken : ℕ) (waiting : List ℕ)
+        → IsGoing keys first (moment facts (L.left link.old) (L.written link.old) (L.faults link.old)) taken waiting
+        → IsRefused waiting refusal
+        → HasEnded keys first (moment facts (L.left link.new) (L.written link.new) (L.faults link.new)) result }
+{
+    match refusal_text(alloc, refusal) {
+        Ok(text) => match write_all(link, text.as_slice()) {
+            Ok(()) => End::Refused(status_of(refusal)),
+            Err(_failed) => End::LinkFault,
+        },
+        Err(_error) => End::OutOfMemory,
+    }
+}

@@ -1,0 +1,114 @@
+//! One message acted on.
+
+ghost use Rattle.std.specs.Prelude.{◌≡◌, if◌then◌else◌};
+ghost use Rattle.venue_wire.specs.declared.messages.Message.{Message as AMessage};
+ghost use Rattle.venue_hall.specs.Facts.{Facts};
+ghost use Rattle.wire_replies.specs.declared.response.Response.TheVariants.{Of, No};
+ghost use Rattle.venue_session.specs.Steps.{IsStep, told_by};
+ghost use Rattle.venue_session.specs.Texts.{Stepped};
+
+use crate::texts::Text;
+use std::alloc::Global;
+use venue_hall::Hall;
+use venue_types::{Change, Query, Reply};
+use venue_wire::Message;
+use wire_frames::Refusal;
+use wire_replies::{Response, reply_bytes, want_of_memory};
+
+/// What comes of a message.
+#[derive(Drop)]
+pub(crate) enum Step {
+    /// This text is to be written.
+    Replied(Text),
+    /// A change was accepted, and there is no memory for its text: nothing may be written any more.
+    Untold,
+}
+
+// Asks behind a look at what others changed.
+fn ask_again<H: Hall>(hall: &mut H, query: &Query) -> Reply
+    ensures { IsStep (H.facts hall.old) (AMessage.Ask query.now) (Of result) (H.facts hall.new) }
+{
+    hall.catch_up();
+    hall.ask(query)
+}
+
+// Asks, and once more where the question comes too early.
+fn ask<H: Hall>(hall: &mut H, query: &Query) -> Reply
+    ensures { IsStep (H.facts hall.old) (AMessage.Ask query.now) (Of result) (H.facts hall.new) }
+{
+    match hall.ask(query) {
+        Reply::Ahead { .. } => ask_again(hall, query),
+        reply => reply,
+    }
+}
+
+fn change<H: Hall>(hall: &mut H, asked: &Change) -> Reply
+    ensures { IsStep (H.facts hall.old) (AMessage.Do asked.now) (Of result) (H.facts hall.new) }
+{
+    hall.change(asked)
+}
+
+// A message that is refused by itself leaves the hall as it is.
+fn refuse<H: Hall>(hall: &H, refusal: Refusal) -> Response
+    ensures { IsStep (H.facts hall.now) (AMessage.Refused refusal) result (H.facts hall.now) }
+{
+    // By its number what the hall has seen is a legal history.
+    let _number = hall.number();
+    Response::No(refusal)
+}
+
+fn answer<H: Hall>(hall: &mut H, message: &Message) -> Response
+    ensures { IsStep (H.facts hall.old) message.now result (H.facts hall.new) }
+{
+    match message {
+        Message::Ask(query) => Response::Of(ask(hall, query)),
+        Message::Do(asked) => Response::Of(change(hall, asked)),
+        Message::Refused(refusal) => refuse(hall, *refusal),
+    }
+}
+
+// Whether an answer tells that a change was accepted.
+fn tells_change(answer: &Response) -> bool
+    ensures { told_by answer.now ≡ (if result then 1 else 0) }
+{
+    match answer {
+        Response::Of(Reply::ClosureDone { changed, .. }) => *changed,
+        Response::Of(Reply::Published { .. }) => true,
+        Response::Of(_) => false,
+        Response::No(_) => false,
+    }
+}
+
+// What is written where there is no memory for an answer's text.
+fn step_without_memory(answer: &Response, close: bool) -> Step
+    ensures { (old new : Facts) (message : AMessage) → IsStep old message answer.now new → Stepped old message close result new }
+{
+    if tells_change(answer) {
+        Step::Untold
+    } else {
+        Step::Replied(Text::Fixed(want_of_memory(close)))
+    }
+}
+
+fn make_step(alloc: Global, answer: &Response, close: bool) -> Step
+    ensures { (old new : Facts) (message : AMessage) → IsStep old message answer.now new → Stepped old message close result new }
+{
+    match reply_bytes(alloc, answer, close) {
+        Ok(bytes) => Step::Replied(Text::Made(bytes)),
+        Err(_) => step_without_memory(answer, close),
+    }
+}
+
+/// Asks, changes or refuses as the message says. A question that comes too early is asked once more behind a look at what others
+/// changed.
+pub(crate) fn answer_message<H: Hall>(
+    alloc: Global,
+    hall: &mut H,
+    message: &Message,
+    close: bool,
+) -> Step
+    ensures { Stepped (H.facts hall.old) message.now close result (H.facts hall.new) }
+{
+    let answer = answer(hall, message);
+    make_step(alloc, &answer, close)
+}

@@ -1,6 +1,0 @@
-use Rattle.std.proofs.Common.{◌≡◌, take}
-use Rattle.venue_build.specs.Places.{places}
-use Rattle.venue_state.proofs.asking.place_rows.Given as goal
-
-abbrev pub invariant-loop-n : goal.invariant-loop-n
-invariant-loop-n l = l.rows.items ≡ take l.n (places l.venue.features)

@@ -1,8 +1,0 @@
-use Rattle.std.proofs.Common.{◌≡◌, ◌++◌, drop}
-use Rattle.link_graph.specs.Graphs.{network}
-use Rattle.link_graph.specs.Marking.{chosen}
-use Rattle.venue_state.proofs.closing.marked_ids.Given as goal
-
--- what was taken and what the rest chooses
-abbrev pub invariant-loop-k : goal.invariant-loop-k
-invariant-loop-k l = l.ids ++ chosen (drop l.k l.marks) (drop l.k (network l.graph).closables) ≡ chosen l.marks (network l.graph).closables

@@ -1,0 +1,243 @@
+//! Changes, made ready at a board. Nothing here knows where the history is kept.
+
+ghost use Rattle.std.specs.Prelude.{◌≡◌, ℕ, ◌+◌, ◌<◌, ◌≤◌, List as AList, Option as AnOption, IfOk, IfErr, OnOk, All, Contains, length};
+ghost use Rattle.std.specs.Arc.{arc_value};
+ghost use Rattle.venue_types.specs.declared.query.Change.TheVariants.{Closure, Publish};
+ghost use Rattle.route_search.specs.Nodes.{closables};
+ghost use Rattle.venue_history.specs.Built.{IsVenueOf};
+ghost use Rattle.venue_history.specs.Shelves.{Shelf};
+ghost use Rattle.venue_history.specs.Changes.{AreRead};
+ghost use Rattle.venue_state.specs.Making.{shelf_of, closure_act, IsOutcome, CountsOutcome, IsUnread, IsUnmade};
+
+use crate::base_folders::BaseFolders;
+use crate::board::Board;
+use crate::prepared::Prepared;
+use crate::unready::Unready;
+use std::alloc::Global;
+use std::sync::Arc;
+use venue_history::{Act, Built, Venue, build, closed_law};
+use venue_ports::{Folders, ReadFault};
+use venue_types::{Change, FeatureId, Files, List, OutOfMemory, Reply, Settings, Text};
+
+/// What becomes of a change.
+#[derive(Drop)]
+pub enum Outcome {
+    /// The history stays, and this is the reply.
+    Stays(Reply),
+    /// The change is ready. The reply tells it once it is in the history; the files are those that were read for it.
+    Made(Prepared, Reply, Option<Files>),
+}
+
+// The number of the version after that of a board that isn't at the last one.
+fn next_number(board: &Board, settings: &Settings) -> u32
+    requires { board.now.number < settings.now.last_version }
+    ensures { result ≡ board.now.number + 1 }
+{
+    let _last = settings.last_version;
+    board.number() + 1
+}
+
+// What closes a feature, or opens it again.
+fn closure_act(feature: FeatureId, closed: bool) -> Act
+    ensures { result ≡ closure_act feature closed }
+{
+    if closed {
+        Act::Closed(feature)
+    } else {
+        Act::Reopened(feature)
+    }
+}
+
+// A feature closed, or opened again.
+fn ready_closure(
+    alloc: Global,
+    board: &Board,
+    settings: &Settings,
+    worker: u8,
+    feature: FeatureId,
+    closed: bool,
+) -> Outcome
+    requires some { 1 ≤ worker }
+    requires range { worker ≤ 16 }
+    requires settings { settings.now ≡ board.now.settings }
+    requires closable { All (Contains (closables board.now.features)) board.now.closed }
+    ensures outcome { (shelf : AnOption Shelf) → IsOutcome shelf board.now worker (Closure feature closed) result }
+    ensures counts { (n : ℕ) → CountsOutcome n n result }
+{
+    closed_law();
+    let act = closure_act(feature, closed);
+    match board.prepare(alloc, act, worker) {
+        Ok(prepared) => {
+            let number = next_number(board, settings);
+            let reply = Reply::ClosureDone {
+                number,
+                feature,
+                closed,
+                changed: true,
+            };
+            Outcome::Made(prepared, reply, None)
+        }
+        Err(Unready::NoFeature) => Outcome::Stays(Reply::NoFeature),
+        Err(Unready::Unchanged) => Outcome::Stays(Reply::ClosureDone {
+            number: board.number(),
+            feature,
+            closed,
+            changed: false,
+        }),
+        Err(Unready::Full) => Outcome::Stays(Reply::HistoryFull {
+            number: board.number(),
+        }),
+        Err(Unready::OutOfMemory) => Outcome::Stays(Reply::OutOfMemory),
+    }
+}
+
+// The files of a folder, or the reply that tells why not.
+fn fetched<F: Folders>(
+    alloc: Global,
+    reader: &mut BaseFolders<F>,
+    folder: &Text,
+) -> Result<Files, Reply>
+    ensures read { IfOk result (λ files. AreRead (shelf_of (F.files reader.old.folders) reader.old.base) folder.now files) }
+    ensures kept { OnOk result (F.faults reader.new.folders ≡ F.faults reader.old.folders) }
+    ensures unread { IfErr result (IsUnread (F.faults reader.old.folders) (F.faults reader.new.folders)) }
+    ensures same { F.files reader.new.folders ≡ F.files reader.old.folders }
+    ensures base { reader.new.base ≡ reader.old.base }
+{
+    let before = reader.folders.fault_count();
+    match reader.read(alloc, folder) {
+        Ok(files) => Ok(files),
+        Err(ReadFault::Failed) => Err(Reply::FolderFault {
+            before,
+            after: reader.folders.fault_count(),
+        }),
+        Err(ReadFault::OutOfMemory) => Err(Reply::OutOfMemory),
+    }
+}
+
+// The venue of files, or the reply that tells why not.
+fn venue_of(alloc: Global, files: &Files, settings: &Settings) -> Result<Arc<Venue>, Reply>
+    requires { length files.now.slots ≡ 17 }
+    ensures venue { IfOk result (λ venue. IsVenueOf files.now settings.now (arc_value venue)) }
+    ensures unmade { IfErr result (IsUnmade files.now settings.now) }
+{
+    match build(alloc, files, settings) {
+        Ok(Built::Venue(venue)) => match Arc::new(alloc, venue) {
+            Ok(venue) => Ok(venue),
+            Err(_) => Err(Reply::OutOfMemory),
+        },
+        Ok(Built::Rejected(report)) => Err(Reply::Rejected(report)),
+        Err(OutOfMemory) => Err(Reply::OutOfMemory),
+    }
+}
+
+// The same identifiers once more.
+fn copied(alloc: Global, ids: &List<FeatureId>) -> Result<List<FeatureId>, OutOfMemory>
+    ensures { IfOk result (λ copy. copy ≡ ids.now) }
+{
+    let copy = Vec::from_slice(alloc, ids.as_slice())?;
+    Ok(List::from_vec(copy))
+}
+
+// The venue of files published.
+fn ready_venue(
+    alloc: Global,
+    board: &Board,
+    settings: &Settings,
+    worker: u8,
+    files: Files,
+    venue: Arc<Venue>,
+) -> Outcome
+    requires some { 1 ≤ worker }
+    requires range { worker ≤ 16 }
+    requires settings { settings.now ≡ board.now.settings }
+    requires venue { IsVenueOf files settings.now (arc_value venue) }
+    ensures outcome { (shelf : AnOption Shelf) (folder : AList ℕ) → AreRead shelf folder files → IsOutcome shelf board.now worker (Publish folder) result }
+    ensures counts { (n : ℕ) → CountsOutcome n n result }
+{
+    match board.prepare(alloc, Act::Published(venue), worker) {
+        Ok(prepared) => match copied(alloc, prepared.dropped()) {
+            Ok(dropped) => {
+                let number = next_number(board, settings);
+                let reply = Reply::Published { number, dropped };
+                Outcome::Made(prepared, reply, Some(files))
+            }
+            Err(OutOfMemory) => Outcome::Stays(Reply::OutOfMemory),
+        },
+        Err(Unready::Full) => Outcome::Stays(Reply::HistoryFull {
+            number: board.number(),
+        }),
+        // A publication names no feature: all else that stops it is want of memory.
+        Err(_) => Outcome::Stays(Reply::OutOfMemory),
+    }
+}
+
+// What files make published.
+fn ready_files(
+    alloc: Global,
+    board: &Board,
+    settings: &Settings,
+    worker: u8,
+    files: Files,
+) -> Outcome
+    requires some { 1 ≤ worker }
+    requires range { worker ≤ 16 }
+    requires settings { settings.now ≡ board.now.settings }
+    requires seventeen { length files.slots ≡ 17 }
+    ensures outcome { (shelf : AnOption Shelf) (folder : AList ℕ) → AreRead shelf folder files → IsOutcome shelf board.now worker (Publish folder) result }
+    ensures counts { (n : ℕ) → CountsOutcome n n result }
+{
+    match venue_of(alloc, &files, settings) {
+        Ok(venue) => ready_venue(alloc, board, settings, worker, files, venue),
+        Err(reply) => Outcome::Stays(reply),
+    }
+}
+
+// A folder published.
+fn ready_folder<F: Folders>(
+    alloc: Global,
+    board: &Board,
+    settings: &Settings,
+    worker: u8,
+    reader: &mut BaseFolders<F>,
+    folder: &Text,
+) -> Outcome
+    requires some { 1 ≤ worker }
+    requires range { worker ≤ 16 }
+    requires settings { settings.now ≡ board.now.settings }
+    ensures outcome { IsOutcome (shelf_of (F.files reader.old.folders) reader.old.base) board.now worker (Publish folder.now) result }
+    ensures counts { CountsOutcome (F.faults reader.old.folders) (F.faults reader.new.folders) result }
+    ensures same { F.files reader.new.folders ≡ F.files reader.old.folders }
+    ensures base { reader.new.base ≡ reader.old.base }
+{
+    match fetched(alloc, reader, folder) {
+        Ok(files) => ready_files(alloc, board, settings, worker, files),
+        Err(reply) => Outcome::Stays(reply),
+    }
+}
+
+/// Makes a worker's change ready at a board, with all memory that it needs but room in a history, or tells why not. Reads a folder
+/// for a publication, and then counts its faults.
+pub fn ready_change<F: Folders>(
+    alloc: Global,
+    board: &Board,
+    settings: &Settings,
+    worker: u8,
+    reader: &mut BaseFolders<F>,
+    change: &Change,
+) -> Outcome
+    requires some { 1 ≤ worker }
+    requires range { worker ≤ 16 }
+    requires settings { settings.now ≡ board.now.settings }
+    requires closable { All (Contains (closables board.now.features)) board.now.closed }
+    ensures outcome { IsOutcome (shelf_of (F.files reader.old.folders) reader.old.base) board.now worker change.now result }
+    ensures counts { CountsOutcome (F.faults reader.old.folders) (F.faults reader.new.folders) result }
+    ensures same { F.files reader.new.folders ≡ F.files reader.old.folders }
+    ensures base { reader.new.base ≡ reader.old.base }
+{
+    match change {
+        Change::Closure { feature, closed } => {
+            ready_closure(alloc, board, settings, worker, *feature, *closed)
+        }
+        Change::Publish { folder } => ready_folder(alloc, board, settings, worker, reader, folder),
+    }
+}

@@ -1,0 +1,190 @@
+//! Questions for a way.
+
+ghost use Rattle.std.specs.Prelude.{◌≡◌, ◌<◌, ℕ, IfOk, IfSome, IfNone, map, length};
+ghost use Rattle.std.specs.Option.{option_copied};
+ghost use Rattle.venue_types.specs.declared.link.Link.{Link};
+ghost use Rattle.venue_types.specs.declared.query.Ask.TheVariants as ask;
+ghost use Rattle.venue_types.specs.declared.settings.Profile.{Profile as AProfile};
+ghost use Rattle.route_search.specs.Nodes.{nodes, place_of};
+ghost use Rattle.route_search.specs.Answers.{IsAnswer};
+ghost use Rattle.venue_history.specs.Answers.{AnswersAsk, IfAsked, IsTrip};
+ghost use Rattle.venue_history.specs.Ways.{Usable, profile_of, name_of, mark_of};
+
+use crate::board::Board;
+use route_search::{Found, least, passable_law};
+use std::alloc::Global;
+use std::marker::Brand;
+use std::sync::ledger::{Blank, Ledger};
+use venue_types::{FeatureId, List, Mark, OutOfMemory, Potential, Profile, Reply, Text, Which};
+use walk_laws::Steps;
+
+// Between which places a way is asked for, and for whom, as the reply repeats it.
+#[derive(Drop)]
+struct Trip {
+    from: FeatureId,
+    to: FeatureId,
+    profile: Text,
+}
+
+impl Board {
+    // The profile of a name, the first if there are several.
+    #[tactic(auto, unfolding(venue_history::specs::Ways::profile_of))]
+    fn profile(&self, name: &Text) -> Option<&Profile>
+        ensures { option_copied result ≡ profile_of self.now.settings name.now }
+    {
+        let name = name.as_str();
+        self.settings()
+            .profiles
+            .iter()
+            .find(|profile| profile.name.as_str() == name)
+    }
+
+    // The node at which a place is.
+    fn node_of(&self, id: FeatureId) -> Option<u32>
+        ensures node { result ≡ place_of self.now.features id }
+        ensures within { IfSome result (λ n. n < length (nodes self.now.features)) }
+    {
+        self.graph().node_of(id)
+    }
+
+    /// Answers a question for a way.
+    pub(crate) fn route(
+        &self,
+        alloc: Global,
+        from: FeatureId,
+        to: FeatureId,
+        profile: &Text,
+        certificate: bool,
+    ) -> Result<Reply, OutOfMemory>
+        ensures { IfOk result (AnswersAsk self.now (ask.Route from to profile.now certificate)) }
+    {
+        match self.profile(profile) {
+            None => Ok(Reply::NoProfile),
+            Some(allowed) => match self.node_of(from) {
+                None => Ok(Reply::NoPlace(Which::From)),
+                Some(a) => match self.node_of(to) {
+                    None => Ok(Reply::NoPlace(Which::To)),
+                    Some(b) => {
+                        let found = self.found(alloc, allowed, a, b)?;
+                        let trip = Trip {
+                            from,
+                            to,
+                            profile: profile.copy(alloc)?,
+                        };
+                        self.told(alloc, trip, certificate, a, found)
+                    }
+                },
+            },
+        }
+    }
+
+    // The answer of the search from node to node.
+    fn found(&self, alloc: Global, profile: &Profile, a: u32, b: u32) -> Result<Found, OutOfMemory>
+        requires a_node { a < length (nodes self.now.features) }
+        requires b_node { b < length (nodes self.now.features) }
+        ensures { IfOk result (IsAnswer (Usable self.now profile.now) a b) }
+    {
+        searched::<Brand>(alloc, Blank::new(1), self, profile, a, b)
+    }
+
+    // What was found as a reply.
+    fn told(
+        &self,
+        alloc: Global,
+        trip: Trip,
+        certificate: bool,
+        a: u32,
+        found: Found,
+    ) -> Result<Reply, OutOfMemory>
+        ensures { IfOk result (λ reply. (profile : AProfile) (b : ℕ) → IsTrip self.now trip.from trip.to trip.profile profile a b
+            → IsAnswer (Usable self.now profile) a b found → AnswersAsk self.now (ask.Route trip.from trip.to trip.profile certificate) reply) }
+    {
+        let Trip { from, to, profile } = trip;
+        match found {
+            Found::Route {
+                walk,
+                cost,
+                potentials,
+            } => Ok(Reply::Route {
+                number: self.number(),
+                from,
+                to,
+                profile,
+                start: self.name(a),
+                cost,
+                steps: self.steps(alloc, walk.as_slice())?,
+                potentials: self.shown(alloc, certificate, potentials.as_slice())?,
+            }),
+            Found::Cut { reached } => Ok(Reply::NoRoute {
+                number: self.number(),
+                from,
+                to,
+                profile,
+                reached: self.reached(alloc, certificate, reached.as_slice())?,
+            }),
+        }
+    }
+
+    // Potentials as marks, where they were asked for.
+    fn shown(
+        &self,
+        alloc: Global,
+        certificate: bool,
+        listed: &[Potential],
+    ) -> Result<Option<List<Mark>>, OutOfMemory>
+        ensures { IfOk result (IfAsked certificate (λ marks. marks ≡ map (mark_of self.now) listed.now)) }
+    {
+        if certificate {
+            let marks = self.potentials(alloc, listed)?;
+            Ok(Some(marks))
+        } else {
+            Ok(None)
+        }
+    }
+
+    // The names of nodes, where they were asked for.
+    fn reached(
+        &self,
+        alloc: Global,
+        certificate: bool,
+        nodes: &[u32],
+    ) -> Result<Option<List<FeatureId>>, OutOfMemory>
+        ensures { IfOk result (IfAsked certificate (λ names. names ≡ map (name_of self.now) nodes.now)) }
+    {
+        if certificate {
+            let names = self.names(alloc, nodes)?;
+            Ok(Some(names))
+        } else {
+            Ok(None)
+        }
+    }
+}
+
+// The search over the board's graph and marks, with a counter that nobody reads.
+fn searched<L: Ledger>(
+    alloc: Global,
+    blank: Blank,
+    board: &Board,
+    profile: &Profile,
+    a: u32,
+    b: u32,
+) -> Result<Found, OutOfMemory>
+    requires name { blank.name ≡ L.name }
+    requires parts { blank.parts ≡ L.parts }
+    requires some { 0 < L.parts }
+    requires a_node { a < length (nodes board.now.features) }
+    requires b_node { b < length (nodes board.now.features) }
+    ensures { IfOk result (IsAnswer (Usable board.now profile.now) a b) }
+{
+    passable_law();
+    let mut steps = Steps::<L>::begin(blank);
+    least(
+        alloc,
+        board.graph(),
+        board.marks(),
+        profile,
+        a,
+        b,
+        &mut steps,
+    )
+}

@@ -1,0 +1,13 @@
+//! What a message is answered.
+
+use venue_types::Reply;
+use wire_frames::Refusal;
+
+/// The answer to a message.
+#[derive(Drop)]
+pub enum Response {
+    /// It asked or changed something.
+    Of(Reply),
+    /// It is refused by itself.
+    No(Refusal),
+}
