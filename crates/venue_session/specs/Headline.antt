@@ -87,7 +87,7 @@ IsLastText exchanges taken left rest last =
     ((last ≡ []) × (Closes exchanges ⊎ NoneIsLeft taken left rest))
     ⊎ ((refusal : Refusal) × IsRefused rest refusal × (last ≡ reply_text (No refusal) true))
 
--- the session ended by itself: no link failed, and memory didn't run out
+-- the session ended by itself: no connection failed, and memory didn't run out
 abbrev pub IsWhole : End → Type 0
 IsWhole End.Done = Unit {0}
 IsWhole (End.Cut count) = Unit {0}

@@ -10,7 +10,7 @@ returns-in-Ok-write_whole g c = λ keys first facts taken waiting going refused.
     let text : c.as_slice.result.now ≡ refused_text c.args.refusal = c.as_slice.ensures ∙ c.in-Ok.ensures in
     let told = c.in-Ok-write_whole.ensures in
     ends_refused keys first facts _ _ _ taken waiting going _ _ _ c.args.refusal c.status_of.result refused c.status_of.ensures told.left
-    (subst (Appends (g.L.Stream.written c.args.link.now) (g.L.Stream.written c.write_all.new.link)) text told.ok) told.cause.kept
+    (subst (Appends (g.L.Stream.written c.args.connection.now) (g.L.Stream.written c.write_all.new.connection)) text told.ok) told.cause.kept
 
 pub returns-in-Ok : goal.returns-in-Ok
 returns-in-Ok g c = λ keys first facts taken waiting going refused.
