@@ -176,15 +176,14 @@ pub(super) fn the_disk_or_the_console_fails(
         let input = joined(alloc, &[VERSION])?;
         let failing = [*read, 0, *write];
         let ended = run_without_doors(rt, alloc, words, files, input, failing, *room)?;
-        let name = words[0];
         assert_eq!(rt;
             str::from_utf8(ended.text.as_slice()),
             Ok(*text),
-            "at {name}, read {read}"
+            "at {text}, read {read}"
         );
-        assert_eq!(rt; ended.status, *status, "at {name}, read {read}");
+        assert_eq!(rt; ended.status, *status, "at {text}, read {read}");
         let faults = u64::from(*read > 0 && *status == 3);
-        assert_eq!(rt; ended.folder_faults, faults, "at {name}, read {read}");
+        assert_eq!(rt; ended.folder_faults, faults, "at {text}, read {read}");
     }
     Ok(())
 }

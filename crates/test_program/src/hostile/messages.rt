@@ -115,7 +115,7 @@ pub(super) fn links_fail_or_end(rt: &impl Abort, alloc: Global) -> Result<(), Fa
     let settings = Arc::new(alloc, station_settings(alloc)?)?;
     let venue = venue_of(alloc, &settings)?;
     let front = Front::new(alloc, &settings.staff_keys)?;
-    for row in [
+    for row in &[
         Row {
             name: "the second read fails",
             input: VERSION,
@@ -141,7 +141,7 @@ pub(super) fn links_fail_or_end(rt: &impl Abort, alloc: Global) -> Result<(), Fa
             later: FIRST,
         },
     ] {
-        judge_pieces(rt, alloc, &settings, &venue, &front, &row)?;
+        judge_pieces(rt, alloc, &settings, &venue, &front, row)?;
     }
     Ok(())
 }

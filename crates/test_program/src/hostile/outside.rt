@@ -136,8 +136,8 @@ pub(super) fn run_without_doors(
     failing: [u64; 3],
     room: usize,
 ) -> Result<Ended, Fail> {
-    let [file, read, write] = failing;
-    let folders = folders(alloc, files, file)?;
+    let [disk, read, write] = failing;
+    let folders = folders(alloc, files, disk)?;
     let doors = doors(alloc, Vec::new(alloc), [0, 0])?;
     let console = stream(alloc, input, 0, room, [read, write])?;
     run_over(rt, alloc, words, folders, doors, console)

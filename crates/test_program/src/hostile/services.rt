@@ -168,7 +168,8 @@ pub(super) fn doors_or_the_console_fail(
         let ended = run_silent(rt, alloc, &words, *failing, *room)?;
         assert_eq!(rt; str::from_utf8(ended.text.as_slice()), Ok(*text));
         assert_eq!(rt; ended.status, 3, "at {text}");
-        let faults = u64::from(failing[0] > 0 || failing[1] > 0);
+        let [bind, accept, _] = *failing;
+        let faults = u64::from(bind > 0 || accept > 0);
         assert_eq!(rt; ended.door_faults, faults, "at {text}");
     }
     Ok(())
