@@ -7,7 +7,7 @@ use Rattle.venue_types.specs.declared.reply.Reply.TheVariants as reply
 use Rattle.venue_types.specs.declared.settings.Profile.{Profile}
 use Rattle.walk_laws.specs.Walks.{HasNoWalk, IsLeast}
 use Rattle.venue_hall.specs.Views.{link_view}
-use Rattle.venue_folder.specs.Shelves.{Shelf}
+use Rattle.venue_hall.specs.Shelves.{Shelf}
 use Rattle.venue_hall.specs.Entry.{Entry}
 use Rattle.venue_hall.specs.Answers.{IsTrip}
 use Rattle.venue_hall.specs.Changes.{Changes}

@@ -6,7 +6,7 @@ ghost use Rattle.venue_types.specs.declared.query.Change.{Change};
 ghost use Rattle.venue_types.specs.declared.query.Change.TheVariants.{Closure};
 ghost use Rattle.venue_types.specs.declared.query.Query.{Query};
 ghost use Rattle.venue_types.specs.declared.reply.Reply.{Reply};
-ghost use Rattle.venue_folder.specs.Shelves.{Shelf};
+ghost use Rattle.venue_hall.specs.Shelves.{Shelf};
 ghost use Rattle.venue_hall.specs.Entry.{Entry};
 ghost use Rattle.venue_hall.specs.Answers.{Answers, IsTooEarly};
 ghost use Rattle.venue_hall.specs.Changes.{Changes, StandsSo};
