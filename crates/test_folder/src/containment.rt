@@ -11,22 +11,20 @@ use venue_types::Finding;
 // What isn't held in a folder of a level, a unit on it, and amenities of the unit.
 fn findings(
     alloc: Global,
-    level: &[&[Corner]],
+    level: &str,
     tolerance: u32,
-    unit: &[Corner],
+    unit: &str,
     amenities: &[Corner],
 ) -> Result<Vec<Finding>, Fail> {
-    let level = polygons(alloc, &[level])?;
     let mut levels = String::new(alloc);
-    push_feature(alloc, &mut levels, "level", 1, level.as_str(), "\"ordinal\":0")?;
-    let unit = polygons(alloc, &[&[unit]])?;
+    push_feature(alloc, &mut levels, "level", 1, level, "\"ordinal\":0")?;
     let mut units = String::new(alloc);
     push_feature(
         alloc,
         &mut units,
         "unit",
         2,
-        unit.as_str(),
+        unit,
         "\"category\":\"room\",\"level_id\":\"00000000-0000-4000-8000-000000000001\"",
     )?;
     let mut points = String::new(alloc);
@@ -74,6 +72,7 @@ const HOLE: &[Corner] = &[(400, 400), (400, 600), (600, 600), (600, 400), (400, 
 #[test]
 fn units_leave_their_level(rt: HostRuntime) -> Result<(), Fail> {
     let alloc = rt.alloc();
+    let level = polygons(alloc, &[&[LEVEL, HOLE]])?;
     // The tolerance, two opposite corners of the unit, and whether it leaves the level.
     let table = [
         (0, (100, 100), (300, 300), false),
@@ -96,7 +95,8 @@ fn units_leave_their_level(rt: HostRuntime) -> Result<(), Fail> {
     ];
     for (tolerance, low, high, want) in table {
         let corners = [low, (high.0, low.1), high, (low.0, high.1), low];
-        let found = findings(alloc, &[LEVEL, HOLE], tolerance, &corners, &[])?;
+        let unit = polygons(alloc, &[&[&corners]])?;
+        let found = findings(alloc, level.as_str(), tolerance, unit.as_str(), &[])?;
         let wanted: &[Finding] = if want { &[UNIT_LEAVES] } else { &[] };
         assert_eq!(rt; found.as_slice(), wanted, "{tolerance} {low:?} {high:?}");
     }
@@ -104,7 +104,8 @@ fn units_leave_their_level(rt: HostRuntime) -> Result<(), Fail> {
     let inside = (100, 100);
     let mut amenities = [inside; 8];
     amenities[7] = (1001, 100);
-    let found = findings(alloc, &[LEVEL], 0, LEVEL, &amenities)?;
+    let unit = polygons(alloc, &[&[LEVEL]])?;
+    let found = findings(alloc, unit.as_str(), 0, unit.as_str(), &amenities)?;
     let finding = Finding {
         rule: 32,
         file: 2,
@@ -115,11 +116,11 @@ fn units_leave_their_level(rt: HostRuntime) -> Result<(), Fail> {
     Ok(())
 }
 
-/// How many teeth the comb has.
+// How many teeth the comb has.
 const TEETH: i64 = 4_999;
 
-/// A comb whose teeth point north, each a nanodegree longer than the one west of it.
-fn comb(alloc: Global) -> Result<Vec<(i64, i64)>, AllocError> {
+// A comb whose teeth point north, each a nanodegree longer than the one west of it.
+fn comb(alloc: Global) -> Result<String, AllocError> {
     let mut corners = Vec::new(alloc);
     for i in 0..TEETH {
         let x = i.wrapping_mul(1000);
@@ -132,11 +133,11 @@ fn comb(alloc: Global) -> Result<Vec<(i64, i64)>, AllocError> {
     corners.push((4_998_500, 0))?;
     corners.push((0, 0))?;
     corners.push((0, 1000))?;
-    Ok(corners)
+    polygons(alloc, &[&[corners.as_slice()]])
 }
 
-/// The corners of the tips of its teeth, this far north of them.
-fn tips(alloc: Global, north: i64) -> Result<Vec<(i64, i64)>, AllocError> {
+// The corners of the tips of its teeth, this far north of them.
+fn tips(alloc: Global, north: i64) -> Result<String, AllocError> {
     let mut corners = Vec::new(alloc);
     for i in 0..TEETH {
         let x = i.wrapping_mul(1000);
@@ -145,7 +146,7 @@ fn tips(alloc: Global, north: i64) -> Result<Vec<(i64, i64)>, AllocError> {
         corners.push((x.wrapping_add(500), y))?;
     }
     corners.push((0, 9_000_000i64.wrapping_add(north)))?;
-    Ok(corners)
+    polygons(alloc, &[&[corners.as_slice()]])
 }
 
 #[test]
@@ -163,7 +164,7 @@ fn a_unit_of_the_tips_of_a_comb(rt: HostRuntime) -> Result<(), Fail> {
     ];
     for (tolerance, north, want) in table {
         let unit = tips(alloc, north)?;
-        let found = findings(alloc, &[level.as_slice()], tolerance, unit.as_slice(), &[])?;
+        let found = findings(alloc, level.as_str(), tolerance, unit.as_str(), &[])?;
         let wanted: &[Finding] = if want { &[UNIT_LEAVES] } else { &[] };
         assert_eq!(rt; found.as_slice(), wanted, "{tolerance} {north}");
     }

@@ -9,14 +9,12 @@ use std::test::Fail;
 use venue_types::Finding;
 
 // What is wrong with the rings of forty levels, of which the last has a border of its own.
-fn findings(alloc: Global, usual: &[Corner], last: &[Corner]) -> Result<Vec<Finding>, Fail> {
-    let usual = polygons(alloc, &[&[usual]])?;
-    let last = polygons(alloc, &[&[last]])?;
+fn findings(alloc: Global, usual: &str, last: &str) -> Result<Vec<Finding>, Fail> {
     let mut levels = String::new(alloc);
     for number in 0..39u32 {
-        push_feature(alloc, &mut levels, "level", number, usual.as_str(), "\"ordinal\":0")?;
+        push_feature(alloc, &mut levels, "level", number, usual, "\"ordinal\":0")?;
     }
-    push_feature(alloc, &mut levels, "level", 39, last.as_str(), "\"ordinal\":0")?;
+    push_feature(alloc, &mut levels, "level", 39, last, "\"ordinal\":0")?;
     let levels = collection(alloc, levels.as_str())?;
     let files = files(
         alloc,
@@ -28,8 +26,8 @@ fn findings(alloc: Global, usual: &[Corner], last: &[Corner]) -> Result<Vec<Find
     Ok(findings)
 }
 
-/// Up and to the right step by step, and back by way of the end.
-fn stairs(alloc: Global, end: Corner) -> Result<Vec<Corner>, AllocError> {
+// Up and to the right step by step, and back by way of the end.
+fn stairs(alloc: Global, end: Corner) -> Result<String, AllocError> {
     let mut corners = Vec::new(alloc);
     for i in 0..9_999i64 {
         let x = i.wrapping_mul(1000);
@@ -38,11 +36,11 @@ fn stairs(alloc: Global, end: Corner) -> Result<Vec<Corner>, AllocError> {
     }
     corners.push(end)?;
     corners.push((0, 0))?;
-    Ok(corners)
+    polygons(alloc, &[&[corners.as_slice()]])
 }
 
-/// A comb of 4,999 teeth, whose back goes along this height.
-fn comb(alloc: Global, back: i64) -> Result<Vec<Corner>, AllocError> {
+// A comb of 4,999 teeth, whose back goes along this height.
+fn comb(alloc: Global, back: i64) -> Result<String, AllocError> {
     let mut corners = Vec::new(alloc);
     for i in 0..4_999i64 {
         let x = i.wrapping_mul(1000);
@@ -55,7 +53,7 @@ fn comb(alloc: Global, back: i64) -> Result<Vec<Corner>, AllocError> {
     corners.push((4_998_500, back))?;
     corners.push((0, back))?;
     corners.push((0, 1000))?;
-    Ok(corners)
+    polygons(alloc, &[&[corners.as_slice()]])
 }
 
 #[test]
@@ -72,7 +70,7 @@ fn the_last_of_forty_levels_crosses_itself(rt: HostRuntime) -> Result<(), Fail> 
         (&teeth, &teeth_crossed, true),
     ];
     for (usual, last, crosses) in table {
-        let findings = findings(alloc, usual.as_slice(), last.as_slice())?;
+        let findings = findings(alloc, usual.as_str(), last.as_str())?;
         let only = Finding {
             rule: 27,
             file: 10,

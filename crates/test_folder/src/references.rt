@@ -39,7 +39,13 @@ const RELATIONSHIP: &str =
     "\"category\":\"\",\"direction\":\"undirected\",\"origin\":{\"id\":\"00000000-0000-4000-8000-000000000003\",\"feature_type\":\"anchor\"},\"intermediary\":[{\"id\":\"00000000-0000-4000-8000-000000000003\",\"feature_type\":\"anchor\"},{\"id\":\"00000000-0000-4000-8000-000000000003\",\"feature_type\":\"unit\"},{\"id\":\"00000000-0000-4000-8000-000000000009\",\"feature_type\":\"anchor\"}]";
 
 // The number of a file, its type, the ends of its features' identifiers, their geometry and their properties.
-type Group = (usize, &'static str, &'static [u32], &'static str, &'static str);
+type Group = (
+    usize,
+    &'static str,
+    &'static [u32],
+    &'static str,
+    &'static str,
+);
 
 static GROUPS: [Group; 7] = [
     (1, "address", &[1, 2, 2], "null", ""),
@@ -58,7 +64,14 @@ fn a_folder_has_its_findings(rt: HostRuntime) -> Result<(), Fail> {
     for (file, feature_type, numbers, geometry, properties) in GROUPS {
         let mut text = String::new(alloc);
         for number in numbers {
-            push_feature(alloc, &mut text, feature_type, *number, geometry, properties)?;
+            push_feature(
+                alloc,
+                &mut text,
+                feature_type,
+                *number,
+                geometry,
+                properties,
+            )?;
         }
         texts.push((file, collection(alloc, text.as_str())?))?;
     }

@@ -34,7 +34,14 @@ const IN_OTHER: &[Corner] = &[(23, 3), (26, 3), (26, 6), (23, 3)];
 fn findings(alloc: Global, parts: &[&[&[Corner]]]) -> Result<Vec<Finding>, Fail> {
     let square = polygons(alloc, &[&[SQUARE]])?;
     let mut levels = String::new(alloc);
-    push_feature(alloc, &mut levels, "level", 1, square.as_str(), "\"ordinal\":0")?;
+    push_feature(
+        alloc,
+        &mut levels,
+        "level",
+        1,
+        square.as_str(),
+        "\"ordinal\":0",
+    )?;
     let level = "\"category\":\"room\",\"level_id\":\"00000000-0000-4000-8000-000000000001\"";
     let mut units = String::new(alloc);
     for number in 2..9u32 {

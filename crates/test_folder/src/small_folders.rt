@@ -95,7 +95,9 @@ pub(crate) fn push_feature(
     geometry: &str,
     properties: &str,
 ) -> Result<(), AllocError> {
-    let feature = format!(in alloc; "{{\"type\":\"Feature\",\"id\":\"00000000-0000-4000-8000-{number:012}\",\"feature_type\":\"{feature_type}\",\"geometry\":{geometry},\"properties\":{{{properties}}}}}")?;
+    let feature = format!(in alloc;
+        "{{\"type\":\"Feature\",\"id\":\"00000000-0000-4000-8000-{number:012}\",\"feature_type\":\"{feature_type}\",\"geometry\":{geometry},\"properties\":{{{properties}}}}}"
+    )?;
     text.push_str(if text.is_empty() { "" } else { "," })?;
     text.push_str(feature.as_str())
 }
