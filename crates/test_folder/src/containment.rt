@@ -1,9 +1,10 @@
 //! Units and amenities beside what is to hold them, worked out by hand.
 
 use crate::small_folders::{
-    Corner, MANIFEST, VENUE, close_rows, collection, files, point, polygons, push_feature,
+    Corner, MANIFEST, VENUE, collection, files, named_rows, point, polygons, push_feature,
 };
 use contain_rules::add_hold_findings;
+use ring_rules::is_spread;
 use std::alloc::{AllocError, Global};
 use std::test::Fail;
 use venue_types::Finding;
@@ -51,7 +52,10 @@ fn findings(
             (16, VENUE),
         ],
     )?;
-    let features = close_rows(alloc, &files)?;
+    let features = named_rows(alloc, &files)?;
+    if is_spread(&features) {
+        return Err(Fail::new("positions far apart"));
+    }
     let mut findings = Vec::new(alloc);
     add_hold_findings(alloc, &features, tolerance.min(1_000_000), &mut findings)?;
     Ok(findings)

@@ -1,9 +1,9 @@
 //! Levels whose rings are of the greatest length.
 
 use crate::small_folders::{
-    Corner, MANIFEST, VENUE, close_rows, collection, files, polygons, push_feature,
+    Corner, MANIFEST, VENUE, collection, files, polygons, push_feature, sound_rows,
 };
-use ring_rules::add_ring_findings;
+use ring_rules::{add_ring_findings, is_spread};
 use std::alloc::{AllocError, Global};
 use std::test::Fail;
 use venue_types::Finding;
@@ -20,7 +20,10 @@ fn findings(alloc: Global, usual: &str, last: &str) -> Result<Vec<Finding>, Fail
         alloc,
         &[(0, MANIFEST), (10, levels.as_bytes()), (16, VENUE)],
     )?;
-    let features = close_rows(alloc, &files)?;
+    let features = sound_rows(alloc, &files)?;
+    if is_spread(&features) {
+        return Err(Fail::new("positions far apart"));
+    }
     let mut findings = Vec::new(alloc);
     add_ring_findings(alloc, &features, &mut findings)?;
     Ok(findings)

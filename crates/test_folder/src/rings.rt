@@ -1,7 +1,7 @@
 //! Polygons and positions, beside what is wrong with them.
 
 use crate::small_folders::{
-    Corner, MANIFEST, VENUE, close_rows, collection, files, polygons, push_feature,
+    Corner, MANIFEST, VENUE, collection, files, polygons, push_feature, sound_rows,
 };
 use ring_rules::{add_ring_findings, is_spread};
 use std::alloc::Global;
@@ -60,7 +60,10 @@ fn findings(alloc: Global, parts: &[&[&[Corner]]]) -> Result<Vec<Finding>, Fail>
             (16, VENUE),
         ],
     )?;
-    let features = close_rows(alloc, &files)?;
+    let features = sound_rows(alloc, &files)?;
+    if is_spread(&features) {
+        return Err(Fail::new("positions far apart"));
+    }
     let mut findings = Vec::new(alloc);
     add_ring_findings(alloc, &features, &mut findings)?;
     Ok(findings)

@@ -1,14 +1,11 @@
 //! Folders of a few features as texts, and their rows where the first phases find nothing in them.
 
 ghost use Rattle.std.specs.Prelude.{◌≡◌, IfOk, length};
-ghost use Rattle.plane_exact.specs.Figure.{AllClose};
-ghost use Rattle.feature_rows.specs.Figures.{judged_positions};
-ghost use Rattle.feature_rows.specs.Rows.{HaveOwnIds};
-ghost use Rattle.feature_rows.specs.Sound.{AreSound};
+ghost use Rattle.imdf_read.specs.Rows.{HaveOwnIds};
+ghost use Rattle.imdf_read.specs.Sound.{AreSound};
 
 use imdf_read::{ReadOut, read_folder, sound_reading_law};
 use imdf_refs::{own_ids_law, reference_findings};
-use ring_rules::is_spread;
 use std::alloc::{AllocError, Global};
 use std::test::Fail;
 use venue_types::{Bytes, Features, Files, List, Slot};
@@ -124,21 +121,17 @@ pub(crate) fn sound_rows(alloc: Global, files: &Files) -> Result<Features, Fail>
     Ok(features)
 }
 
-/// The rows of files in which the first two phases find nothing, and whose positions lie close together.
-pub(crate) fn close_rows(alloc: Global, files: &Files) -> Result<Features, Fail>
+/// The rows of files in which the first two phases find nothing.
+pub(crate) fn named_rows(alloc: Global, files: &Files) -> Result<Features, Fail>
     requires { length files.now.slots ≡ 17 }
     ensures sound { IfOk result AreSound }
     ensures own_ids { IfOk result HaveOwnIds }
-    ensures close { IfOk result (λ features. AllClose (judged_positions features)) }
 {
     own_ids_law();
     let features = sound_rows(alloc, files)?;
     let misnamed = reference_findings(alloc, &features)?;
     if !misnamed.is_empty() {
         return Err(Fail::new("a finding of the second phase"));
-    }
-    if is_spread(&features) {
-        return Err(Fail::new("positions far apart"));
     }
     Ok(features)
 }

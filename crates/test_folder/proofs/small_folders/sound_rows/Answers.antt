@@ -7,4 +7,4 @@ returns c =
     let out = c.in_ok-features.field-0 in
     let none = c.is_empty.ensures.0 c.if-not-is_empty.false in
     c.sound_reading_law.ensures c.args.files.now out.features c.requires
-    (nothing (IsBroken c.args.files.now) out.findings none c.in_ok-features.ensures.findings) (c.in_ok-features.ensures.rows none)
+    (nothing (IsBroken c.args.files.now) out.findings none c.in_ok-features.ensures.findings.whole) (c.in_ok-features.ensures.rows none)
