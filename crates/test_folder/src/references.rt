@@ -2,6 +2,7 @@
 
 use crate::small_folders::{MANIFEST, VENUE, collection, files, push_feature, sound_rows};
 use imdf_refs::reference_findings;
+use std::alloc::{AllocError, Global};
 use std::test::Fail;
 
 // A rule, a file, an index and a member.
@@ -38,48 +39,52 @@ const KIOSK: &str = "\"anchor_id\":\"00000000-0000-4000-8000-000000000003\"";
 const RELATIONSHIP: &str =
     "\"category\":\"\",\"direction\":\"undirected\",\"origin\":{\"id\":\"00000000-0000-4000-8000-000000000003\",\"feature_type\":\"anchor\"},\"intermediary\":[{\"id\":\"00000000-0000-4000-8000-000000000003\",\"feature_type\":\"anchor\"},{\"id\":\"00000000-0000-4000-8000-000000000003\",\"feature_type\":\"unit\"},{\"id\":\"00000000-0000-4000-8000-000000000009\",\"feature_type\":\"anchor\"}]";
 
-// The number of a file, its type, the ends of its features' identifiers, their geometry and their properties.
-type Group = (
-    usize,
-    &'static str,
-    &'static [u32],
-    &'static str,
-    &'static str,
-);
-
-static GROUPS: [Group; 7] = [
-    (1, "address", &[1, 2, 2], "null", ""),
-    (2, "amenity", &[7], POINT, AMENITY),
-    (3, "anchor", &[3], POINT, ANCHOR),
-    (4, "building", &[1], "null", ""),
-    (5, "detail", &[4], "null", DETAIL),
-    (9, "kiosk", &[5], "null", KIOSK),
-    (13, "relationship", &[6], "null", RELATIONSHIP),
-];
+// A file of features whose identifiers end in these numbers, and which are else alike.
+fn alike(
+    alloc: Global,
+    feature_type: &str,
+    numbers: &[u32],
+    geometry: &str,
+    properties: &str,
+) -> Result<String, AllocError> {
+    let mut text = String::new(alloc);
+    for number in numbers {
+        push_feature(
+            alloc,
+            &mut text,
+            feature_type,
+            *number,
+            geometry,
+            properties,
+        )?;
+    }
+    collection(alloc, text.as_str())
+}
 
 #[test]
 fn a_folder_has_its_findings(rt: HostRuntime) -> Result<(), Fail> {
     let alloc = rt.alloc();
-    let mut texts = Vec::new(alloc);
-    for (file, feature_type, numbers, geometry, properties) in GROUPS {
-        let mut text = String::new(alloc);
-        for number in numbers {
-            push_feature(
-                alloc,
-                &mut text,
-                feature_type,
-                *number,
-                geometry,
-                properties,
-            )?;
-        }
-        texts.push((file, collection(alloc, text.as_str())?))?;
-    }
-    let mut held: Vec<(usize, &[u8])> = vec![in alloc; (0, MANIFEST), (16, VENUE)]?;
-    for (file, text) in &texts {
-        held.push((*file, text.as_bytes()))?;
-    }
-    let files = files(alloc, &held)?;
+    let addresses = alike(alloc, "address", &[1, 2, 2], "null", "")?;
+    let amenities = alike(alloc, "amenity", &[7], POINT, AMENITY)?;
+    let anchors = alike(alloc, "anchor", &[3], POINT, ANCHOR)?;
+    let buildings = alike(alloc, "building", &[1], "null", "")?;
+    let details = alike(alloc, "detail", &[4], "null", DETAIL)?;
+    let kiosks = alike(alloc, "kiosk", &[5], "null", KIOSK)?;
+    let relationships = alike(alloc, "relationship", &[6], "null", RELATIONSHIP)?;
+    let files = files(
+        alloc,
+        &[
+            (0, MANIFEST),
+            (1, addresses.as_bytes()),
+            (2, amenities.as_bytes()),
+            (3, anchors.as_bytes()),
+            (4, buildings.as_bytes()),
+            (5, details.as_bytes()),
+            (9, kiosks.as_bytes()),
+            (13, relationships.as_bytes()),
+            (16, VENUE),
+        ],
+    )?;
     let features = sound_rows(alloc, &files)?;
     let findings = reference_findings(alloc, &features)?;
     assert_eq!(rt; findings.len(), WANTED.len());
