@@ -36,10 +36,6 @@ fn texts(rt: HostRuntime) {
     for (bytes, wanted) in &TABLE {
         assert_eq!(rt; answer_to(rt.alloc(), bytes), *wanted);
     }
-}
-
-#[test]
-fn strings(rt: HostRuntime) {
     for (bytes, wanted) in &STRINGS {
         assert!(rt; is_text(rt.alloc(), bytes, wanted));
     }

@@ -14,6 +14,8 @@ mod lines;
 #[cfg(test)]
 mod outside;
 #[cfg(test)]
+mod reporters;
+#[cfg(test)]
 mod reports;
 #[cfg(test)]
 mod sockets;

@@ -12,8 +12,11 @@ impl Form for Empty {
     ghost is_text = { λ _. ⊥ };
 }
 
-impl Spelled for u8 {
-    ghost spelling = { λ b. b ∷ [] };
+// A byte, which is spelled as itself.
+struct Letter(u8);
+
+impl Spelled for Letter {
+    ghost spelling = { λ letter. letter.0 ∷ [] };
 
     ghost fits = { λ _. Unit {0} };
 }
@@ -42,5 +45,5 @@ fn reads_and_writes(rt: HostRuntime) {
     push_number(&mut out, 18_446_744_073_709_551_615).expect(&rt, "memory");
     assert!(rt; out.as_slice() == b"18446744073709551615".as_slice());
     fault_line_law::<Empty>();
-    front_law::<u8>();
+    front_law::<Letter>();
 }

@@ -3,13 +3,11 @@
 ghost use Rattle.std.specs.Prelude.{◌≡◌, true};
 ghost use Rattle.venue_ports.specs.Doors.{doors_ready};
 
+use crate::reporters::{Calls, FailingFiles};
 use std::fs;
-use std::io::{self, ErrorKind};
+use std::io::ErrorKind;
 use std::process::Abort;
 use std::test::Fail;
-use std::time::Duration;
-use venue_ports::reports::{file_path, read_count, read_fault, write_count};
-use venue_ports::waits::Waiting;
 use venue_ports::{
     Console, DirFolders, Doors, Failed, Folders, MemoryDoors, MemoryFile, MemoryFolders,
     MemoryStream, QuietDoors, ReadFault, Stream, same_files_law,
@@ -54,28 +52,41 @@ fn the_console_is_read_and_written(rt: HostRuntime) -> Result<(), Fail> {
 
 #[test]
 fn reports_are_told(rt: HostRuntime) -> Result<(), Fail> {
-    let path = file_path(rt.alloc(), "a/b", "venue.toml")?;
-    assert_eq!(rt; path.as_str(), "a/b/venue.toml");
-    assert_eq!(rt; read_fault(ErrorKind::NotFound), None);
+    fs::create_dir_all(&rt, "a/b")?;
+    fs::write(&rt, "a/b/venue.toml", "kx = 1")?;
+    let mut folders = DirFolders::new(&rt);
+    let read = folders.read(rt.alloc(), "a/b", "venue.toml", 10);
     assert_eq!(rt;
-        read_fault(ErrorKind::OutOfMemory),
-        Some(ReadFault::OutOfMemory)
+        read.expect(&rt, "a read").ok_or("missing")?.as_slice(),
+        b"kx = 1".as_slice()
     );
-    assert_eq!(rt;
-        read_fault(ErrorKind::PermissionDenied),
-        Some(ReadFault::Failed)
-    );
-    assert_eq!(rt; read_count(Ok(0)), Ok(0));
-    assert_eq!(rt;
-        read_count(Err(io::Error::from(ErrorKind::Other))),
-        Err(Failed)
-    );
-    assert_eq!(rt; write_count(Ok(1)), Ok(1));
-    assert_eq!(rt; write_count(Ok(0)), Err(Failed));
-    assert_eq!(rt;
-        write_count(Err(io::Error::from(ErrorKind::Other))),
-        Err(Failed)
-    );
+    fs::remove_dir_all(&rt, "a")?;
+    for (kind, fault) in [
+        (ErrorKind::NotFound, None),
+        (ErrorKind::OutOfMemory, Some(ReadFault::OutOfMemory)),
+        (ErrorKind::PermissionDenied, Some(ReadFault::Failed)),
+    ] {
+        let mut folders = DirFolders::new(FailingFiles(kind));
+        let found = folders.read(rt.alloc(), "a", "b", 10);
+        assert_eq!(rt; found.err(), fault);
+        assert_eq!(rt;
+            folders.fault_count(),
+            u64::from(fault == Some(ReadFault::Failed))
+        );
+    }
+    for (reported, read, write) in [
+        (Some(0), Ok(0), Err(Failed)),
+        (Some(1), Ok(1), Ok(1)),
+        (None, Err(Failed), Err(Failed)),
+    ] {
+        let mut console = Console::new(Calls(reported));
+        assert_eq!(rt; console.read(&mut [0; 4]), read);
+        assert_eq!(rt; console.write(b"ab"), write);
+        assert_eq!(rt;
+            console.fault_count(),
+            u64::from(read.is_err()) + u64::from(write.is_err())
+        );
+    }
     Ok(())
 }
 
@@ -169,34 +180,4 @@ fn doors_in_memory_follow_their_plans(rt: HostRuntime) -> Result<(), Fail> {
     check_accept(&rt, &mut doors, Some(b""));
     assert_eq!(rt; doors.fault_count(), 2);
     Ok(())
-}
-
-#[test]
-fn the_fourth_read_of_nine_seconds_is_past_unless_a_write_comes_between(rt: HostRuntime) {
-    let nine = Duration::from_secs(9);
-    for writes in [false, true] {
-        let mut waiting = Waiting::new(Duration::from_secs(30), Duration::from_secs(60));
-        for read in 0..4 {
-            if writes && read == 3 {
-                waiting.was_written(Duration::ZERO, true);
-            }
-            waiting.was_read(nine, true);
-            assert_eq!(rt; waiting.may_read(), read < 3 || writes, "read {read}");
-        }
-    }
-}
-
-#[test]
-fn the_seventh_write_of_nine_seconds_is_past_unless_bytes_are_read_between(rt: HostRuntime) {
-    let nine = Duration::from_secs(9);
-    for gave in [false, true] {
-        let mut waiting = Waiting::new(Duration::from_secs(30), Duration::from_secs(60));
-        for write in 0..7 {
-            if write == 6 {
-                waiting.was_read(Duration::ZERO, gave);
-            }
-            waiting.was_written(nine, true);
-            assert_eq!(rt; waiting.may_write(), write < 6 || gave, "write {write}");
-        }
-    }
 }

@@ -1,2 +1,1 @@
-mod SmallLemmas
-mod Boxes
+mod Silence

@@ -1,7 +1,6 @@
 //! The texts of a report and of notes.
 
-use check_text::names::{file_name, note_name, rule_name};
-use check_text::{accepted_text, rejected_text};
+use check_text::{accepted_text, file_name, rejected_text, rule_name};
 use std::test::Fail;
 use venue_types::{Finding, List, Note, Report};
 
@@ -30,7 +29,6 @@ fn a_check_is_printed(rt: HostRuntime) -> Result<(), Fail> {
         assert_eq!(rt; rule_name(number), rule);
         assert_eq!(rt; file_name(number), file);
     }
-    assert_eq!(rt; note_name(5), "N5");
     let found = Finding {
         rule: 23,
         file: 15,
@@ -56,6 +54,7 @@ fn a_check_is_printed(rt: HostRuntime) -> Result<(), Fail> {
         index: 0,
         member: 8,
     };
+    let other = Note { note: 5, ..noted };
     assert_eq!(rt;
         accepted_text(alloc, 44, &[])?.as_str(),
         "accepted 44\nnotes 0\n"
@@ -63,6 +62,10 @@ fn a_check_is_printed(rt: HostRuntime) -> Result<(), Fail> {
     assert_eq!(rt;
         accepted_text(alloc, 9, &[noted])?.as_str(),
         "accepted 9\nnotes 1\nnote N3 relationship.geojson 0 8\n"
+    );
+    assert_eq!(rt;
+        accepted_text(alloc, 9, &[noted, other])?.as_str(),
+        "accepted 9\nnotes 2\nnote N3 relationship.geojson 0 8\nnote N5 relationship.geojson 0 8\n"
     );
     Ok(())
 }

@@ -1,32 +1,82 @@
-//! Units beside a square level with a square hole, worked out by hand.
+//! Units and amenities beside what is to hold them, worked out by hand.
 
-ghost use Rattle.std.specs.Prelude.{All};
-ghost use Rattle.test_figures.specs.Boxes.{IsInBox};
-ghost use Rattle.plane_exact.specs.Figure.{vertices};
-
-use contain_rules::outside_positions::figure_leaves;
-use contain_rules::rules::HoldRule;
-use plane_trees::Bands;
+use crate::small_folders::{
+    Corner, MANIFEST, VENUE, collection, files, named_rows, point, polygons, push_feature,
+};
+use contain_rules::add_hold_findings;
+use ring_rules::is_spread;
 use std::alloc::{AllocError, Global};
 use std::test::Fail;
-use test_figures::polygon;
-use venue_types::{Finding, OutOfMemory, Shape};
+use venue_types::Finding;
 
-fn leaves(alloc: Global, level: &Shape, tolerance: u32, unit: &Shape) -> Result<bool, OutOfMemory>
-    requires level { All IsInBox (vertices level.now) }
-    requires unit { All IsInBox (vertices unit.now) }
-{
-    let bands = Bands::of(alloc, level)?;
-    Ok(figure_leaves(&bands, u32::min(tolerance, 1_000_000), unit))
+// What isn't held in a folder of a level, a unit on it, and amenities of the unit.
+fn findings(
+    alloc: Global,
+    level: &str,
+    tolerance: u32,
+    unit: &str,
+    amenities: &[Corner],
+) -> Result<Vec<Finding>, Fail> {
+    let mut levels = String::new(alloc);
+    push_feature(alloc, &mut levels, "level", 1, level, "\"ordinal\":0")?;
+    let mut units = String::new(alloc);
+    push_feature(
+        alloc,
+        &mut units,
+        "unit",
+        2,
+        unit,
+        "\"category\":\"room\",\"level_id\":\"00000000-0000-4000-8000-000000000001\"",
+    )?;
+    let mut points = String::new(alloc);
+    for (number, corner) in (3..90u32).zip(amenities) {
+        push_feature(
+            alloc,
+            &mut points,
+            "amenity",
+            number,
+            point(alloc, *corner)?.as_str(),
+            "\"category\":\"restroom\",\"unit_ids\":[\"00000000-0000-4000-8000-000000000002\"]",
+        )?;
+    }
+    let levels = collection(alloc, levels.as_str())?;
+    let units = collection(alloc, units.as_str())?;
+    let points = collection(alloc, points.as_str())?;
+    let files = files(
+        alloc,
+        &[
+            (0, MANIFEST),
+            (2, points.as_bytes()),
+            (10, levels.as_bytes()),
+            (15, units.as_bytes()),
+            (16, VENUE),
+        ],
+    )?;
+    let features = named_rows(alloc, &files)?;
+    if is_spread(&features) {
+        return Err(Fail::new("positions far apart"));
+    }
+    let mut findings = Vec::new(alloc);
+    add_hold_findings(alloc, &features, tolerance.min(1_000_000), &mut findings)?;
+    Ok(findings)
 }
+
+// The only unit leaves its level.
+const UNIT_LEAVES: Finding = Finding {
+    rule: 30,
+    file: 15,
+    index: 0,
+    member: 0,
+};
+
+const LEVEL: &[Corner] = &[(0, 0), (1000, 0), (1000, 1000), (0, 1000), (0, 0)];
+
+const HOLE: &[Corner] = &[(400, 400), (400, 600), (600, 600), (600, 400), (400, 400)];
 
 #[test]
 fn units_leave_their_level(rt: HostRuntime) -> Result<(), Fail> {
-    let level = polygon(
-        rt.alloc(),
-        &[(0, 0), (1000, 0), (1000, 1000), (0, 1000), (0, 0)],
-        &[(400, 400), (400, 600), (600, 600), (600, 400), (400, 400)],
-    )?;
+    let alloc = rt.alloc();
+    let level = polygons(alloc, &[&[LEVEL, HOLE]])?;
     // The tolerance, two opposite corners of the unit, and whether it leaves the level.
     let table = [
         (0, (100, 100), (300, 300), false),
@@ -49,28 +99,32 @@ fn units_leave_their_level(rt: HostRuntime) -> Result<(), Fail> {
     ];
     for (tolerance, low, high, want) in table {
         let corners = [low, (high.0, low.1), high, (low.0, high.1), low];
-        let unit = polygon(rt.alloc(), &corners, &[])?;
-        assert_eq!(rt;
-            leaves(rt.alloc(), &level, tolerance, &unit)?,
-            want,
-            "{tolerance} {low:?} {high:?}"
-        );
+        let unit = polygons(alloc, &[&[&corners]])?;
+        let found = findings(alloc, level.as_str(), tolerance, unit.as_str(), &[])?;
+        let wanted: &[Finding] = if want { &[UNIT_LEAVES] } else { &[] };
+        assert_eq!(rt; found.as_slice(), wanted, "{tolerance} {low:?} {high:?}");
     }
+    // Of eight amenities the last lies beside its unit, which is the level without its hole.
+    let inside = (100, 100);
+    let mut amenities = [inside; 8];
+    amenities[7] = (1001, 100);
+    let unit = polygons(alloc, &[&[LEVEL]])?;
+    let found = findings(alloc, unit.as_str(), 0, unit.as_str(), &amenities)?;
     let finding = Finding {
         rule: 32,
         file: 2,
         index: 7,
         member: 0,
     };
-    assert_eq!(rt; HoldRule::K3.finding(7), finding);
+    assert_eq!(rt; found.as_slice(), [finding].as_slice());
     Ok(())
 }
 
-/// How many teeth the comb has.
+// How many teeth the comb has.
 const TEETH: i64 = 4_999;
 
-/// A comb whose teeth point north, each a nanodegree longer than the one west of it.
-fn comb(alloc: Global) -> Result<Vec<(i64, i64)>, AllocError> {
+// A comb whose teeth point north, each a nanodegree longer than the one west of it.
+fn comb(alloc: Global) -> Result<String, AllocError> {
     let mut corners = Vec::new(alloc);
     for i in 0..TEETH {
         let x = i.wrapping_mul(1000);
@@ -83,11 +137,11 @@ fn comb(alloc: Global) -> Result<Vec<(i64, i64)>, AllocError> {
     corners.push((4_998_500, 0))?;
     corners.push((0, 0))?;
     corners.push((0, 1000))?;
-    Ok(corners)
+    polygons(alloc, &[&[corners.as_slice()]])
 }
 
-/// The corners of the tips of its teeth, this far north of them.
-fn tips(alloc: Global, north: i64) -> Result<Vec<(i64, i64)>, AllocError> {
+// The corners of the tips of its teeth, this far north of them.
+fn tips(alloc: Global, north: i64) -> Result<String, AllocError> {
     let mut corners = Vec::new(alloc);
     for i in 0..TEETH {
         let x = i.wrapping_mul(1000);
@@ -96,13 +150,13 @@ fn tips(alloc: Global, north: i64) -> Result<Vec<(i64, i64)>, AllocError> {
         corners.push((x.wrapping_add(500), y))?;
     }
     corners.push((0, 9_000_000i64.wrapping_add(north)))?;
-    Ok(corners)
+    polygons(alloc, &[&[corners.as_slice()]])
 }
 
 #[test]
 fn a_unit_of_the_tips_of_a_comb(rt: HostRuntime) -> Result<(), Fail> {
     let alloc = rt.alloc();
-    let level = polygon(alloc, comb(alloc)?.as_slice(), &[])?;
+    let level = comb(alloc)?;
     // The tolerance, how far north of the tips the unit's vertices lie, and whether it leaves the level.
     let table = [
         (0, 0, false),
@@ -113,12 +167,10 @@ fn a_unit_of_the_tips_of_a_comb(rt: HostRuntime) -> Result<(), Fail> {
         (0, -1, false),
     ];
     for (tolerance, north, want) in table {
-        let unit = polygon(alloc, tips(alloc, north)?.as_slice(), &[])?;
-        assert_eq!(rt;
-            leaves(alloc, &level, tolerance, &unit)?,
-            want,
-            "{tolerance} {north}"
-        );
+        let unit = tips(alloc, north)?;
+        let found = findings(alloc, level.as_str(), tolerance, unit.as_str(), &[])?;
+        let wanted: &[Finding] = if want { &[UNIT_LEAVES] } else { &[] };
+        assert_eq!(rt; found.as_slice(), wanted, "{tolerance} {north}");
     }
     Ok(())
 }

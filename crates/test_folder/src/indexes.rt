@@ -1,6 +1,6 @@
 //! Places of identifiers, worked out by hand.
 
-use feature_rows::Index;
+use imdf_read::Index;
 use std::test::Fail;
 use venue_types::{AnchorRow, FeatureId, Point};
 

@@ -28,4 +28,6 @@ mod rows;
 #[cfg(test)]
 mod settings;
 #[cfg(test)]
+mod small_folders;
+#[cfg(test)]
 mod station;

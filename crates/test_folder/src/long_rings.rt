@@ -1,50 +1,36 @@
 //! Levels whose rings are of the greatest length.
 
-ghost use Rattle.std.specs.Prelude.{◌≤◌, IfOk, length, map};
-ghost use Rattle.venue_types.specs.declared.features.LevelRow.{LevelRow};
-ghost use Rattle.plane_exact.specs.Figure.{rings};
-ghost use Rattle.ring_rules.specs.Judged.{AreFit, AreFitShapes};
-
-use imdf_schema::File;
-use ring_rules::ring_findings::add_rows;
-use ring_rules::tests::{Corner, polygon, ring, shape};
-use std::alloc::Global;
+use crate::small_folders::{
+    Corner, MANIFEST, VENUE, collection, files, polygons, push_feature, sound_rows,
+};
+use ring_rules::{add_ring_findings, is_spread};
+use std::alloc::{AllocError, Global};
 use std::test::Fail;
-use venue_types::{FeatureId, Finding, LevelRow, List, OutOfMemory};
+use venue_types::Finding;
 
-fn level(alloc: Global, corners: &[Corner]) -> Result<LevelRow, OutOfMemory>
-    requires { length corners.now ≤ 20000 }
-    ensures { IfOk result (λ level. AreFit (rings level.shape)) }
-{
-    let part = polygon(ring(alloc, corners)?, Vec::new(alloc));
-    let parts = vec![in alloc; part]?;
-    Ok(LevelRow {
-        id: FeatureId(1),
-        address: None,
-        buildings: List::new(alloc),
-        ordinal: 0,
-        shape: shape(parts),
-    })
-}
-
-/// Forty levels, of which the last has a border of its own.
-fn levels(alloc: Global, usual: &[Corner], last: &[Corner]) -> Result<Vec<LevelRow>, OutOfMemory>
-    requires usual { length usual.now ≤ 20000 }
-    requires last { length last.now ≤ 20000 }
-    ensures { IfOk result (λ rows. AreFitShapes (map (λ (row : LevelRow). row.shape) rows.items)) }
-{
-    let mut rows = Vec::new(alloc);
-    for _ in 0..39u8 {
-        let row = level(alloc, usual)?;
-        rows.push(row)?;
+// What is wrong with the rings of forty levels, of which the last has a border of its own.
+fn findings(alloc: Global, usual: &str, last: &str) -> Result<Vec<Finding>, Fail> {
+    let mut levels = String::new(alloc);
+    for number in 0..39u32 {
+        push_feature(alloc, &mut levels, "level", number, usual, "\"ordinal\":0")?;
     }
-    let row = level(alloc, last)?;
-    rows.push(row)?;
-    Ok(rows)
+    push_feature(alloc, &mut levels, "level", 39, last, "\"ordinal\":0")?;
+    let levels = collection(alloc, levels.as_str())?;
+    let files = files(
+        alloc,
+        &[(0, MANIFEST), (10, levels.as_bytes()), (16, VENUE)],
+    )?;
+    let features = sound_rows(alloc, &files)?;
+    if is_spread(&features) {
+        return Err(Fail::new("positions far apart"));
+    }
+    let mut findings = Vec::new(alloc);
+    add_ring_findings(alloc, &features, &mut findings)?;
+    Ok(findings)
 }
 
-/// Up and to the right step by step, and back by way of the end.
-fn stairs(alloc: Global, end: Corner) -> Result<Vec<Corner>, OutOfMemory> {
+// Up and to the right step by step, and back by way of the end.
+fn stairs(alloc: Global, end: Corner) -> Result<String, AllocError> {
     let mut corners = Vec::new(alloc);
     for i in 0..9_999i64 {
         let x = i.wrapping_mul(1000);
@@ -53,11 +39,11 @@ fn stairs(alloc: Global, end: Corner) -> Result<Vec<Corner>, OutOfMemory> {
     }
     corners.push(end)?;
     corners.push((0, 0))?;
-    Ok(corners)
+    polygons(alloc, &[&[corners.as_slice()]])
 }
 
-/// A comb of 4,999 teeth, whose back goes along this height.
-fn comb(alloc: Global, back: i64) -> Result<Vec<Corner>, OutOfMemory> {
+// A comb of 4,999 teeth, whose back goes along this height.
+fn comb(alloc: Global, back: i64) -> Result<String, AllocError> {
     let mut corners = Vec::new(alloc);
     for i in 0..4_999i64 {
         let x = i.wrapping_mul(1000);
@@ -70,7 +56,7 @@ fn comb(alloc: Global, back: i64) -> Result<Vec<Corner>, OutOfMemory> {
     corners.push((4_998_500, back))?;
     corners.push((0, back))?;
     corners.push((0, 1000))?;
-    Ok(corners)
+    polygons(alloc, &[&[corners.as_slice()]])
 }
 
 #[test]
@@ -87,12 +73,7 @@ fn the_last_of_forty_levels_crosses_itself(rt: HostRuntime) -> Result<(), Fail> 
         (&teeth, &teeth_crossed, true),
     ];
     for (usual, last, crosses) in table {
-        assert!(rt; usual.len() <= 20_000);
-        assert!(rt; last.len() <= 20_000);
-        let rows = levels(alloc, usual.as_slice(), last.as_slice()).expect(&rt, "memory");
-        assert!(rt; rows.len() == 40);
-        let mut findings = Vec::new(alloc);
-        add_rows(alloc, &mut findings, File::Level, rows.as_slice()).expect(&rt, "memory");
+        let findings = findings(alloc, usual.as_str(), last.as_str())?;
         let only = Finding {
             rule: 27,
             file: 10,

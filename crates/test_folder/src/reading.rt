@@ -1,37 +1,13 @@
 //! Folders beside what is found in them: the rules by their numbers, and the places.
 
+use crate::small_folders::{MANIFEST, files};
 use imdf_read::read_folder;
-use std::alloc::Global;
 use std::test::Fail;
-use venue_types::{Bytes, Files, List, Slot};
 
 // A rule, a file, an index and a member.
 type Place = (u8, u8, u32, u32);
 
 const NONE: usize = 17;
-
-fn held(alloc: Global, bytes: &[u8]) -> Result<Slot, Fail> {
-    Ok(Slot::Held(Bytes::from_vec(Vec::from_slice(alloc, bytes)?)))
-}
-
-// A folder of a sound manifest and one file; without a file, not even the manifest.
-fn folder(alloc: Global, file: usize, bytes: &[u8]) -> Result<Files, Fail> {
-    let manifest = b"{\"version\":\"1.0.0\",\"created\":\"\"}";
-    let mut slots = Vec::new(alloc);
-    for number in 0..17usize {
-        let slot = if number == file {
-            held(alloc, bytes)?
-        } else if number == 0 && file != NONE {
-            held(alloc, manifest)?
-        } else {
-            Slot::Absent
-        };
-        slots.push(slot)?;
-    }
-    Ok(Files {
-        slots: List::from_vec(slots),
-    })
-}
 
 #[test]
 fn a_broken_folder_has_its_findings(rt: HostRuntime) -> Result<(), Fail> {
@@ -86,8 +62,12 @@ fn a_broken_folder_has_its_findings(rt: HostRuntime) -> Result<(), Fail> {
         ),
     ];
     for (file, bytes, wanted) in table {
-        let files = folder(rt.alloc(), file, bytes)?;
-        assert!(rt; files.slots.len() == 17);
+        // Without a file, there is no manifest either.
+        let files = if file == NONE {
+            files(rt.alloc(), &[])?
+        } else {
+            files(rt.alloc(), &[(file, bytes), (0, MANIFEST)])?
+        };
         let out = read_folder(rt.alloc(), &files).expect(&rt, "memory");
         assert_eq!(rt; out.findings.len(), wanted.len(), "at file {file}");
         for (finding, place) in out.findings.as_slice().iter().zip(wanted) {

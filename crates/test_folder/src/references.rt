@@ -1,16 +1,9 @@
-//! A folder of a few rows, of which the findings were worked out by hand.
+//! A folder of a few features, of which the findings were worked out by hand.
 
-ghost use Rattle.std.specs.Prelude.{◌≤◌, IsTrue};
-ghost use Rattle.feature_rows.specs.Rows.{feature_count};
-
-use crate::references::gather;
-use rule_reports::in_order;
-use std::alloc::Global;
+use crate::small_folders::{MANIFEST, VENUE, collection, files, push_feature, sound_rows};
+use imdf_refs::reference_findings;
+use std::alloc::{AllocError, Global};
 use std::test::Fail;
-use venue_types::{
-    AmenityRow, AnchorRow, BuildingRow, DetailRow, FeatureId, Features, KioskRow, List, PlainRow,
-    Point, Ref, RelationshipRow, Text,
-};
 
 // A rule, a file, an index and a member.
 type Place = (u8, u8, u32, u32);
@@ -31,107 +24,69 @@ static WANTED: [Place; 9] = [
     (25, 13, 0, 72),
 ];
 
-fn anchor(feature_type: u8) -> Ref {
-    Ref {
-        id: FeatureId(3),
-        feature_type,
+const POINT: &str = "{\"type\":\"Point\",\"coordinates\":[10,50]}";
+
+const AMENITY: &str =
+    "\"category\":\"\",\"address_id\":\"00000000-0000-4000-8000-000000000004\",\"unit_ids\":[\"00000000-0000-4000-8000-000000000001\",\"00000000-0000-4000-8000-000000000009\"]";
+
+const ANCHOR: &str =
+    "\"address_id\":\"00000000-0000-4000-8000-000000000001\",\"unit_id\":\"00000000-0000-4000-8000-000000000009\"";
+
+const DETAIL: &str = "\"level_id\":\"00000000-0000-4000-8000-000000000003\"";
+
+const KIOSK: &str = "\"anchor_id\":\"00000000-0000-4000-8000-000000000003\"";
+
+const RELATIONSHIP: &str =
+    "\"category\":\"\",\"direction\":\"undirected\",\"origin\":{\"id\":\"00000000-0000-4000-8000-000000000003\",\"feature_type\":\"anchor\"},\"intermediary\":[{\"id\":\"00000000-0000-4000-8000-000000000003\",\"feature_type\":\"anchor\"},{\"id\":\"00000000-0000-4000-8000-000000000003\",\"feature_type\":\"unit\"},{\"id\":\"00000000-0000-4000-8000-000000000009\",\"feature_type\":\"anchor\"}]";
+
+// A file of features whose identifiers end in these numbers, and which are else alike.
+fn alike(
+    alloc: Global,
+    feature_type: &str,
+    numbers: &[u32],
+    geometry: &str,
+    properties: &str,
+) -> Result<String, AllocError> {
+    let mut text = String::new(alloc);
+    for number in numbers {
+        push_feature(
+            alloc,
+            &mut text,
+            feature_type,
+            *number,
+            geometry,
+            properties,
+        )?;
     }
-}
-
-fn amenity(alloc: Global) -> Result<AmenityRow, Fail> {
-    Ok(AmenityRow {
-        id: FeatureId(7),
-        address: Some(FeatureId(4)),
-        units: List::from_vec(vec![in alloc; FeatureId(1), FeatureId(9)]?),
-        point: Point { x: 0, y: 0 },
-        category: Text::from_string(String::new(alloc)),
-        name: List::new(alloc),
-    })
-}
-
-fn relationship(alloc: Global) -> Result<RelationshipRow, Fail> {
-    let absent = Ref {
-        id: FeatureId(9),
-        feature_type: 3,
-    };
-    Ok(RelationshipRow {
-        id: FeatureId(6),
-        kind: None,
-        directed: false,
-        origin: Some(anchor(3)),
-        between: List::from_vec(vec![in alloc; anchor(3), anchor(15), absent]?),
-        destination: None,
-    })
-}
-
-fn folder(alloc: Global) -> Result<Features, Fail> {
-    let address = PlainRow { id: FeatureId(1) };
-    let other = PlainRow { id: FeatureId(2) };
-    let anchor = AnchorRow {
-        id: FeatureId(3),
-        address: Some(FeatureId(1)),
-        unit: FeatureId(9),
-        point: Point { x: 0, y: 0 },
-    };
-    let building = BuildingRow {
-        id: FeatureId(1),
-        address: None,
-    };
-    let detail = DetailRow {
-        id: FeatureId(4),
-        level: Some(FeatureId(3)),
-    };
-    let kiosk = KioskRow {
-        id: FeatureId(5),
-        level: None,
-        anchor: Some(FeatureId(3)),
-    };
-    Ok(Features {
-        addresses: List::from_vec(vec![in alloc; address, other, other]?),
-        amenities: List::from_vec(vec![in alloc; amenity(alloc)?]?),
-        anchors: List::from_vec(vec![in alloc; anchor]?),
-        buildings: List::from_vec(vec![in alloc; building]?),
-        details: List::from_vec(vec![in alloc; detail]?),
-        fixtures: List::new(alloc),
-        footprints: List::new(alloc),
-        geofences: List::new(alloc),
-        kiosks: List::from_vec(vec![in alloc; kiosk]?),
-        levels: List::new(alloc),
-        occupants: List::new(alloc),
-        openings: List::new(alloc),
-        relationships: List::from_vec(vec![in alloc; relationship(alloc)?]?),
-        sections: List::new(alloc),
-        units: List::new(alloc),
-        venues: List::new(alloc),
-    })
-}
-
-fn is_small(features: &Features) -> bool
-    ensures { IsTrue result → feature_count features.now ≤ 100000 }
-{
-    features.addresses.len() <= 1000
-        && features.amenities.len() <= 1000
-        && features.anchors.len() <= 1000
-        && features.buildings.len() <= 1000
-        && features.details.len() <= 1000
-        && features.fixtures.len() <= 1000
-        && features.footprints.len() <= 1000
-        && features.geofences.len() <= 1000
-        && features.kiosks.len() <= 1000
-        && features.levels.len() <= 1000
-        && features.occupants.len() <= 1000
-        && features.openings.len() <= 1000
-        && features.relationships.len() <= 1000
-        && features.sections.len() <= 1000
-        && features.units.len() <= 1000
-        && features.venues.len() <= 1000
+    collection(alloc, text.as_str())
 }
 
 #[test]
 fn a_folder_has_its_findings(rt: HostRuntime) -> Result<(), Fail> {
-    let features = folder(rt.alloc())?;
-    assert!(rt; is_small(&features));
-    let findings = in_order(gather(rt.alloc(), &features).expect(&rt, "memory"));
+    let alloc = rt.alloc();
+    let addresses = alike(alloc, "address", &[1, 2, 2], "null", "")?;
+    let amenities = alike(alloc, "amenity", &[7], POINT, AMENITY)?;
+    let anchors = alike(alloc, "anchor", &[3], POINT, ANCHOR)?;
+    let buildings = alike(alloc, "building", &[1], "null", "")?;
+    let details = alike(alloc, "detail", &[4], "null", DETAIL)?;
+    let kiosks = alike(alloc, "kiosk", &[5], "null", KIOSK)?;
+    let relationships = alike(alloc, "relationship", &[6], "null", RELATIONSHIP)?;
+    let files = files(
+        alloc,
+        &[
+            (0, MANIFEST),
+            (1, addresses.as_bytes()),
+            (2, amenities.as_bytes()),
+            (3, anchors.as_bytes()),
+            (4, buildings.as_bytes()),
+            (5, details.as_bytes()),
+            (9, kiosks.as_bytes()),
+            (13, relationships.as_bytes()),
+            (16, VENUE),
+        ],
+    )?;
+    let features = sound_rows(alloc, &files)?;
+    let findings = reference_findings(alloc, &features)?;
     assert_eq!(rt; findings.len(), WANTED.len());
     for (finding, place) in findings.as_slice().iter().zip(&WANTED) {
         assert_eq!(rt;

@@ -1,20 +1,14 @@
 //! Polygons and positions, beside what is wrong with them.
 
-ghost use Rattle.std.specs.Prelude.{◌≤◌, All, IfOk, length};
-ghost use Rattle.plane_exact.specs.Figure.{rings, rings_of};
-ghost use Rattle.ring_rules.specs.Judged.{AreFit};
-ghost use Rattle.test_folder.specs.SmallRings.{IsInTown, IsSmall};
-
-use imdf_schema::{FeatureAt, File};
-use ring_rules::is_spread;
-use ring_rules::shape_findings::add_shape;
+use crate::small_folders::{
+    Corner, MANIFEST, VENUE, collection, files, polygons, push_feature, sound_rows,
+};
+use ring_rules::{add_ring_findings, is_spread};
 use std::alloc::Global;
 use std::test::Fail;
 use venue_types::{
-    AnchorRow, FeatureId, Features, List, OutOfMemory, Part, Point, Ring, Shape, Text, UnitRow,
+    AnchorRow, FeatureId, Features, Finding, List, OutOfMemory, Point, Shape, Text, UnitRow,
 };
-
-pub(crate) type Corner = (i64, i64);
 
 const SQUARE: &[Corner] = &[(0, 0), (9, 0), (9, 9), (0, 9), (0, 0)];
 
@@ -36,47 +30,43 @@ const OTHER: &[Corner] = &[(20, 0), (29, 0), (29, 9), (20, 9), (20, 0)];
 
 const IN_OTHER: &[Corner] = &[(23, 3), (26, 3), (26, 6), (23, 3)];
 
-/// A position this far from 10 degrees east, 50 degrees north, at most 100,000,000 on each axis.
-fn at(corner: Corner) -> Point
-    ensures { IsInTown result }
-{
-    Point {
-        x: 10_000_000_000 + corner.0.clamp(-100_000_000, 100_000_000),
-        y: 50_000_000_000 + corner.1.clamp(-100_000_000, 100_000_000),
+// What is wrong with the rings of a level and of eight units on it, of which the last has these polygons.
+fn findings(alloc: Global, parts: &[&[&[Corner]]]) -> Result<Vec<Finding>, Fail> {
+    let square = polygons(alloc, &[&[SQUARE]])?;
+    let mut levels = String::new(alloc);
+    push_feature(
+        alloc,
+        &mut levels,
+        "level",
+        1,
+        square.as_str(),
+        "\"ordinal\":0",
+    )?;
+    let level = "\"category\":\"room\",\"level_id\":\"00000000-0000-4000-8000-000000000001\"";
+    let mut units = String::new(alloc);
+    for number in 2..9u32 {
+        push_feature(alloc, &mut units, "unit", number, square.as_str(), level)?;
     }
-}
-
-pub(crate) fn ring(alloc: Global, corners: &[Corner]) -> Result<Ring, OutOfMemory>
-    requires { length corners.now ≤ 20000 }
-    ensures { IfOk result IsSmall }
-{
-    let mut list = Vec::new(alloc);
-    for corner in corners {
-        list.push(at(*corner))?;
+    let last = polygons(alloc, parts)?;
+    push_feature(alloc, &mut units, "unit", 9, last.as_str(), level)?;
+    let levels = collection(alloc, levels.as_str())?;
+    let units = collection(alloc, units.as_str())?;
+    let files = files(
+        alloc,
+        &[
+            (0, MANIFEST),
+            (10, levels.as_bytes()),
+            (15, units.as_bytes()),
+            (16, VENUE),
+        ],
+    )?;
+    let features = sound_rows(alloc, &files)?;
+    if is_spread(&features) {
+        return Err(Fail::new("positions far apart"));
     }
-    Ok(Ring {
-        points: List::from_vec(list),
-    })
-}
-
-pub(crate) fn polygon(outer: Ring, holes: Vec<Ring>) -> Part
-    requires outer { IsSmall outer }
-    requires holes { All IsSmall holes.items }
-    ensures { All IsSmall (rings_of result) }
-{
-    Part {
-        outer,
-        holes: List::from_vec(holes),
-    }
-}
-
-pub(crate) fn shape(parts: Vec<Part>) -> Shape
-    requires { All (λ part. All IsSmall (rings_of part)) parts.items }
-    ensures { AreFit (rings result) }
-{
-    Shape {
-        parts: List::from_vec(parts),
-    }
+    let mut findings = Vec::new(alloc);
+    add_ring_findings(alloc, &features, &mut findings)?;
+    Ok(findings)
 }
 
 #[test]
@@ -91,27 +81,8 @@ fn a_ring_has_its_findings(rt: HostRuntime) -> Result<(), Fail> {
         (OTHER, IN_OTHER, BOW_TIE, IN_BOW_TIE, &[(27, 2)]),
         (FLAT, INNER, OTHER, IN_OTHER, &[(29, 0), (28, 1)]),
     ];
-    let alloc = rt.alloc();
     for (border, hole, other, inside, wanted) in table {
-        assert!(rt; border.len() <= 20);
-        assert!(rt; hole.len() <= 20);
-        assert!(rt; other.len() <= 20);
-        assert!(rt; inside.len() <= 20);
-        let first = polygon(
-            ring(alloc, border).expect(&rt, "memory"),
-            vec![in alloc; ring(alloc, hole).expect(&rt, "memory")]?,
-        );
-        let second = polygon(
-            ring(alloc, other).expect(&rt, "memory"),
-            vec![in alloc; ring(alloc, inside).expect(&rt, "memory")]?,
-        );
-        let shape = shape(vec![in alloc; first, second]?);
-        let mut findings = Vec::new(alloc);
-        let place = FeatureAt {
-            file: File::Unit,
-            index: 7,
-        };
-        add_shape(alloc, &mut findings, place, &shape).expect(&rt, "memory");
+        let findings = findings(rt.alloc(), &[&[border, hole], &[other, inside]])?;
         assert_eq!(rt;
             findings.len(),
             wanted.len(),
