@@ -100,7 +100,13 @@ fn amenity(alloc: Global, number: usize, units: &str) -> Result<String, AllocErr
     let place = point(alloc, (0, 0))?;
     let properties = format!(in alloc; "\"category\":\"restroom\",\"unit_ids\":[{units}]")?;
     let number = number.saturating_add(FIRST_AMENITY);
-    feature(alloc, "amenity", number, place.as_str(), properties.as_str())
+    feature(
+        alloc,
+        "amenity",
+        number,
+        place.as_str(),
+        properties.as_str(),
+    )
 }
 
 fn level(alloc: Global) -> Result<String, AllocError> {

@@ -1,8 +1,6 @@
 //! Rows that are read of files and that the first two phases accept, and what is made of them.
 
 ghost use Rattle.std.specs.Prelude.{◌≡◌, IfOk, length};
-ghost use Rattle.plane_exact.specs.Figure.{AllClose};
-ghost use Rattle.imdf_read.specs.Figures.{judged_positions};
 ghost use Rattle.imdf_read.specs.Rows.{HaveOwnIds};
 ghost use Rattle.imdf_read.specs.Sound.{AreSound};
 
@@ -34,24 +32,14 @@ fn sound(alloc: Global, files: &Files) -> Result<Features, Fail>
     }
 }
 
-/// The same, whose positions lie close together.
-pub(crate) fn read(alloc: Global, files: &Files) -> Result<Features, Fail>
+/// Which openings of a folder touch which of its units, within a tolerance.
+pub(crate) fn touches_of(alloc: Global, files: &Files, tolerance: u32) -> Result<Touches, Fail>
     requires { length files.now.slots ≡ 17 }
-    ensures sound { IfOk result AreSound }
-    ensures close { IfOk result (λ features. AllClose (judged_positions features)) }
 {
     let features = sound(alloc, files)?;
     if is_spread(&features) {
         return Err(Fail::new("the folder is spread"));
     }
-    Ok(features)
-}
-
-/// Which openings of a folder touch which of its units, within a tolerance.
-pub(crate) fn touches_of(alloc: Global, files: &Files, tolerance: u32) -> Result<Touches, Fail>
-    requires { length files.now.slots ≡ 17 }
-{
-    let features = read(alloc, files)?;
     let mut settings = station_settings(alloc)?;
     settings.border_tol = tolerance.min(100_000);
     Ok(touches(alloc, &features, &settings)?)
@@ -63,7 +51,8 @@ fn judge_names(alloc: Global, features: &Features) -> Result<(), Fail>
     ensures { IfOk result (λ _. HaveOwnIds features.now) }
 {
     own_ids_law();
-    if reference_findings(alloc, features)?.is_empty() {
+    let findings = reference_findings(alloc, features)?;
+    if findings.is_empty() {
         Ok(())
     } else {
         Err(Fail::new("a name is wrong"))
@@ -74,8 +63,11 @@ fn judge_names(alloc: Global, features: &Features) -> Result<(), Fail>
 pub(crate) fn rows_of(alloc: Global, files: &Files) -> Result<Rows, Fail>
     requires { length files.now.slots ≡ 17 }
 {
-    let features = read(alloc, files)?;
+    let features = sound(alloc, files)?;
     judge_names(alloc, &features)?;
+    if is_spread(&features) {
+        return Err(Fail::new("the folder is spread"));
+    }
     let settings = station_settings(alloc)?;
     let touches = touches(alloc, &features, &settings)?;
     Ok(Rows::of(alloc, &features, &settings, &touches)?)

@@ -97,7 +97,10 @@ fn units_of(
     let mut number = FIRST_UNIT;
     for (level, low, high) in boxes {
         let ring = between(corner(*low, west), *high);
-        add(&mut units, unit(alloc, number, *level, &ring, &[])?.as_str())?;
+        add(
+            &mut units,
+            unit(alloc, number, *level, &ring, &[])?.as_str(),
+        )?;
         number = number.saturating_add(1);
     }
     let hole = between((600_000, 500_000), (620_000, 520_000));
@@ -236,7 +239,10 @@ fn moved_openings_touch_others(rt: HostRuntime) -> Result<(), Fail> {
 /// The corners of the i-th square: on each of four levels there are five rows of ten, side by side.
 fn square(i: u32) -> (Place, Place) {
     let low = (i64::from(i / 4 % 10) * 1000, i64::from(i / 40) * 1000);
-    (low, (low.0.saturating_add(1000), low.1.saturating_add(1000)))
+    (
+        low,
+        (low.0.saturating_add(1000), low.1.saturating_add(1000)),
+    )
 }
 
 const SQUARES: u32 = 200;
