@@ -1,6 +1,6 @@
 #!/usr/bin/env bash
 # `wire_frames::frame` over a million heads of 37, of 300 and of 4,000 bytes, beside Rust's `httparse` 1.8, alone and with a
-# search for the empty line in front. Wants the kit (rt), python3, rustc and Debian's librust-httparse-dev.
+# search for the empty line before it. Wants the kit (rt), python3, rustc and Debian's librust-httparse-dev.
 set -e
 cd "$(dirname "$0")/.."
 . bench/lay_out.sh
@@ -26,7 +26,7 @@ use std::io::{self, Error};
 
 use wire_frames::{Framing, frame};
 
-/// How many of the heads are framed, one behind the other.
+/// How many of the heads are framed, one after the other.
 fn frame_all(bytes: &[u8], heads: usize) -> usize {
     let mut rest = bytes;
     for read in 0..heads {

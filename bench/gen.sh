@@ -15,7 +15,7 @@ for levels in 50 200; do
 done
 
 # A repository of its own, with a program that tells the times of the parts.
-lay_out "$work" time_parts building_report
+lay_out "$work" time_parts building_report test_station
 cat >"$work/crates/time_parts/src/main.rt" <<'END'
 //! `time_parts` prints the milliseconds of making the text of a building of 200 levels, of making its venue, and of all that `gen` does,
 //! and how many bytes the text has.
@@ -23,9 +23,9 @@ cat >"$work/crates/time_parts/src/main.rt" <<'END'
 
 use building_report::tell_building;
 use gen_text::gen_files;
-use test_station::station_settings;
 use std::io::{self, Error};
 use std::time::Instant;
+use test_station::station_settings;
 use venue_build::build;
 use venue_types::{Files, OutOfMemory, Slot};
 

@@ -15,7 +15,7 @@ rustc --edition 2021 -O -C codegen-units=1 -o "$work/time_rows" bench/time_rows.
 gcc -O2 -shared -fPIC -o "$work/count_bytes.so" bench/count_bytes.c
 
 # A repository of its own, with a program that times the call.
-lay_out "$work" time_graph link_graph venue_folder venue_ports test_station imdf_read reading_laws imdf_refs ring_rules opening_match
+lay_out "$work" time_graph link_graph venue_folder venue_ports test_station imdf_read imdf_refs ring_rules opening_match
 mkdir -p "$work/crates/time_graph/proofs/judged"
 cat >"$work/crates/time_graph/src/main.rt" <<'END'
 //! Times the making of the graph of a folder, so many times, and prints the least milliseconds and the number of its nodes:
@@ -29,17 +29,16 @@ ghost use Rattle.feature_rows.specs.Sound.{AreSound};
 ghost use Rattle.plane_exact.specs.Figure.{AllClose};
 ghost use Rattle.plane_exact.specs.Opening.{AreTouches};
 
-use imdf_read::{ReadOut, read_folder};
+use imdf_read::{ReadOut, read_folder, sound_reading_law};
 use imdf_refs::{own_ids_law, reference_findings};
 use link_graph::Graph;
 use opening_match::touches;
-use imdf_read::sound_reading_law;
 use ring_rules::is_spread;
-use test_station::station_settings;
 use std::alloc::Global;
 use std::env;
 use std::io::{self, BufWriter, Error, Write};
 use std::time::Instant;
+use test_station::station_settings;
 use venue_folder::files_of;
 use venue_ports::DirFolders;
 use venue_types::{FeatureId, Features, Files, Link, OutOfMemory, Settings, Touches};
@@ -226,8 +225,8 @@ write_sound_reading "$work" time_graph
 build_program "$work" time_graph "$work/base/levels" 1
 program=$work/crates/time_graph/out/time_graph
 
-# The table of its links, and what each program tells at its marks: in front of all, behind the graph; in front of all, behind the reading,
-# behind the rows.
+# The table of its links, and what each program tells at its marks: before all, after the graph; before all, after the reading,
+# after the rows.
 LD_PRELOAD=$work/count_bytes.so "$program" "$work/base/levels" 0 >"$work/table" 2>"$work/our_bytes"
 LD_PRELOAD=$work/count_bytes.so "$work/time_rows" "$work/table" 0 >/dev/null 2>"$work/their_bytes"
 for _ in 1 2 3; do

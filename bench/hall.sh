@@ -12,7 +12,7 @@ trap 'rm -rf "$work"' EXIT
 python3 bench/levels.py 50 "$work/base"
 
 # A repository of its own, with a program that asks.
-lay_out "$work" time_copies board_copies left_right logbook crossbeam_utils atomic_table core
+lay_out "$work" time_copies board_copies test_station left_right logbook crossbeam_utils atomic_table core
 mkdir -p "$work/crates/time_copies/proofs/sharing/workers"
 : >"$work/crates/time_copies/proofs/Lib.antt"
 cat >"$work/crates/time_copies/src/main.rt" <<'END'
@@ -262,7 +262,7 @@ fn office<R: Wait>(
     Ok(OfficeOf { keeper, roll })
 }
 
-// A reader for each, and behind them the writer.
+// A reader for each, and after them the writer.
 fn workers(alloc: Global, office: Office, readers: u64) -> Option<Vec<Worker>>
     requires { Knows (view office.keeper.writer.desk.place) office.keeper.writer.desk.shown.value }
 {

@@ -6,7 +6,7 @@ lay_out() {
     local folder=$1 program=$2 line crate part wanted names=()
     shift 2
     wanted=" $* "
-    # A crate stands only on those in front of it.
+    # A crate stands only on those before it.
     while IFS= read -r line; do
         [[ $wanted = *" ${line%%:*} "* ]] && wanted+="${line#*:} "
     done < <(grep '^[a-z]' crates.txt | tac)

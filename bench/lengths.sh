@@ -9,13 +9,13 @@ trap 'rm -rf "$work"' EXIT
 rustc --edition 2021 -O -C codegen-units=1 -o "$work/time_lengths" bench/time_lengths.rs
 
 # A repository of its own, with a program that times the call.
-lay_out "$work" time_lengths plane_exact
+lay_out "$work" time_lengths plane_exact test_figures
 mkdir -p "$work/crates/time_lengths/proofs/sum_of"
 cat >"$work/crates/time_lengths/src/main.rt" <<'RT'
 //! Times `length_cm` over a million pairs of places.
 #![tactic(auto)]
 
-ghost use Rattle.plane_exact.specs.Testing.{IsInDoubledBox};
+ghost use Rattle.test_figures.specs.Boxes.{IsInDoubledBox};
 
 use plane_exact::length_cm;
 use std::io;
@@ -78,7 +78,7 @@ fn main(rt: HostRuntime) -> io::Result<()> {
 }
 RT
 cat >"$work/crates/time_lengths/proofs/sum_of/Answers.antt" <<'ANTT'
-use Rattle.plane_exact.proofs.BoxLemmas.{doubled_close}
+use Rattle.test_figures.proofs.BoxLemmas.{doubled_close}
 use Rattle.time_lengths.proofs.sum_of.Goals as goal
 
 pub length_cm-requires-clause-close : goal.length_cm-requires-clause-close

@@ -1,4 +1,4 @@
-# Sourced by benchmarks, behind `lay_out.sh`: parts that several of their programs have. `write_opening FOLDER PROGRAM` gives the program the
+# Sourced by benchmarks, after `lay_out.sh`: parts that several of their programs have. `write_opening FOLDER PROGRAM` gives the program the
 # module `opening`, which opens a folder's venue; it wants `venue_build`, `venue_folder` and `test_station`. `write_sound_reading FOLDER PROGRAM`
 # gives it the proof of a function `read` that hands the rows of a folder to `judged` where nothing is broken, and beside it in
 # `proofs/Silent.antt` that an empty report says so.
@@ -9,10 +9,10 @@ write_opening() {
 ghost use Rattle.std.specs.Prelude.{◌≡◌, IfSome};
 ghost use Rattle.std.specs.Arc.{arc_value};
 
-use test_station::station_settings;
 use std::alloc::Global;
 use std::fs::Files;
 use std::sync::Arc;
+use test_station::station_settings;
 use venue_build::{Built, Venue, build};
 use venue_folder::files_of;
 use venue_ports::DirFolders;

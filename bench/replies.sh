@@ -1,6 +1,6 @@
 #!/usr/bin/env bash
 # `wire_replies::reply_bytes` over the reply to a version request, a route of six steps and lists of 33 and of 100,000 places,
-# beside Rust's `serde_json`, which builds the same values and writes them behind the same head. Wants the kit (rt), rustc and
+# beside Rust's `serde_json`, which builds the same values and writes them after the same head. Wants the kit (rt), rustc and
 # Debian's librust-serde-json-dev. Prints the least time of a reply in turns; the bytes of both sides are compared.
 set -e
 cd "$(dirname "$0")/.."
@@ -27,7 +27,7 @@ use std::io::{self, Error};
 use std::time::Instant;
 
 use venue_types::{Class, FeatureId, Kind, Label, List, PlaceRow, Reply, StepRow, Text};
-use wire_replies::{Answer, reply_bytes};
+use wire_replies::{Response, reply_bytes};
 
 fn id(last: u32) -> FeatureId {
     FeatureId(0x4000_8000_0000_0000_0000 | u128::from(last))
@@ -132,7 +132,7 @@ fn reply(alloc: Global, word: &str) -> io::Result<Reply> {
 }
 
 /// Makes the bytes so many times, and gives their number in all.
-fn make(alloc: Global, answer: &Answer, times: usize) -> io::Result<usize> {
+fn make(alloc: Global, answer: &Response, times: usize) -> io::Result<usize> {
     let mut sum = 0usize;
     for _ in 0..times {
         let Ok(bytes) = reply_bytes(alloc, answer, false) else {
@@ -147,7 +147,7 @@ fn number(word: &str) -> io::Result<usize> {
     word.parse::<usize>().map_err(|_| Error::other("no number"))
 }
 
-fn least_time(rt: &HostRuntime, answer: &Answer, batches: usize, times: usize) -> io::Result<f64> {
+fn least_time(rt: &HostRuntime, answer: &Response, batches: usize, times: usize) -> io::Result<f64> {
     let mut least = 1e18;
     for _ in 0..batches {
         let start = Instant::now(rt)?;
@@ -165,7 +165,7 @@ fn main(rt: HostRuntime) -> io::Result<()> {
     if words.len() < 5 {
         return Err(Error::other("usage: time_replies REPLY FILE BATCHES TIMES"));
     }
-    let answer = Answer::Of(reply(rt.alloc(), words[1].as_str())?);
+    let answer = Response::Of(reply(rt.alloc(), words[1].as_str())?);
     let Ok(bytes) = reply_bytes(rt.alloc(), &answer, false) else {
         return Err(Error::other("memory"));
     };

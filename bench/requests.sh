@@ -78,7 +78,7 @@ fn message_number(message: &Message) -> u64 {
     }
 }
 
-/// How many of the requests are taken, one behind the other, and their sum.
+/// How many of the requests are taken, one after the other, and their sum.
 fn take_all(alloc: Global, front: &Front, bytes: &[u8], requests: usize) -> (usize, u64) {
     let mut rest = bytes;
     let mut sum = 0u64;

@@ -1,6 +1,6 @@
 #!/usr/bin/env bash
 # `RingBands` and `ring_crosses` over rings of 20,000 positions, beside the same tree in C++ and, where it is installed, GEOS.
-# Wants the kit (rt), python3 and g++; GEOS is Debian's libgeos-dev. The first build proves three crates and takes some minutes.
+# Wants the kit (rt), python3 and g++; GEOS is Debian's libgeos-dev. The first build proves four crates and takes some minutes.
 set -e
 cd "$(dirname "$0")/.."
 . bench/lay_out.sh
@@ -12,7 +12,7 @@ geos=()
 g++ -O3 -DNDEBUG -std=c++17 -o "$work/rings" bench/rings.cpp "${geos[@]}"
 
 # A repository of its own, with a program that times the calls.
-lay_out "$work" time_rings plane_trees
+lay_out "$work" time_rings plane_trees test_figures
 proofs="$work/crates/time_rings/proofs"
 mkdir -p "$proofs"/{is_found,ready,crossing,ring}
 cat >"$work/crates/time_rings/src/main.rt" <<'END'
@@ -20,7 +20,7 @@ cat >"$work/crates/time_rings/src/main.rt" <<'END'
 #![tactic(auto)]
 
 ghost use Rattle.std.specs.Prelude.{All, IfOk};
-ghost use Rattle.plane_exact.specs.Testing.{IsInBox};
+ghost use Rattle.test_figures.specs.Boxes.{IsInBox};
 
 use plane_trees::{RingBands, ring_crosses};
 use std::alloc::Global;
@@ -201,7 +201,7 @@ fn main(rt: HostRuntime) -> io::Result<()> {
 END
 cat >"$proofs/ring/Invariants.antt" <<'END'
 use Rattle.std.proofs.Common.{All}
-use Rattle.plane_exact.specs.Testing.{IsInBox}
+use Rattle.test_figures.specs.Boxes.{IsInBox}
 use Rattle.time_rings.proofs.ring.Given as goal
 
 abbrev pub invariant-loop-point : goal.invariant-loop-point
@@ -209,7 +209,7 @@ invariant-loop-point l = All IsInBox l.list.items
 END
 cat >"$proofs/ring/Answers.antt" <<'END'
 use Rattle.std.proofs.lemmas.List.Elements.{All-same, All-push}
-use Rattle.plane_exact.specs.Testing.{IsInBox}
+use Rattle.test_figures.specs.Boxes.{IsInBox}
 use Rattle.time_rings.proofs.ring.Goals as goal
 
 pub loop-point-preserved : goal.loop-point-preserved
@@ -218,8 +218,8 @@ END
 cat >"$proofs/ready/Answers.antt" <<'END'
 use Rattle.std.proofs.Common.{All, sym, subst}
 use Rattle.venue_types.specs.declared.point.Ring.{Ring}
-use Rattle.plane_exact.specs.Testing.{IsInBox}
-use Rattle.plane_exact.proofs.BoxLemmas.{points_close}
+use Rattle.test_figures.specs.Boxes.{IsInBox}
+use Rattle.test_figures.proofs.BoxLemmas.{points_close}
 use Rattle.time_rings.proofs.ready.Goals as goal
 
 pub of-requires : goal.of-requires
@@ -229,14 +229,14 @@ pub returns-in-Ok : goal.returns-in-Ok
 returns-in-Ok c = subst (λ (ring : Ring). All IsInBox ring.points) (sym c.in-Ok.ensures) c.requires
 END
 cat >"$proofs/crossing/Answers.antt" <<'END'
-use Rattle.plane_exact.proofs.BoxLemmas.{points_close}
+use Rattle.test_figures.proofs.BoxLemmas.{points_close}
 use Rattle.time_rings.proofs.crossing.Goals as goal
 
 pub ring_crosses-requires : goal.ring_crosses-requires
 ring_crosses-requires c = points_close c.args.ring.now.points c.requires
 END
 cat >"$proofs/is_found/Answers.antt" <<'END'
-use Rattle.plane_exact.proofs.BoxLemmas.{all_close}
+use Rattle.test_figures.proofs.BoxLemmas.{all_close}
 use Rattle.time_rings.proofs.is_found.Goals as goal
 
 pub inside-requires : goal.inside-requires

@@ -14,7 +14,7 @@ python3 bench/levels.py 50 "$work/base"
 python3 bench/folder.py "$work/large"
 
 # A repository of its own, with a program that changes and asks.
-lay_out "$work" time_hall shared_hall left_right logbook crossbeam_utils atomic_table core
+lay_out "$work" time_hall shared_hall test_station left_right logbook crossbeam_utils atomic_table core
 mkdir -p "$work/crates/time_hall/proofs/seating/hall_over"
 : >"$work/crates/time_hall/proofs/Lib.antt"
 cat >"$work/crates/time_hall/src/main.rt" <<'END'
@@ -152,8 +152,8 @@ use std::sync::Wait;
 use std::sync::atomic::{AtomicU64, Ordering};
 use std::thread;
 use std::time::{Clock, Duration, Instant};
+use venue_hall::{Asks, Hall};
 use venue_types::{Ask, Change, FeatureId, Query, Reply};
-use version_board::{Asks, Hall};
 
 // A question that takes longer, in microseconds, is late.
 const LATE: u64 = 5_000;
@@ -323,7 +323,7 @@ cat >"$work/crates/time_hall/src/seating.rt" <<'END'
 //! Seats side by side at a hall.
 
 ghost use Rattle.std.specs.Prelude.{◌≡◌, ◌≤◌, length};
-ghost use Rattle.version_board.specs.Making.{shelf_of};
+ghost use Rattle.shared_hall.specs.Making.{shelf_of};
 ghost use Rattle.shared_hall.specs.Copied.{entries_in, book_in};
 
 use crate::opening::Opened;
@@ -492,7 +492,7 @@ pub fn turn_all<R: Threads + Wait + Clock + Sync>(
 END
 cat >"$work/crates/time_hall/proofs/seating/hall_over/Invariants.antt" <<'END'
 use Rattle.std.proofs.Common.{length, None}
-use Rattle.version_board.specs.Making.{shelf_of}
+use Rattle.shared_hall.specs.Making.{shelf_of}
 use Rattle.shared_hall.specs.Copied.{entries_in, book_in}
 use Rattle.time_hall.proofs.seating.hall_over.Given as goal
 

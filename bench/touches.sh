@@ -14,7 +14,7 @@ python3 bench/doors.py "$work/venue"
 g++ -O3 -DNDEBUG -std=c++17 -o "$work/touches" bench/touches.cpp
 
 # A repository of its own, with a program that times the call.
-lay_out "$work" time_touches opening_match venue_folder venue_ports test_station imdf_read reading_laws ring_rules
+lay_out "$work" time_touches opening_match venue_folder venue_ports test_station imdf_read ring_rules
 cat >"$work/crates/time_touches/src/main.rt" <<'RT'
 //! Times which openings of a folder touch which units, so many times: `time_touches FOLDER ROUNDS`. Prints the least milliseconds of a
 //! call, the number of touches, a sum of them, and the milliseconds of reading the folder.
@@ -25,14 +25,13 @@ ghost use Rattle.feature_rows.specs.Figures.{judged_positions};
 ghost use Rattle.feature_rows.specs.Sound.{AreSound};
 ghost use Rattle.plane_exact.specs.Figure.{AllClose};
 
-use imdf_read::{ReadOut, read_folder};
+use imdf_read::{ReadOut, read_folder, sound_reading_law};
 use opening_match::touches;
-use imdf_read::sound_reading_law;
 use ring_rules::is_spread;
-use test_station::station_settings;
 use std::env;
 use std::io::{self, Error};
 use std::time::{Duration, Instant};
+use test_station::station_settings;
 use venue_folder::files_of;
 use venue_ports::DirFolders;
 use venue_types::{Features, Files, List, OutOfMemory, Settings};

@@ -17,18 +17,18 @@ ghost use Rattle.link_graph.specs.Marking.{AreMarksOf};
 
 use link_graph::{Area, Graph, Marks};
 use route_search::{Found, least};
-use test_station::station_settings;
 use std::alloc::Global;
 use std::env;
 use std::io::{self, BufWriter, Error, Write};
 use std::marker::Brand;
 use std::sync::ledger::{Blank, Ledger};
 use std::time::Instant;
-use walk_laws::Steps;
+use test_station::station_settings;
 use venue_build::{Built, Venue, build};
 use venue_folder::files_of;
 use venue_ports::DirFolders;
 use venue_types::{FeatureId, OutOfMemory, Profile};
+use walk_laws::Steps;
 
 fn no_memory(_: OutOfMemory) -> Error {
     Error::other("out of memory")

@@ -29,7 +29,7 @@ class Lines {
 
   fault() { throw new Stop(`form ${this.name} ${this.at + 1}`); }
 
-  /** The words of the next line behind its first, numbers as such, where it is of the form and they fit; else null. */
+  /** The words of the next line after its first, numbers as such, where it is of the form and they fit; else null. */
   take(form, fits = () => true) {
     const found = this.at < this.lines.length ? form.exec(this.lines[this.at]) : null;
     const words = found && found.slice(1).map((word) => (/^[0-9]+$/.test(word) ? Number(word) : word));

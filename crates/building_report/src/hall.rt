@@ -3,7 +3,7 @@
 ghost use Rattle.std.specs.Prelude.{◌≡◌, ◌≤◌, IfOk, length};
 ghost use Rattle.std.specs.Arc.{arc_value};
 ghost use Rattle.version_board.specs.Changes.{Changes};
-ghost use Rattle.version_board.specs.VenueHallFacts.{IsAnswered};
+ghost use Rattle.version_board.specs.Facts.{IsAnswered};
 ghost use Rattle.version_board.specs.Halls.{facts_of};
 ghost use Rattle.version_board.specs.Openings.{opening_history};
 

@@ -5,8 +5,3 @@ pub mod Geometry
 pub mod Reading
 pub mod Laws
 pub mod Numbers
-pub use Rattle.exact_json.specs.Json
-pub use Rattle.exact_json.specs.View
-pub use Rattle.exact_json.specs.Grammar
-pub use Rattle.exact_json.specs.declared.tree.Tree
-pub use Rattle.exact_json.specs.declared.tree.Pair

@@ -10,7 +10,6 @@ mod read_geometry;
 mod ring;
 mod values;
 
-pub use exact_json::{Members, Pair, Tree};
 pub use geometry::{line, point, shape};
 pub use laws::{decimals_law, one_line_law, one_point_law, one_shape_law, same_numbers_law};
 pub use read_geometry::ReadGeometry;

@@ -10,7 +10,7 @@ mod PropertyRule
 mod Slots
 mod Lists
 mod Nothing
-mod Figures
+mod ReadFigures
 mod Elements
 mod Shapes
 mod Counts

@@ -22,7 +22,7 @@ use Rattle.feature_rows.specs.Figures.{shapes_of, positions_of, positions, judge
 use Rattle.feature_rows.specs.Sound.{IsOnEarth, IsSoundShape, AreSound, element_count}
 use Rattle.imdf_read.proofs.Lists.{zip_flat_all, all_flat}
 use Rattle.imdf_read.proofs.Nothing.{FindsNothing, one_venue}
-use Rattle.imdf_read.proofs.Figures.{position_on_earth, line_on_earth, line_count, displays_on_earth}
+use Rattle.imdf_read.proofs.ReadFigures.{position_on_earth, line_on_earth, line_count, displays_on_earth}
 use Rattle.imdf_read.proofs.Elements.{few_elements}
 use Rattle.imdf_read.proofs.Shapes.{all_kept, points_counted, several_counted, shapes_counted, shapes_on_earth, sound_shapes}
 use Rattle.imdf_read.proofs.Counts.{IsCounted, counted, few_features, few_positions}

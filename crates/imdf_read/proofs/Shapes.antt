@@ -25,7 +25,7 @@ use Rattle.plane_exact.specs.Figure.{vertices}
 use Rattle.feature_rows.specs.Sound.{IsOnEarth, IsSoundShape}
 use Rattle.imdf_read.proofs.Lists.{zip_places, zip_flat_all, zip_count, zip_flat_count}
 use Rattle.imdf_read.proofs.Nothing.{FindsNothing, BreaksNone, item_keeps, is_judged_of}
-use Rattle.imdf_read.proofs.Figures.{shape_on_earth, shape_count, sound_shape}
+use Rattle.imdf_read.proofs.ReadFigures.{shape_on_earth, shape_count, sound_shape}
 
 -- the row is that of an item that breaks no rule
 abbrev pub IsKept : {Row : Type 0} → File → (Json → Row → Type 0) → Json → Row → Type 0

@@ -10,7 +10,7 @@ pub mod Out
 pub mod Ordinals
 pub use Rattle.imdf_schema.specs.declared.rules.Rule
 pub use Rattle.imdf_schema.specs.Places
-pub use Rattle.imdf_schema.specs.Rules as ImdfSchemaRules
+pub use Rattle.imdf_schema.specs.Rules as AllRules
 pub use Rattle.imdf_rows.specs.Folder
 pub use Rattle.feature_rows.specs.Rows
 pub use Rattle.feature_rows.specs.Sound

@@ -6,9 +6,9 @@ use Rattle.std.specs.Str.{bytes_eq}
 use Rattle.std.specs.List.{list_all, list_any}
 use Rattle.std.specs.Cmp.Lexicographic.{slice_cmp}
 use Rattle.std.specs.Ordering.{nat_cmp, is_eq}
-use Rattle.geo_shapes.specs.Json.{Json, null, object, Members, no_pairs, pair, members_list, last_member, first_of_two, object_members}
-use Rattle.geo_shapes.specs.View.{pair_view, members_of, members_view}
-use Rattle.geo_shapes.specs.Pair.{Pair}
+use Rattle.exact_json.specs.Json.{Json, null, object, Members, no_pairs, pair, members_list, last_member, first_of_two, object_members}
+use Rattle.exact_json.specs.View.{pair_view, members_of, members_view}
+use Rattle.exact_json.specs.declared.tree.Pair.{Pair}
 use Rattle.std.proofs.lemmas.Slice.Eq.{bytes_eq-Decides}
 use Rattle.std.proofs.lemmas.Option.{same_Some}
 use Rattle.imdf_schema.specs.Values.{is_text, has_texts}

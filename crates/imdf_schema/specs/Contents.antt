@@ -1,7 +1,7 @@
 -- What a file of a folder holds.
 use Rattle.std.specs.Prelude.{◌≡◌, ◌<◌, ◌≤◌, ◌^◌, List, [], Option, Some, None, length, slice_get}
-use Rattle.geo_shapes.specs.Json.{Json, depth}
-use Rattle.geo_shapes.specs.Grammar.{IsJson}
+use Rattle.exact_json.specs.Json.{Json, depth}
+use Rattle.exact_json.specs.Grammar.{IsJson}
 use Rattle.venue_types.specs.declared.files.Files.{Files}
 use Rattle.venue_types.specs.declared.files.Slot.{Slot}
 use Rattle.venue_types.specs.declared.files.Slot.TheVariants.{Absent, Held}

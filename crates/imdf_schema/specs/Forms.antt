@@ -1,7 +1,7 @@
 -- The forms of properties.
 use Rattle.std.specs.Prelude.{List, [], ◌∷◌, Option, None, Bool, true, false, is_some, not, ◌||◌, ◌&&◌, option_and_then, unwrap_or, IsTrue, ◌⊎◌, codes}
 use Rattle.venue_types.specs.declared.point.Point.{Point}
-use Rattle.geo_shapes.specs.Json.{Json, text_bytes, list_values, member}
+use Rattle.exact_json.specs.Json.{Json, text_bytes, list_values, member}
 use Rattle.geo_shapes.specs.Geometry.{HasPoint}
 use Rattle.venue_types.specs.declared.folder_file.File.{File}
 use Rattle.imdf_schema.specs.declared.forms.Form.{Form}

@@ -1,6 +1,6 @@
 -- Feature files and features (RFC 7946, sections 3.2 and 3.3).
 use Rattle.std.specs.Prelude.{ℕ, List, [], Option, Bool, true, ◌||◌, ◌&&◌, unwrap_or, codes}
-use Rattle.geo_shapes.specs.Json.{Json, list_values, member}
+use Rattle.exact_json.specs.Json.{Json, list_values, member}
 use Rattle.venue_types.specs.declared.folder_file.Geometry.{Geometry}
 use Rattle.venue_types.specs.declared.folder_file.Geometry.TheVariants as kind
 use Rattle.imdf_schema.specs.declared.table.Property.{Property}

@@ -6,9 +6,9 @@ use Rattle.std.specs.List.{list_all}
 use Rattle.std.specs.Str.{bytes_eq}
 use Rattle.venue_types.specs.declared.feature_id.FeatureId.{FeatureId}
 use Rattle.venue_types.specs.Identifier.{identifier_read}
-use Rattle.geo_shapes.specs.Json.{Json, null, text_bytes, list_values, object_members, members_list, member}
-use Rattle.geo_shapes.specs.View.{tree_view}
-use Rattle.geo_shapes.specs.Tree.{Tree}
+use Rattle.exact_json.specs.Json.{Json, null, text_bytes, list_values, object_members, members_list, member}
+use Rattle.exact_json.specs.View.{tree_view}
+use Rattle.exact_json.specs.declared.tree.Tree.{Tree}
 
 -- the value of a tree, and null where there is none
 abbrev pub seen : Option (Bor Tree) → Json

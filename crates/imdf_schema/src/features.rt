@@ -1,13 +1,13 @@
 //! Feature files and features (RFC 7946, sections 3.2 and 3.3).
 
 ghost use Rattle.std.specs.Prelude.{◌≡◌, map, option_map};
-ghost use Rattle.geo_shapes.specs.View.{tree_view};
+ghost use Rattle.exact_json.specs.View.{tree_view};
 ghost use Rattle.imdf_schema.specs.Values.{seen};
 ghost use Rattle.imdf_schema.specs.Items as specs;
 
 use crate::table::Property;
 use crate::values::{is_list, is_null, is_object, is_word, list, member};
-use geo_shapes::Tree;
+use exact_json::Tree;
 use venue_types::Geometry;
 
 /// Whether it is an object of the type "FeatureCollection" with a list of features.

@@ -1,7 +1,7 @@
 //! The forms of properties.
 
 ghost use Rattle.std.specs.Prelude.{◌≡◌, ◌↔◌, ◌||◌, IsTrue, IfOk, map, not, option_map};
-ghost use Rattle.geo_shapes.specs.View.{tree_view};
+ghost use Rattle.exact_json.specs.View.{tree_view};
 ghost use Rattle.imdf_schema.specs.Values.{seen, listed, is_null as specs_null};
 ghost use Rattle.imdf_schema.specs.Forms as specs;
 
@@ -9,7 +9,8 @@ use crate::texts::all_texts;
 use crate::values::{
     is_id, is_list, is_null, is_object, is_text, is_word, list, member, object, text,
 };
-use geo_shapes::{Tree, point};
+use exact_json::Tree;
+use geo_shapes::point;
 use std::alloc::Global;
 use venue_types::{File, OutOfMemory, file_of_type};
 

@@ -3,13 +3,13 @@
 ghost use Rattle.std.specs.Prelude.{◌≡◌, ◌<◌, suc, ◌∷◌, ℕ, List, length, drop, true, if◌then◌else◌, not, map, IfOk, OnOk};
 ghost use Rattle.std.specs.List.{list_all};
 ghost use Rattle.std.specs.Str.{bytes_eq};
-ghost use Rattle.geo_shapes.specs.Json.{object as json_object};
-ghost use Rattle.geo_shapes.specs.View.{pair_view, members_view, object_view};
+ghost use Rattle.exact_json.specs.Json.{object as json_object};
+ghost use Rattle.exact_json.specs.View.{pair_view, members_view, object_view};
 ghost use Rattle.imdf_schema.specs.Values.{is_text as text_is, has_texts};
 ghost use Rattle.imdf_schema.specs.Names.{has_name};
 
 use crate::values::is_text;
-use geo_shapes::{Members, Pair};
+use exact_json::{Members, Pair};
 use std::alloc::Global;
 use std::collections::BTreeSet;
 use venue_types::OutOfMemory;

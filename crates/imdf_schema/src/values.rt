@@ -1,12 +1,12 @@
 //! What a JSON value is, and what it has. `None` stands for a member that is absent, which is as good as null.
 
 ghost use Rattle.std.specs.Prelude.{◌≡◌, option_map, map};
-ghost use Rattle.geo_shapes.specs.Json.{member, text_bytes, list_values, object_members};
-ghost use Rattle.geo_shapes.specs.View.{tree_view, object_view};
+ghost use Rattle.exact_json.specs.Json.{member, text_bytes, list_values, object_members};
+ghost use Rattle.exact_json.specs.View.{tree_view, object_view};
 ghost use Rattle.std.specs.Option.{option_copied};
 ghost use Rattle.imdf_schema.specs.Values.{seen, is_null, is_object, is_list, is_text, is_word, id_of, is_id};
 
-use geo_shapes::{Members, Tree};
+use exact_json::{Members, Tree};
 use venue_types::FeatureId;
 
 /// The value of the last member of the name.

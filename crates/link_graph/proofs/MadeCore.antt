@@ -17,7 +17,7 @@ use Rattle.venue_types.specs.declared.link.Link.{Link}
 use Rattle.venue_types.specs.declared.link.Node.{Node}
 use Rattle.venue_types.specs.declared.settings.Settings.{Settings}
 use Rattle.venue_nodes.specs.Indexes.{AreOnce}
-use Rattle.venue_nodes.specs.FeatureRowsRows.{HaveOwnIds}
+use Rattle.venue_nodes.specs.FeatureRows.{HaveOwnIds}
 use Rattle.venue_nodes.specs.Sound.{AreSound, element_count}
 use Rattle.imdf_access.specs.declared.parts.EndFacts.{EndFacts}
 use Rattle.imdf_access.specs.Parts.{end_facts}

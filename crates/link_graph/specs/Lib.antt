@@ -19,7 +19,7 @@ pub use Rattle.venue_nodes.specs.Identity
 pub use Rattle.venue_nodes.specs.Nodes
 pub use Rattle.venue_nodes.specs.Limits
 pub use Rattle.venue_nodes.specs.Members
-pub use Rattle.venue_nodes.specs.Views as VenueNodesViews
+pub use Rattle.venue_nodes.specs.Views as NodeViews
 pub use Rattle.venue_nodes.specs.Rows
 pub use Rattle.venue_nodes.specs.declared.limits.Crowding
 pub use Rattle.venue_nodes.specs.Crowds

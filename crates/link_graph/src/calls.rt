@@ -2,7 +2,7 @@
 
 ghost use Rattle.std.specs.Prelude.{◌≡◌, ◌↔◌, ◌+◌, ◌<◌, ◌≤◌, ◌^◌, None, length, IsTrue, Contains};
 ghost use Rattle.venue_nodes.specs.Figures.{judged_positions};
-ghost use Rattle.venue_nodes.specs.FeatureRowsRows.{HaveOwnIds};
+ghost use Rattle.venue_nodes.specs.FeatureRows.{HaveOwnIds};
 ghost use Rattle.venue_nodes.specs.Sound.{AreSound};
 ghost use Rattle.plane_exact.specs.Figure.{AllClose};
 ghost use Rattle.venue_nodes.specs.Crowds.{Crowds};

@@ -22,7 +22,7 @@ use Rattle.route_answers.specs.RouteAnswers.{MayUse, IsClaimOf, IsRouteAnswer}
 use Rattle.route_answers.specs.Claims.{IsOverAllowed, IsTold}
 use Rattle.route_answers.proofs.Families.{route_over, no_route_over}
 use Rattle.route_answers.proofs.Ranges.{node_fits, route_fits, nothing_fits, walk_all}
-use Rattle.route_answers.proofs.Rows.{proved_route, proved_cut}
+use Rattle.route_answers.proofs.AnswerRows.{proved_route, proved_cut}
 
 -- what can be passed over the network of some features is what can be used, whatever is closed
 abbrev pub PassesUsable : Type 0

@@ -1,5 +1,5 @@
 pub mod Families
-pub mod Rows
+pub mod AnswerRows
 pub mod Ranges
 pub mod GoodAnswers
 pub mod Judging

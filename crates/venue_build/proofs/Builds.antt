@@ -19,7 +19,7 @@ use Rattle.venue_build.specs.Ground.{IsSoundVenue, IsLaterReport, IsLaterBuilt}
 use Rattle.venue_build.specs.declared.built.Built.{Built}
 use Rattle.venue_build.specs.declared.built.Built.TheVariants as built
 use Rattle.venue_build.specs.Venues.{SeenVenue as Venue}
-use Rattle.venue_build.proofs.Phases.{nothing, rejected_later}
+use Rattle.venue_build.proofs.PhaseLemmas.{nothing, rejected_later}
 use Rattle.venue_build.proofs.Noting.{same_notes}
 
 -- rows that are sound, and in which no later phase finds anything

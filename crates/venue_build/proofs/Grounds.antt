@@ -11,7 +11,7 @@ use Rattle.ring_rules.specs.Rules.{IsSpread}
 use Rattle.link_graph.specs.Limits.{BreaksLimit}
 use Rattle.venue_build.specs.Phases.{IsPlaneBroken, IsGroundBroken}
 use Rattle.venue_build.specs.Report.{IsLaterBroken}
-use Rattle.venue_build.proofs.Phases.{nothing}
+use Rattle.venue_build.proofs.PhaseLemmas.{nothing}
 use Rattle.venue_build.proofs.Planes.{spread_finding}
 
 -- the report of a phase that has nothing, as an empty one

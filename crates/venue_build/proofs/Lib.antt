@@ -1,5 +1,5 @@
 mod Outcomes
-mod Phases
+mod PhaseLemmas
 mod Venues
 mod Planes
 mod Grounds

@@ -12,7 +12,7 @@ use Rattle.rule_reports.proofs.Phases.{Lists-same}
 use Rattle.venue_types.specs.declared.folder_file.File.TheVariants as file
 use Rattle.imdf_read.specs.Rule.TheVariants as rule
 use Rattle.imdf_read.specs.Places.{finding_at}
-use Rattle.imdf_read.specs.ImdfSchemaRules.{rule_number}
+use Rattle.imdf_read.specs.AllRules.{rule_number}
 use Rattle.ring_rules.specs.Rules.{IsSpread, BreaksSpread, BreaksInRing}
 use Rattle.contain_rules.specs.Rules.{BreaksHold}
 use Rattle.venue_build.specs.Phases.{IsPlaneBroken}

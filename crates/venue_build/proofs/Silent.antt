@@ -12,7 +12,7 @@ use Rattle.link_graph.specs.Limits.{BreaksLimit}
 use Rattle.link_graph.proofs.Limiting.{report}
 use Rattle.venue_build.specs.Phases.{IsMisplaced, IsPlaneBroken, IsGroundBroken}
 use Rattle.venue_build.specs.Report.{IsLaterBroken}
-use Rattle.venue_build.proofs.Phases.{first_silent, second_silent}
+use Rattle.venue_build.proofs.PhaseLemmas.{first_silent, second_silent}
 
 module _ (features : Features) (settings : Settings) (unbroken : (x : Finding) → ¬ IsLaterBroken features settings x) where
   -- the phases behind the second find nothing

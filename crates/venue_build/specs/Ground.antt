@@ -7,7 +7,7 @@ use Rattle.venue_types.specs.declared.finding.Note.{Note}
 use Rattle.venue_types.specs.declared.finding.Report.{Report}
 use Rattle.plane_exact.specs.Opening.{AreTouches}
 use Rattle.rule_reports.specs.Reports.{IsReport, IsNoteList, Shortens}
-use Rattle.link_graph.specs.VenueNodesViews.{AreNodes}
+use Rattle.link_graph.specs.NodeViews.{AreNodes}
 use Rattle.link_graph.specs.Rows.{AreRowsOf}
 use Rattle.link_graph.specs.Unplaced.{IsUnplaced}
 use Rattle.venue_build.specs.declared.built.Built.{Built}

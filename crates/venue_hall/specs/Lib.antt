@@ -16,4 +16,4 @@ pub use Rattle.venue_history.specs.Built
 pub use Rattle.venue_history.specs.Answers
 pub use Rattle.venue_history.specs.Ways
 pub use Rattle.venue_history.specs.Links
-pub use Rattle.venue_history.specs.VenueBuildBuilt
+pub use Rattle.venue_history.specs.BuiltType

@@ -15,4 +15,4 @@ pub use Rattle.venue_build.specs.Report
 pub use Rattle.venue_build.specs.Nodes
 pub use Rattle.venue_build.specs.Views
 pub use Rattle.venue_build.specs.Links
-pub use Rattle.venue_build.specs.declared.built.Built as VenueBuildBuilt
+pub use Rattle.venue_build.specs.declared.built.Built as BuiltType

@@ -17,6 +17,6 @@ pub mod Noting
 pub mod Making
 pub use Rattle.imdf_schema.specs.declared.table.Property
 pub use Rattle.feature_rows.specs.Figures
-pub use Rattle.feature_rows.specs.Rows as FeatureRowsRows
+pub use Rattle.feature_rows.specs.Rows as FeatureRows
 pub use Rattle.feature_rows.specs.Sound
 pub use Rattle.feature_rows.specs.Indexes

@@ -4,7 +4,7 @@ ghost use Rattle.std.specs.Prelude.{◌≡◌, ◌⊎◌, ◌≤◌, ℕ, List, 
 ghost use Rattle.std.specs.Fmt.{decimal};
 ghost use Rattle.venue_ports.specs.Files.{StoredFile};
 ghost use Rattle.venue_ports.specs.Causes.{Rose};
-ghost use Rattle.venue_service.specs.Ends.{link_between};
+ghost use Rattle.venue_service.specs.Ends.{connection_between};
 ghost use Rattle.venue_service.specs.Desks.{raised};
 ghost use Rattle.venue_service.specs.Services.{AreCounts};
 ghost use Rattle.venue_commands.specs.Openings.{IsOpeningOf};
@@ -101,7 +101,7 @@ fn status_of(failed: bool) -> Status
 
 // Tells of a service at its close.
 fn close<C: Stream>(alloc: Global, console: &mut C, counts: Counts) -> Status
-    ensures closing { IsClosing counts (link_between C.Stream console.old console.new) result }
+    ensures closing { IsClosing counts (connection_between C.Stream console.old console.new) result }
     ensures left { C.left console.new ≡ C.left console.old }
     ensures later { C.faults console.old ≤ C.faults console.new }
 {
@@ -125,7 +125,7 @@ fn serve_told<F: Folders + Send, D: Doors + Send, C: Stream, R: Threads + Wait +
 ) -> Outcome<F, D>
     requires { D.ready doors ≡ true }
     ensures ends { (binds : Option ℕ) (bound : Option (List ℕ)) → IsServedOn ready.workers ready.connections
-        (link_between C.Stream console.old console.new)
+        (connection_between C.Stream console.old console.new)
         (record (doors_between D.Doors doors result.doors) { binds = binds; bound = bound }) result.status }
     ensures binds { D.binds result.doors ≡ D.binds doors }
     ensures bound { D.bound result.doors ≡ D.bound doors }
@@ -169,7 +169,7 @@ fn serve_bound<F: Folders + Send, D: Doors + Send, C: Stream, R: Threads + Wait 
     requires bound { D.ready doors ≡ true }
     requires line { string_bytes ready.listening ≡ listening_line address.now }
     ensures ends { (binds : Option ℕ) (bound : Option (List ℕ)) → IsServiceEnd address.now ready.workers ready.connections
-        (link_between C.Stream console.old console.new)
+        (connection_between C.Stream console.old console.new)
         (record (doors_between D.Doors doors result.doors) { binds = binds; bound = bound }) result.status }
     ensures binds { D.binds result.doors ≡ D.binds doors }
     ensures bound { D.bound result.doors ≡ D.bound doors }
@@ -191,7 +191,7 @@ fn serve_bound<F: Folders + Send, D: Doors + Send, C: Stream, R: Threads + Wait 
 // Tells that the bind failed.
 fn tell_unbound<C: Stream>(console: &mut C) -> Status
     ensures told { IsTold
-        (link_between C.Stream console.old console.new) door_fault ⊎ IsToldInPart (link_between C.Stream console.old console.new) door_fault }
+        (connection_between C.Stream console.old console.new) door_fault ⊎ IsToldInPart (connection_between C.Stream console.old console.new) door_fault }
     ensures fault { result ≡ Status.Fault }
     ensures left { C.left console.new ≡ C.left console.old }
     ensures later { C.faults console.old ≤ C.faults console.new }
@@ -214,7 +214,7 @@ fn serve_ready<F: Folders + Send, D: Doors + Send, C: Stream, R: Threads + Wait 
     requires short { length address.now ≤ 256 }
     requires line { string_bytes ready.listening ≡ listening_line address.now }
     ensures ends { IsServiceEnd address.now ready.workers ready.connections
-        (link_between C.Stream console.old console.new)
+        (connection_between C.Stream console.old console.new)
         (doors_between D.Doors doors result.doors) result.status }
     ensures bound { AreBoundAt address.now (doors_between D.Doors doors result.doors) }
     ensures files { F.files result.folders ≡ F.files folders }

@@ -1,7 +1,7 @@
 //! An accepted connection.
 
 ghost use Rattle.std.specs.Prelude.{◌≡◌, ◌≤◌};
-ghost use Rattle.venue_session.specs.Ends.{link_between};
+ghost use Rattle.venue_session.specs.Ends.{connection_between};
 ghost use Rattle.venue_session.specs.Sessions.{IsSession, HasServed};
 ghost use Rattle.venue_service.specs.Guests.{conn_of};
 
@@ -37,7 +37,7 @@ impl<N: HallName, C: Stream> Guest<N, C> {
         seat: &mut Seat<'_, N, F, R>,
         front: &Front,
     ) -> (End, C)
-        ensures session { IsSession front.now seat.old seat.new (link_between C.Stream (conn_of self) result.1) result.0 }
+        ensures session { IsSession front.now seat.old seat.new (connection_between C.Stream (conn_of self) result.1) result.0 }
         ensures hall { HasServed seat.old seat.new }
         ensures link { C.faults (conn_of self) ≤ C.faults result.1 }
     {

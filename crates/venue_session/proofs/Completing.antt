@@ -14,7 +14,7 @@ use Rattle.venue_types.specs.declared.reply.Which.TheVariants as which
 use Rattle.venue_types.specs.declared.settings.Settings.{Settings}
 use Rattle.venue_hall.specs.Venues.{SeenVenue as Venue}
 use Rattle.venue_hall.specs.Built.{IsRejected, IsVenueOf}
-use Rattle.venue_folder.specs.Shelves.{Shelf}
+use Rattle.venue_hall.specs.Shelves.{Shelf}
 use Rattle.venue_hall.specs.Act.{Act}
 use Rattle.venue_hall.specs.Act.TheVariants as act
 use Rattle.venue_hall.specs.Entry.{Entry}

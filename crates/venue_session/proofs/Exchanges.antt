@@ -1,7 +1,7 @@
 -- The messages that were acted on, told again as exchanges.
 use Rattle.std.proofs.Common.{◌≡◌, ◌∙◌, ◌⊎◌, ℕ, inl, inr, false, List, [], ◌∷◌, ◌++◌, length, drop, refl, ap, subst, arith, length-append, Option}
 use Rattle.std.specs.List.{flat_map}
-use Rattle.venue_folder.specs.Shelves.{Shelf}
+use Rattle.venue_hall.specs.Shelves.{Shelf}
 use Rattle.venue_hall.specs.Entry.{Entry}
 use Rattle.venue_hall.specs.Facts.{Facts}
 use Rattle.venue_wire.specs.declared.messages.Message.{Message}

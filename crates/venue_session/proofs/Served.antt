@@ -67,14 +67,14 @@ unfolding IsLast
 starved_last keys run new (inl same) = inl same
 starved_last keys run new (inr message) = inr (message.0, message.1)
 
-ended_last : (keys : List (List ℕ)) (e : End) (run : Run) (link : Measured) (new : Facts) → Ended keys e run link new → IsLast keys run new
+ended_last : (keys : List (List ℕ)) (e : End) (run : Run) (connection : Measured) (new : Facts) → Ended keys e run connection new → IsLast keys run new
 unfolding IsLast
-ended_last keys end.Done run link new how = inl how.2
-ended_last keys (end.Cut count) run link new how = inl how.2
-ended_last keys (end.Refused status) run link new how = inl how.1
-ended_last keys end.Worn run link new how = inl how.2
-ended_last keys end.LinkFault run link new how = broken_last keys run new how.1 how.3
-ended_last keys end.OutOfMemory run link new how = starved_last keys run new how.3
+ended_last keys end.Done run connection new how = inl how.2
+ended_last keys (end.Cut count) run connection new how = inl how.2
+ended_last keys (end.Refused status) run connection new how = inl how.1
+ended_last keys end.Worn run connection new how = inl how.2
+ended_last keys end.LinkFault run connection new how = broken_last keys run new how.1 how.3
+ended_last keys end.OutOfMemory run connection new how = starved_last keys run new how.3
 
 last_serves : (keys : List (List ℕ)) (old new : Facts) (run : Run) → HasServed old run.facts → IsLast keys run new → HasServed old new
 unfolding IsLast
@@ -82,9 +82,9 @@ last_serves keys old new run served (inl same) = subst (λ (f : Facts). HasServe
 last_serves keys old new run served (inr message) =
     step_serves old run.facts new message.0.message message.0.answer served message.1.step
 
-pub session_serves : (keys : List (List ℕ)) (old new : Facts) (link : Measured) (e : End) → IsSession keys old new link e → HasServed old new
-session_serves keys old new link e session =
+pub session_serves : (keys : List (List ℕ)) (old new : Facts) (connection : Measured) (e : End) → IsSession keys old new connection e → HasServed old new
+session_serves keys old new connection e session =
     let run = session.run in
     last_serves keys old new run
     (acts_serve keys old run.facts run.bytes run.out run.rest run.acted session.acts session.legal)
-    (ended_last keys e run link new session.ended)
+    (ended_last keys e run connection new session.ended)

@@ -10,7 +10,7 @@ use Rattle.venue_types.specs.declared.reply.Reply.TheVariants as reply
 use Rattle.venue_types.specs.declared.reply.StepRow.{StepRow}
 use Rattle.venue_types.specs.declared.settings.Profile.{Profile}
 use Rattle.venue_hall.specs.Nodes.{place_of}
-use Rattle.venue_folder.specs.Shelves.{Shelf}
+use Rattle.venue_hall.specs.Shelves.{Shelf}
 use Rattle.venue_hall.specs.Entry.{Entry}
 use Rattle.venue_hall.specs.Answers.{AnswersAsk, IsTrip, RepeatsTrip}
 use Rattle.venue_hall.specs.Changes.{Refuses}

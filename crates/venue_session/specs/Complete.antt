@@ -6,7 +6,7 @@ use Rattle.venue_types.specs.declared.query.Change.{Change}
 use Rattle.venue_types.specs.declared.query.Change.TheVariants as change
 use Rattle.venue_hall.specs.Nodes.{closables}
 use Rattle.venue_hall.specs.Venues.{SeenVenue as Venue}
-use Rattle.venue_folder.specs.Shelves.{Shelf}
+use Rattle.venue_hall.specs.Shelves.{Shelf}
 use Rattle.venue_hall.specs.Answers.{HasProfile, IsPlace}
 use Rattle.venue_hall.specs.Changes.{Makes}
 use Rattle.venue_hall.specs.Closed.{Version}

@@ -11,7 +11,7 @@ use Rattle.venue_session.specs.declared.ends.End.{End}
 use Rattle.venue_session.specs.declared.heard.Heard.{Heard}
 use Rattle.venue_session.specs.declared.step_runs.Stop.{Stop}
 
--- what is seen of the hall and of the link at one moment
+-- what is seen of the hall and of the connection at one moment
 pub record Moment : Type 0 where
   pub facts : Facts
   pub left : Option (List ℕ)
@@ -21,7 +21,7 @@ pub record Moment : Type 0 where
 abbrev pub moment : Facts → Option (List ℕ) → Option (List ℕ) → ℕ → Moment
 moment facts left written faults = record { facts = facts; left = left; written = written; faults = faults }
 
--- what is measured of the link from one moment to another
+-- what is measured of the connection from one moment to another
 abbrev pub measured : Moment → Moment → Measured
 measured first now = record {
   left_before = first.left;
@@ -33,7 +33,7 @@ measured first now = record {
 }
 
 -- since the first moment so many bytes were taken, and all but those that wait were acted on: each text was written whole, none
--- of the messages closes, and the link did not fail
+-- of the messages closes, and the connection did not fail
 pub record IsGoing (keys : List (List ℕ)) (first now : Moment) (taken : ℕ) (waiting : List ℕ) : Type 0 where
   pub legal : IsLegal first.facts.seen
   pub bytes : List ℕ

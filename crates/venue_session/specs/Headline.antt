@@ -7,7 +7,7 @@ use Rattle.venue_types.specs.declared.reply.Reply.TheVariants as reply
 use Rattle.venue_types.specs.declared.settings.Profile.{Profile}
 use Rattle.walk_laws.specs.Walks.{HasNoWalk, IsLeast}
 use Rattle.venue_hall.specs.Views.{link_view}
-use Rattle.venue_folder.specs.Shelves.{Shelf}
+use Rattle.venue_hall.specs.Shelves.{Shelf}
 use Rattle.venue_hall.specs.Entry.{Entry}
 use Rattle.venue_hall.specs.Answers.{IsTrip}
 use Rattle.venue_hall.specs.Changes.{Changes}
@@ -87,7 +87,7 @@ IsLastText exchanges taken left rest last =
     ((last ≡ []) × (Closes exchanges ⊎ NoneIsLeft taken left rest))
     ⊎ ((refusal : Refusal) × IsRefused rest refusal × (last ≡ reply_text (No refusal) true))
 
--- the session ended by itself: no link failed, and memory didn't run out
+-- the session ended by itself: no connection failed, and memory didn't run out
 abbrev pub IsWhole : End → Type 0
 IsWhole End.Done = Unit {0}
 IsWhole (End.Cut count) = Unit {0}

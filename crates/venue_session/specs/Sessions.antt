@@ -9,14 +9,14 @@ use Rattle.venue_session.specs.Ends.{Measured, Run, Ended}
 use Rattle.venue_session.specs.Steps.{StaysOrRose}
 use Rattle.venue_session.specs.declared.ends.End.{End}
 
--- a session that found a legal history: messages from the front of the bytes that the link lost were acted on, and the rest is as
+-- a session that found a legal history: messages from the front of the bytes that the connection lost were acted on, and the rest is as
 -- its end says
-pub record IsSession (keys : List (List ℕ)) (old new : Facts) (link : Measured) (end : End) : Type 0 where
+pub record IsSession (keys : List (List ℕ)) (old new : Facts) (connection : Measured) (end : End) : Type 0 where
   pub legal : IsLegal old.seen
   pub run : Run
-  pub took : Consumes link.left_before link.left_after run.bytes
+  pub took : Consumes connection.left_before connection.left_after run.bytes
   pub acts : Acts keys old run.bytes run.acted run.out run.facts run.rest
-  pub ended : Ended keys end run link new
+  pub ended : Ended keys end run connection new
 
 -- the hall behind a session: it is the same hall, what it sees at most grew and is a legal history, and no count fell
 pub record HasServed (old new : Facts) : Type 0 where

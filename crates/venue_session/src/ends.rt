@@ -11,7 +11,7 @@ pub enum End {
     Refused(u16),
     /// So many bytes were taken that the session ends by itself.
     Worn,
-    /// The link failed. What was written is a front of the replies.
+    /// The connection failed. What was written is a front of the replies.
     LinkFault,
     /// There wasn't enough memory to go on.
     OutOfMemory,

@@ -6,7 +6,7 @@ ghost use Rattle.venue_types.specs.declared.query.Change.{Change};
 ghost use Rattle.venue_types.specs.declared.query.Change.TheVariants.{Closure};
 ghost use Rattle.venue_types.specs.declared.query.Query.{Query};
 ghost use Rattle.venue_types.specs.declared.reply.Reply.{Reply};
-ghost use Rattle.venue_folder.specs.Shelves.{Shelf};
+ghost use Rattle.venue_hall.specs.Shelves.{Shelf};
 ghost use Rattle.venue_hall.specs.Entry.{Entry};
 ghost use Rattle.venue_hall.specs.Answers.{Answers, IsTooEarly};
 ghost use Rattle.venue_hall.specs.Changes.{Changes, StandsSo};
@@ -24,11 +24,11 @@ use venue_hall::one_outcome;
 
 /// The bytes that a session wrote answer its messages, one for one and in order, none left over, each at a legal history that begins
 /// with the one before; a route costs what it says and no way costs less, and where it is said that there is none there is none. That
-/// is said of sessions that ended by themselves, over a link that tells its bytes.
+/// is said of sessions that ended by themselves, over a connection that tells its bytes.
 pub fn headline_law()
-    ensures { (keys : List (List ℕ)) (old new : Facts) (link : Measured) (end : End) (came left before written : List ℕ)
-        → IsSession keys old new link end → IsWhole end
-        → link.left_before ≡ Some came → link.left_after ≡ Some left → link.written_before ≡ Some before → link.written_after ≡ Some (before ++ written)
+    ensures { (keys : List (List ℕ)) (old new : Facts) (connection : Measured) (end : End) (came left before written : List ℕ)
+        → IsSession keys old new connection end → IsWhole end
+        → connection.left_before ≡ Some came → connection.left_after ≡ Some left → connection.written_before ≡ Some before → connection.written_after ≡ Some (before ++ written)
         → Headline keys old.files old.worker old.seen came left written }
 {}
 

@@ -33,16 +33,16 @@ fn end_of_input(waiting: &[u8]) -> End
 }
 
 /// Reads behind the bytes that wait, which are less than a message.
-pub(crate) fn read_on<L: Stream>(link: &mut L, input: &mut Input) -> Heard
+pub(crate) fn read_on<L: Stream>(connection: &mut L, input: &mut Input) -> Heard
     requires { length input.old < 81920 }
     ensures { (keys : List (List ℕ)) (first : Moment) (facts : Facts) (taken least : ℕ)
-        → IsGoing keys first (moment facts (L.left link.old) (L.written link.old) (L.faults link.old)) taken input.old
+        → IsGoing keys first (moment facts (L.left connection.old) (L.written connection.old) (L.faults connection.old)) taken input.old
         → Awaits input.old least
-        → HeardOrEnded keys first (moment facts (L.left link.new) (L.written link.new) (L.faults link.new)) taken
+        → HeardOrEnded keys first (moment facts (L.left connection.new) (L.written connection.new) (L.faults connection.new)) taken
         input.new least result }
 {
     acts_more_law();
-    match input.read_more(link) {
+    match input.read_more(connection) {
         Ok(0) => Heard::Ended(end_of_input(input.waiting())),
         Ok(count) => Heard::More(count),
         Err(_failed) => Heard::Ended(End::LinkFault),

@@ -44,16 +44,20 @@ fn move_to_front(bytes: &mut Vec<u8>, start: usize, end: usize)
 }
 
 // Reads behind the first bytes, which stay.
-fn read_behind<L: Stream>(link: &mut L, bytes: &mut Vec<u8>, end: usize) -> Result<usize, Failed>
+fn read_behind<L: Stream>(
+    connection: &mut L,
+    bytes: &mut Vec<u8>,
+    end: usize,
+) -> Result<usize, Failed>
     requires { end < length bytes.old.items }
     ensures kept { take end bytes.new.items ≡ take end bytes.old.items }
     ensures room { length bytes.new.items ≡ length bytes.old.items }
     ensures bound { IfOk result (λ count. end + count ≤ length bytes.old.items) }
-    ensures bytes { MovesIn (L.left link.old) (L.left link.new) result (drop end bytes.new.items) }
-    ensures written { L.written link.new ≡ L.written link.old }
-    ensures cause { HasExactCause (L.faults link.old) (L.faults link.new) result }
+    ensures bytes { MovesIn (L.left connection.old) (L.left connection.new) result (drop end bytes.new.items) }
+    ensures written { L.written connection.new ≡ L.written connection.old }
+    ensures cause { HasExactCause (L.faults connection.old) (L.faults connection.new) result }
 {
-    link.read(&mut bytes[end..])
+    connection.read(&mut bytes[end..])
 }
 
 impl Input {
@@ -85,20 +89,20 @@ impl Input {
     }
 
     /// Reads behind what waits, which is moved to the start of the buffer first. 0 tells the end of the stream.
-    pub(crate) fn read_more<L: Stream>(&mut self, link: &mut L) -> Result<usize, Failed>
+    pub(crate) fn read_more<L: Stream>(&mut self, connection: &mut L) -> Result<usize, Failed>
         requires { length self.old < 81920 }
         ensures ok { IfOk result (λ count. (more : List ℕ) × (count ≡ length more) × (self.new ≡ self.old ++ more)
-            × Consumes (L.left link.old) (L.left link.new) more) }
-        ensures end { IfOk result (λ count. count ≡ 0 → IsAtEnd (L.left link.new)) }
+            × Consumes (L.left connection.old) (L.left connection.new) more) }
+        ensures end { IfOk result (λ count. count ≡ 0 → IsAtEnd (L.left connection.new)) }
         ensures room { length self.new ≤ 81920 }
-        ensures err { OnErr result ((self.new ≡ self.old) × (L.left link.new ≡ L.left link.old)) }
-        ensures written { L.written link.new ≡ L.written link.old }
-        ensures cause { HasExactCause (L.faults link.old) (L.faults link.new) result }
+        ensures err { OnErr result ((self.new ≡ self.old) × (L.left connection.new ≡ L.left connection.old)) }
+        ensures written { L.written connection.new ≡ L.written connection.old }
+        ensures cause { HasExactCause (L.faults connection.old) (L.faults connection.new) result }
     {
         move_to_front(&mut self.bytes, self.start, self.end);
         self.end -= self.start;
         self.start = 0;
-        let count = read_behind(link, &mut self.bytes, self.end)?;
+        let count = read_behind(connection, &mut self.bytes, self.end)?;
         self.end += count;
         Ok(count)
     }

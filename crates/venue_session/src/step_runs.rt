@@ -26,17 +26,17 @@ pub(crate) enum Stop {
 }
 
 // Writes the text for a message, and tells how the session ends by it, if it does.
-fn write_step<L: Stream>(link: &mut L, step: &Step, close: bool) -> Option<End>
+fn write_step<L: Stream>(connection: &mut L, step: &Step, close: bool) -> Option<End>
     ensures { (keys : List (List ℕ)) (first : Moment) (before after : Facts) (taken : ℕ) (waiting : List ℕ)
         → (message : Message) (size : ℕ)
-        → IsGoing keys first (moment before (L.left link.old) (L.written link.old) (L.faults link.old)) taken waiting
+        → IsGoing keys first (moment before (L.left connection.old) (L.written connection.old) (L.faults connection.old)) taken waiting
         → At keys waiting (Taken.Message message size close) → Stepped before message close step.now after
-        → GoesOrEnded keys first (moment after (L.left link.new) (L.written link.new) (L.faults link.new)) taken
+        → GoesOrEnded keys first (moment after (L.left connection.new) (L.written connection.new) (L.faults connection.new)) taken
         (drop size waiting) result }
 {
     match step {
         Step::Untold => Some(End::OutOfMemory),
-        Step::Replied(text) => match write_all(link, text.as_slice()) {
+        Step::Replied(text) => match write_all(connection, text.as_slice()) {
             Ok(()) if close => Some(End::Done),
             Ok(()) => None,
             Err(_failed) => Some(End::LinkFault),
@@ -48,25 +48,25 @@ fn write_step<L: Stream>(link: &mut L, step: &Step, close: bool) -> Option<End>
 fn answer_front<H: Hall, L: Stream>(
     alloc: Global,
     hall: &mut H,
-    link: &mut L,
+    connection: &mut L,
     message: &Message,
     close: bool,
 ) -> Option<End>
     ensures { (keys : List (List ℕ)) (first : Moment) (taken : ℕ) (waiting : List ℕ) (size : ℕ)
-        → IsGoing keys first (moment (H.facts hall.old) (L.left link.old) (L.written link.old) (L.faults link.old)) taken waiting
+        → IsGoing keys first (moment (H.facts hall.old) (L.left connection.old) (L.written connection.old) (L.faults connection.old)) taken waiting
         → At keys waiting (Taken.Message message.now size close)
-        → GoesOrEnded keys first (moment (H.facts hall.new) (L.left link.new) (L.written link.new) (L.faults link.new)) taken
+        → GoesOrEnded keys first (moment (H.facts hall.new) (L.left connection.new) (L.written connection.new) (L.faults connection.new)) taken
         (drop size waiting) result }
 {
     let step = answer_message(alloc, hall, message, close);
-    write_step(link, &step, close)
+    write_step(connection, &step, close)
 }
 
 // Acts on a message of this size at the front of what waits, and passes it: tells how the run stops there, if it does.
 fn pass_message<H: Hall, L: Stream>(
     alloc: Global,
     hall: &mut H,
-    link: &mut L,
+    connection: &mut L,
     input: &mut Input,
     message: &Message,
     size: usize,
@@ -74,14 +74,14 @@ fn pass_message<H: Hall, L: Stream>(
 ) -> Option<Stop>
     requires { size ≤ length input.old }
     ensures stop { (keys : List (List ℕ)) (first : Moment) (taken : ℕ)
-        → IsGoing keys first (moment (H.facts hall.old) (L.left link.old) (L.written link.old) (L.faults link.old)) taken
+        → IsGoing keys first (moment (H.facts hall.old) (L.left connection.old) (L.written connection.old) (L.faults connection.old)) taken
         input.old
         → At keys input.old (Taken.Message message.now size close)
-        → GoesOrStops keys first (moment (H.facts hall.new) (L.left link.new) (L.written link.new) (L.faults link.new)) taken
+        → GoesOrStops keys first (moment (H.facts hall.new) (L.left connection.new) (L.written connection.new) (L.faults connection.new)) taken
         input.new result }
     ensures passed { IsNone result → input.new ≡ drop size input.old }
 {
-    match answer_front(alloc, hall, link, message, close) {
+    match answer_front(alloc, hall, connection, message, close) {
         Some(end) => Some(Stop::Ended(end)),
         None => {
             input.pass(size);
@@ -95,26 +95,26 @@ fn step<H: Hall, L: Stream>(
     alloc: Global,
     hall: &mut H,
     front: &Front,
-    link: &mut L,
+    connection: &mut L,
     input: &mut Input,
 ) -> Option<Stop>
     ensures stop { (first : Moment) (taken : ℕ)
-        → IsGoing front.now first (moment (H.facts hall.old) (L.left link.old) (L.written link.old) (L.faults link.old)) taken
+        → IsGoing front.now first (moment (H.facts hall.old) (L.left connection.old) (L.written connection.old) (L.faults connection.old)) taken
         input.old
-        → GoesOrStops front.now first (moment (H.facts hall.new) (L.left link.new) (L.written link.new) (L.faults link.new)) taken
+        → GoesOrStops front.now first (moment (H.facts hall.new) (L.left connection.new) (L.written connection.new) (L.faults connection.new)) taken
         input.new result }
     ensures shorter { IsNone result → length input.new < length input.old }
 {
     message_length_law();
     match take(alloc, front, input.waiting()) {
         Taken::More { least } => Some(Stop::Waiting(least)),
-        Taken::Fault(refusal) => Some(Stop::Ended(refuse(alloc, link, refusal))),
+        Taken::Fault(refusal) => Some(Stop::Ended(refuse(alloc, connection, refusal))),
         Taken::OutOfMemory => Some(Stop::Ended(End::OutOfMemory)),
         Taken::Message {
             message,
             length,
             close,
-        } => pass_message(alloc, hall, link, input, &message, length, close),
+        } => pass_message(alloc, hall, connection, input, &message, length, close),
     }
 }
 
@@ -123,17 +123,17 @@ pub(crate) fn run_steps<H: Hall, L: Stream>(
     alloc: Global,
     hall: &mut H,
     front: &Front,
-    link: &mut L,
+    connection: &mut L,
     input: &mut Input,
 ) -> Stop
     ensures { (first : Moment) (taken : ℕ)
-        → IsGoing front.now first (moment (H.facts hall.old) (L.left link.old) (L.written link.old) (L.faults link.old)) taken
+        → IsGoing front.now first (moment (H.facts hall.old) (L.left connection.old) (L.written connection.old) (L.faults connection.old)) taken
         input.old
-        → WaitsOrEnded front.now first (moment (H.facts hall.new) (L.left link.new) (L.written link.new) (L.faults link.new)) taken
+        → WaitsOrEnded front.now first (moment (H.facts hall.new) (L.left connection.new) (L.written connection.new) (L.faults connection.new)) taken
         input.new result }
 {
     'steps: loop {
-        if let Some(stop) = step(alloc, hall, front, link, input) {
+        if let Some(stop) = step(alloc, hall, front, connection, input) {
             return stop;
         }
     }

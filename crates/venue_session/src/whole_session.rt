@@ -2,7 +2,7 @@
 
 ghost use Rattle.std.specs.Prelude.{◌≡◌, ◌≤◌, ℕ, [], List};
 ghost use Rattle.venue_hall.specs.Histories.{IsLegal};
-ghost use Rattle.venue_session.specs.Ends.{link_between};
+ghost use Rattle.venue_session.specs.Ends.{connection_between};
 ghost use Rattle.venue_session.specs.Going.{Moment, moment, IsGoing, StaysShort, HasEnded, WaitsOrEnded};
 ghost use Rattle.venue_session.specs.Sessions.{IsSession, HasServed};
 
@@ -23,21 +23,21 @@ fn run_where_due<H: Hall, L: Stream>(
     alloc: Global,
     hall: &mut H,
     front: &Front,
-    link: &mut L,
+    connection: &mut L,
     input: &mut Input,
     least: usize,
 ) -> Stop
     ensures { (first : Moment) (taken : ℕ)
-        → IsGoing front.now first (moment (H.facts hall.old) (L.left link.old) (L.written link.old) (L.faults link.old)) taken
+        → IsGoing front.now first (moment (H.facts hall.old) (L.left connection.old) (L.written connection.old) (L.faults connection.old)) taken
         input.old
         → StaysShort input.old least
-        → WaitsOrEnded front.now first (moment (H.facts hall.new) (L.left link.new) (L.written link.new) (L.faults link.new)) taken
+        → WaitsOrEnded front.now first (moment (H.facts hall.new) (L.left connection.new) (L.written connection.new) (L.faults connection.new)) taken
         input.new result }
 {
     if input.waiting().len() < least {
         Stop::Waiting(least)
     } else {
-        run_steps(alloc, hall, front, link, input)
+        run_steps(alloc, hall, front, connection, input)
     }
 }
 
@@ -46,23 +46,23 @@ fn serve<H: Hall, L: Stream>(
     alloc: Global,
     hall: &mut H,
     front: &Front,
-    link: &mut L,
+    connection: &mut L,
     input: &mut Input,
 ) -> End
     requires legal { IsLegal (H.facts hall.old).seen }
     requires empty { input.old ≡ [] }
-    ensures { HasEnded front.now (moment (H.facts hall.old) (L.left link.old) (L.written link.old) (L.faults link.old))
-        (moment (H.facts hall.new) (L.left link.new) (L.written link.new) (L.faults link.new)) result }
+    ensures { HasEnded front.now (moment (H.facts hall.old) (L.left connection.old) (L.written connection.old) (L.faults connection.old))
+        (moment (H.facts hall.new) (L.left connection.new) (L.written connection.new) (L.faults connection.new)) result }
 {
     more_is_short_law();
     let mut taken: u64 = 0;
     let mut least = 0;
     'reads: while taken < MOST {
-        match read_on(link, input) {
+        match read_on(connection, input) {
             Heard::Ended(end) => return end,
             Heard::More(count) => taken += count as u64,
         }
-        match run_where_due(alloc, hall, front, link, input, least) {
+        match run_where_due(alloc, hall, front, connection, input, least) {
             Stop::Ended(end) => return end,
             Stop::Waiting(next) => least = next,
         }
@@ -70,13 +70,13 @@ fn serve<H: Hall, L: Stream>(
     End::Worn
 }
 
-/// Serves one session over a link, and tells how it ended. Messages are acted on in the order in which their bytes come, in
+/// Serves one session over a connection, and tells how it ended. Messages are acted on in the order in which their bytes come, in
 /// whatever pieces, and the text for each is written whole before the next is acted on.
 ///
 /// It ends `Done` where the input ends between two messages, or behind a message that closes; `Cut` with the number of bytes of
 /// an unfinished message; `Refused` with the status of a refused head, whose text is written and closes; `Worn` behind 2^40 bytes
 /// of input; `LinkFault` where a read or a write failed; `OutOfMemory` where memory ran out for the buffer, a message, the text
-/// of a refused head or that of an accepted change. For want of memory any other reply is 503, and the session goes on. The link
+/// of a refused head or that of an accepted change. For want of memory any other reply is 503, and the session goes on. The connection
 /// is not closed.
 ///
 /// It takes 81,920 bytes of memory once, and else what a message and its text take while it is acted on. Beside the hall's time
@@ -86,16 +86,16 @@ pub fn serve_session<H: Hall, L: Stream>(
     alloc: Global,
     hall: &mut H,
     front: &Front,
-    link: &mut L,
+    connection: &mut L,
 ) -> End
-    ensures session { IsSession front.now (H.facts hall.old) (H.facts hall.new) (link_between L.Stream link.old link.new) result }
+    ensures session { IsSession front.now (H.facts hall.old) (H.facts hall.new) (connection_between L.Stream connection.old connection.new) result }
     ensures hall { HasServed (H.facts hall.old) (H.facts hall.new) }
-    ensures link { L.faults link.old ≤ L.faults link.new }
+    ensures connection { L.faults connection.old ≤ L.faults connection.new }
 {
     // By its number what the hall has seen is a legal history.
     let _number = hall.number();
     match Input::new(alloc) {
-        Ok(mut input) => serve(alloc, hall, front, link, &mut input),
+        Ok(mut input) => serve(alloc, hall, front, connection, &mut input),
         Err(_error) => End::OutOfMemory,
     }
 }

@@ -8,15 +8,15 @@ ghost use Rattle.venue_ports.specs.Causes.{HasExactCause};
 use venue_ports::{Failed, Stream};
 
 /// Writes the whole text, or a front of it where the stream fails.
-pub(crate) fn write_all<L: Stream>(link: &mut L, text: &[u8]) -> Result<(), Failed>
-    ensures ok { OnOk result (Appends (L.written link.old) (L.written link.new) text.now) }
-    ensures err { OnErr result ((part : List ℕ) × IsPrefix part text.now × Appends (L.written link.old) (L.written link.new) part) }
-    ensures left { L.left link.new ≡ L.left link.old }
-    ensures cause { HasExactCause (L.faults link.old) (L.faults link.new) result }
+pub(crate) fn write_all<L: Stream>(connection: &mut L, text: &[u8]) -> Result<(), Failed>
+    ensures ok { OnOk result (Appends (L.written connection.old) (L.written connection.new) text.now) }
+    ensures err { OnErr result ((part : List ℕ) × IsPrefix part text.now × Appends (L.written connection.old) (L.written connection.new) part) }
+    ensures left { L.left connection.new ≡ L.left connection.old }
+    ensures cause { HasExactCause (L.faults connection.old) (L.faults connection.new) result }
 {
     let mut done = 0;
     while done < text.len() {
-        match link.write(&text[done..]) {
+        match connection.write(&text[done..]) {
             Ok(count) => done += count,
             Err(failed) => return Err(failed),
         }

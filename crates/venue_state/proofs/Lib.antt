@@ -1,7 +1,7 @@
 pub mod Marking
 pub mod Carrying
 pub mod Changing
-pub mod Names
+pub mod NameLemmas
 pub mod Placing
 pub mod Routes
 pub mod Replying

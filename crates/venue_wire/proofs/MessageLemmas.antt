@@ -3,7 +3,7 @@ use Rattle.std.proofs.Common.{◌≡◌, ℕ, ◌<◌, ◌+◌, Bool, true, fals
 use Rattle.serde_json.specs.Data.{Data}
 use Rattle.venue_types.specs.declared.query.Change.{Change}
 use Rattle.wire_frames.specs.Frames.{PlainFrame}
-use Rattle.wire_frames.specs.Heads.{Place, extent_from, ends_head, step}
+use Rattle.wire_frames.specs.Heads.{HeadState, extent_from, ends_head, step}
 use Rattle.wire_frames.specs.declared.heads.Extent.{Extent}
 use Rattle.venue_wire.specs.Bodies.{AsksChange, change_in}
 use Rattle.venue_wire.specs.Messages.{IsChanged, IsCalled, IsMessage, call_of}
@@ -41,14 +41,14 @@ length_or n None = n
 length_or n (Some e) = e.length
 
 -- a head has a byte or more
-pub extent_grows : (place : Place) (n k : ℕ) (bytes : List ℕ) (e : Extent) → extent_from place n k bytes ≡ Some e → n < e.length
+pub extent_grows : (place : HeadState) (n k : ℕ) (bytes : List ℕ) (e : Extent) → extent_from place n k bytes ≡ Some e → n < e.length
 unfolding length_or
 extent_grows place n k [] e is = absurd (cc)
 extent_grows place n k (b ∷ bytes) e is =
-    by_test (ends_head place b) refl (λ (q : Place) (j : ℕ). extent_grows q (n + 1) j bytes e)
+    by_test (ends_head place b) refl (λ (q : HeadState) (j : ℕ). extent_grows q (n + 1) j bytes e)
   where
     by_test : (test : Bool) → ends_head place b ≡ test
-        → ((q : Place) (j : ℕ) → extent_from q (n + 1) j bytes ≡ Some e → n + 1 < e.length) → n < e.length
+        → ((q : HeadState) (j : ℕ) → extent_from q (n + 1) j bytes ≡ Some e → n + 1 < e.length) → n < e.length
     by_test true t later =
         let found = rw t at is in
         let same : n + 1 ≡ e.length = ap (λ (o : Option Extent). length_or (n + 1) o) found in

@@ -6,7 +6,7 @@ pub use Rattle.venue_hall.specs.Links
 pub use Rattle.venue_hall.specs.Views
 pub use Rattle.venue_hall.specs.Venues
 pub use Rattle.venue_hall.specs.Built
-pub use Rattle.venue_hall.specs.VenueBuildBuilt
+pub use Rattle.venue_hall.specs.BuiltType
 pub use Rattle.venue_hall.specs.Closed
 pub use Rattle.venue_hall.specs.Histories
 pub use Rattle.venue_hall.specs.Changes
@@ -15,6 +15,5 @@ pub use Rattle.venue_hall.specs.Versions
 pub use Rattle.venue_hall.specs.Ways
 pub use Rattle.venue_hall.specs.Answers
 pub use Rattle.venue_hall.specs.Entry
-pub use Rattle.venue_hall.specs.Facts as VenueHallFacts
 pub use Rattle.venue_hall.specs.Openings
 pub use Rattle.board_copies.specs.Making

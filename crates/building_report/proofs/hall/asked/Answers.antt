@@ -1,6 +1,6 @@
 use Rattle.std.proofs.Common.{List, ap, subst}
 use Rattle.version_board.specs.Entry.{Entry}
-use Rattle.version_board.specs.VenueHallFacts.{Facts, IsAnswered}
+use Rattle.version_board.specs.Facts.{Facts, IsAnswered}
 use Rattle.version_board.specs.Halls.{facts_of}
 use Rattle.building_report.proofs.Seeing.{none_more}
 use Rattle.building_report.proofs.hall.asked.Goals as goal

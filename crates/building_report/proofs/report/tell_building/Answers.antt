@@ -1,6 +1,6 @@
 use Rattle.std.proofs.Common.{ap, sym, subst, List, ℕ, length, false}
 use Rattle.venue_types.specs.declared.files.Files.{Files}
-use Rattle.version_board.specs.VenueBuildBuilt.{Built}
+use Rattle.version_board.specs.BuiltType.{Built}
 use Rattle.version_board.specs.Built.{IsBuilt, IsVenueOf, IsRejected}
 use Rattle.gen_text.specs.Texts.{building_files}
 use Rattle.building_report.specs.BuildingReports.{IsTold, accepted, rejected}

@@ -1,6 +1,6 @@
 use Rattle.std.proofs.Common.{◌≡◌, ◌∙◌, [], ◌∷◌, Option, Some, None, Bool, true, false, not, IfSome, IsSome, get_or, refl, sym, ap, subst, arith, codes}
-use Rattle.geo_shapes.specs.Json.{Json, member}
-use Rattle.geo_shapes.specs.View.{tree_view}
+use Rattle.exact_json.specs.Json.{Json, member}
+use Rattle.exact_json.specs.View.{tree_view}
 use Rattle.venue_types.specs.declared.point.Point.{Point}
 use Rattle.geo_shapes.specs.Position.{IsPosition, BreaksPositions}
 use Rattle.geo_shapes.specs.Geometry.{HasPoint, point_places, coordinates}

@@ -1,5 +1,5 @@
 use Rattle.std.proofs.Common.{◌≡◌, ◌∙◌, Bool, true, ◌&&◌, is_some, sym, ap, codes}
-use Rattle.geo_shapes.specs.Json.{Json, member}
+use Rattle.exact_json.specs.Json.{Json, member}
 use Rattle.imdf_schema.specs.Values.{seen, is_id}
 use Rattle.imdf_schema.specs.Forms.{type_of}
 use Rattle.imdf_schema.proofs.forms.is_reference.Goals as goal

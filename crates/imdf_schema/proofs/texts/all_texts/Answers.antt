@@ -1,7 +1,7 @@
 use Rattle.std.proofs.Common.{◌≡◌, ◌∙◌, true, map, IfOk, sym, ap, subst}
 use Rattle.std.specs.List.{list_all}
-use Rattle.geo_shapes.specs.Json.{Members, object}
-use Rattle.geo_shapes.specs.View.{pair_view, members_view, object_view}
+use Rattle.exact_json.specs.Json.{Members, object}
+use Rattle.exact_json.specs.View.{pair_view, members_view, object_view}
 use Rattle.imdf_schema.specs.Values.{is_text, has_texts}
 use Rattle.imdf_schema.proofs.Names.{texts_count, texts_last, same_members}
 use Rattle.imdf_schema.proofs.texts.all_texts.Goals as goal

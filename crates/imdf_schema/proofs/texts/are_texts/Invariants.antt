@@ -1,6 +1,6 @@
 use Rattle.std.proofs.Common.{◌≡◌, drop, map}
 use Rattle.std.specs.List.{list_all}
-use Rattle.geo_shapes.specs.View.{pair_view}
+use Rattle.exact_json.specs.View.{pair_view}
 use Rattle.imdf_schema.specs.Values.{is_text}
 use Rattle.imdf_schema.proofs.texts.are_texts.Given as goal
 

@@ -1,6 +1,6 @@
 use Rattle.std.proofs.Common.{◌≡◌, ◌∙◌, ◌-◌, ℕ, List, true, false, cond, suc, drop, sym, ap, subst, arith}
 use Rattle.std.specs.Str.{bytes_eq}
-use Rattle.geo_shapes.specs.View.{pair_view, members_view}
+use Rattle.exact_json.specs.View.{pair_view, members_view}
 use Rattle.imdf_schema.specs.Values.{is_text}
 use Rattle.imdf_schema.specs.Names.{has_name}
 use Rattle.imdf_schema.proofs.Names.{AreSeen, was_new, had_it, new_fails, seen_more, none_past, none_seen, texts_count}

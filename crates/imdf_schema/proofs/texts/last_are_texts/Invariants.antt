@@ -1,5 +1,5 @@
 use Rattle.std.proofs.Common.{◌≤◌, length, drop}
-use Rattle.geo_shapes.specs.View.{members_view}
+use Rattle.exact_json.specs.View.{members_view}
 use Rattle.imdf_schema.proofs.Names.{AreSeen}
 use Rattle.imdf_schema.proofs.texts.last_are_texts.Given as goal
 

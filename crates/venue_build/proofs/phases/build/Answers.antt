@@ -3,7 +3,7 @@ use Rattle.imdf_read.specs.Broken.{IsBroken}
 use Rattle.venue_build.specs.Built.{IsBuilt}
 use Rattle.venue_build.specs.Ground.{IsLaterBuilt}
 use Rattle.venue_build.proofs.Builds.{later_built}
-use Rattle.venue_build.proofs.Phases.{nothing, not_empty, empty, rejected_first}
+use Rattle.venue_build.proofs.PhaseLemmas.{nothing, not_empty, empty, rejected_first}
 use Rattle.venue_build.proofs.phases.build.Goals as goal
 
 pub returns-then-not-is_empty : goal.returns-then-not-is_empty

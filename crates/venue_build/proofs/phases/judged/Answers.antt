@@ -2,7 +2,7 @@ use Rattle.std.proofs.Common.{◌≢◌, []}
 use Rattle.imdf_refs.specs.Rules.{IsMisnamed}
 use Rattle.link_graph.specs.Limits.{BreaksLimit}
 use Rattle.venue_build.specs.Phases.{IsPlaneBroken}
-use Rattle.venue_build.proofs.Phases.{nothing, not_empty, empty}
+use Rattle.venue_build.proofs.PhaseLemmas.{nothing, not_empty, empty}
 use Rattle.venue_build.proofs.Grounds.{empty_report, names_report, plane_report, limit_report, silent, not_spread}
 use Rattle.venue_build.proofs.phases.judged.Goals as goal
 

@@ -11,7 +11,7 @@ returns-in-Ok-eq0 g c = λ keys first facts taken least going awaits.
     let more = told.ok.0 in
     let none : more ≡ [] = nothing_more more c.in-Ok-eq0.field-0 told.ok.1 c.in-Ok-eq0.field-0-test in
     let same : c.waiting.result.now ≡ c.args.input.now ++ more = c.waiting.ensures ∙ told.ok.2 in
-    let going_now = going_more c.acts_more_law.ensures keys first facts _ _ _ (g.L.Stream.written c.read_more.new.link) _ (g.L.Stream.faults c.read_more.new.link)
+    let going_now = going_more c.acts_more_law.ensures keys first facts _ _ _ (g.L.Stream.written c.read_more.new.connection) _ (g.L.Stream.faults c.read_more.new.connection)
     taken taken c.args.input.now more going told.ok.3 told.written told.cause.kept (omega (arith, told.ok.1, c.in-Ok-eq0.field-0-test)) in
     let all : c.waiting.result.now ≡ c.args.input.now
     = same ∙ ap (λ (b : List ℕ). c.args.input.now ++ b) none ∙ append-nil c.args.input.now in
@@ -25,7 +25,7 @@ returns-in-Ok g c = λ keys first facts taken least going awaits.
     let some : 0 < c.in-Ok.count = grind arith in
     let most : c.in-Ok.count ≤ 81920
     = omega (arith, told.ok.1, told.room, ap (λ (b : List ℕ). length b) told.ok.2, length-append c.args.input.now more) in
-    let going_now = going_more c.acts_more_law.ensures keys first facts _ _ _ (g.L.Stream.written c.read_more.new.link) _ (g.L.Stream.faults c.read_more.new.link)
+    let going_now = going_more c.acts_more_law.ensures keys first facts _ _ _ (g.L.Stream.written c.read_more.new.connection) _ (g.L.Stream.faults c.read_more.new.connection)
     taken (taken + c.in-Ok.count) c.args.input.now more going told.ok.3 told.written told.cause.kept (omega (arith, told.ok.1)) in (
       some,
       most,

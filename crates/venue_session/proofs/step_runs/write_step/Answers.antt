@@ -35,7 +35,7 @@ returns-in-Ok g c = λ keys first before after taken waiting message length goin
     ends_closed keys first before _ _ _ taken waiting going after _ _ _
     (record { message = message; length = length; close = c.args.close; answer = step.0 }) (record { stands = stands; step = step.1 })
     c.if-close.true told.left
-    (subst (Appends (g.L.Stream.written c.args.link.now) (g.L.Stream.written c.write_all.new.link)) text told.ok) told.cause.kept
+    (subst (Appends (g.L.Stream.written c.args.connection.now) (g.L.Stream.written c.write_all.new.connection)) text told.ok) told.cause.kept
 
 pub returns-in-Ok-2 : goal.returns-in-Ok-2
 returns-in-Ok-2 g c = λ keys first before after taken waiting message length going stands stepped.
@@ -46,4 +46,4 @@ returns-in-Ok-2 g c = λ keys first before after taken waiting message length go
     going_acted keys first before after _ _ _ _ _ _ taken waiting
     (record { message = message; length = length; close = c.args.close; answer = step.0 }) going (record { stands = stands; step = step.1 })
     c.if-close.false told.left
-    (subst (Appends (g.L.Stream.written c.args.link.now) (g.L.Stream.written c.write_all.new.link)) text told.ok) told.cause.kept
+    (subst (Appends (g.L.Stream.written c.args.connection.now) (g.L.Stream.written c.write_all.new.connection)) text told.ok) told.cause.kept

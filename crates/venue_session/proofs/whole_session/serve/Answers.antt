@@ -6,8 +6,8 @@ use Rattle.venue_session.proofs.whole_session.serve.Goals as goal
 
 pub reads-init : goal.reads-init
 reads-init g c =
-    let first : Moment = moment (g.H.Asks.facts c.args.hall.now) (g.L.Stream.left c.args.link.now) (g.L.Stream.written c.args.link.now)
-    (g.L.Stream.faults c.args.link.now) in (
+    let first : Moment = moment (g.H.Asks.facts c.args.hall.now) (g.L.Stream.left c.args.connection.now) (g.L.Stream.written c.args.connection.now)
+    (g.L.Stream.faults c.args.connection.now) in (
       going_renamed c.args.front.now first first 0 [] c.args.input.now (going_first c.args.front.now first c.requires.legal) c.requires.empty,
       subst (λ (b : List ℕ). Awaits b 0) (sym c.requires.empty) nothing_awaits,
     )
@@ -26,8 +26,8 @@ pub returns-in-Ended-run_where_due : goal.returns-in-Ended-run_where_due
 returns-in-Ended-run_where_due g c =
     let heard = c.in-More.ensures c.args.front.now _ _ c.reads.taken c.reads.least c.reads.invariant.0 c.reads.invariant.1 in
     c.in-Ended-run_where_due.ensures
-    (moment (g.H.Asks.facts c.args.hall.now) (g.L.Stream.left c.args.link.now) (g.L.Stream.written c.args.link.now)
-    (g.L.Stream.faults c.args.link.now))
+    (moment (g.H.Asks.facts c.args.hall.now) (g.L.Stream.left c.args.connection.now) (g.L.Stream.written c.args.connection.now)
+    (g.L.Stream.faults c.args.connection.now))
     (c.reads.taken + c.in-More.count) heard.2 heard.3
 
 pub reads-smaller : goal.reads-smaller
@@ -41,8 +41,8 @@ pub reads-preserved : goal.reads-preserved
 reads-preserved g c =
     let heard = c.in-More.ensures c.args.front.now _ _ c.reads.taken c.reads.least c.reads.invariant.0 c.reads.invariant.1 in
     c.in-Waiting.ensures
-    (moment (g.H.Asks.facts c.args.hall.now) (g.L.Stream.left c.args.link.now) (g.L.Stream.written c.args.link.now)
-    (g.L.Stream.faults c.args.link.now))
+    (moment (g.H.Asks.facts c.args.hall.now) (g.L.Stream.left c.args.connection.now) (g.L.Stream.written c.args.connection.now)
+    (g.L.Stream.faults c.args.connection.now))
     (c.reads.taken + c.in-More.count) heard.2 heard.3
 
 pub returns : goal.returns

@@ -18,7 +18,7 @@ loop-done-preserved g c =
     let bound = c.in-Ok.ensures.bound in
     record {
       within = omega (arith, bound, length-take {A = ℕ}, length-drop {A = ℕ});
-      wrote = subst (Appends (g.L.Stream.written c.args.link.now) (g.L.Stream.written c.write.new.self)) (front_grows text c.loop-done.done c.in-Ok.count bound.1)
+      wrote = subst (Appends (g.L.Stream.written c.args.connection.now) (g.L.Stream.written c.write.new.self)) (front_grows text c.loop-done.done c.in-Ok.count bound.1)
           (appends_move _ _ _ _ (take (length text - c.loop-done.done) (drop c.loop-done.done text)) c.in-Ok.count c.loop-done.invariant.wrote c.in-Ok.ensures.bytes);
       left = c.write.ensures.left ∙ c.loop-done.invariant.left;
       faults = c.in-Ok.ensures.cause.kept ∙ c.loop-done.invariant.faults;

@@ -5,9 +5,9 @@ use Rattle.venue_session.proofs.writer.write_all.Given as goal
 abbrev pub invariant-loop-done : goal.invariant-loop-done
 invariant-loop-done g l = record {
   within : l.done ≤ length l.text;
-  wrote : Appends (g.L.Stream.written l.fn.link) (g.L.Stream.written l.link) (take l.done l.text);
-  left : g.L.Stream.left l.link ≡ g.L.Stream.left l.fn.link;
-  faults : g.L.Stream.faults l.link ≡ g.L.Stream.faults l.fn.link;
+  wrote : Appends (g.L.Stream.written l.fn.connection) (g.L.Stream.written l.connection) (take l.done l.text);
+  left : g.L.Stream.left l.connection ≡ g.L.Stream.left l.fn.connection;
+  faults : g.L.Stream.faults l.connection ≡ g.L.Stream.faults l.fn.connection;
 }
 
 abbrev pub decreases-loop-done : goal.decreases-loop-done

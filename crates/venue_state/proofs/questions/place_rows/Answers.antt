@@ -1,7 +1,7 @@
 -- One row more.
 use Rattle.std.proofs.Common.{◌∙◌, ◌<◌, length, arith}
 use Rattle.venue_history.specs.Places.{places}
-use Rattle.venue_state.proofs.Names.{copied_more}
+use Rattle.venue_state.proofs.NameLemmas.{copied_more}
 use Rattle.venue_state.proofs.questions.place_rows.Goals as goal
 
 pub loop-n-preserved : goal.loop-n-preserved

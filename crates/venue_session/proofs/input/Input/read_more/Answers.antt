@@ -14,5 +14,5 @@ returns-clause-ok g c =
       take count (drop size bytes),
       sym (length-take-le count (drop size bytes) within),
       waits_more bytes c.args.self.now size count (c.in_ok-count.ensures.kept ∙ c.move_to_front.ensures.front ∙ c.self.view_is),
-      consumes_move (g.L.Stream.left c.args.link.now) (g.L.Stream.left c.read_behind.new.link) count (drop size bytes) c.in_ok-count.ensures.bytes,
+      consumes_move (g.L.Stream.left c.args.connection.now) (g.L.Stream.left c.read_behind.new.connection) count (drop size bytes) c.in_ok-count.ensures.bytes,
     )

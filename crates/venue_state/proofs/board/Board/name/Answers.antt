@@ -1,7 +1,7 @@
 -- A number below the count has a node.
 use Rattle.std.proofs.Common.{arith}
 use Rattle.route_search.specs.Graphs.{network}
-use Rattle.venue_state.proofs.Names.{named, nameless}
+use Rattle.venue_state.proofs.NameLemmas.{named, nameless}
 use Rattle.venue_state.proofs.board.Board.name.Goals as goal
 
 pub returns-then-n-nodes : goal.returns-then-n-nodes

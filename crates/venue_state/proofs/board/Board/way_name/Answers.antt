@@ -1,7 +1,7 @@
 -- A number below the count has an identifier.
 use Rattle.std.proofs.Common.{arith}
 use Rattle.route_search.specs.Graphs.{network}
-use Rattle.venue_state.proofs.Names.{way_named, way_nameless}
+use Rattle.venue_state.proofs.NameLemmas.{way_named, way_nameless}
 use Rattle.venue_state.proofs.board.Board.way_name.Goals as goal
 
 pub returns-then-k-closables : goal.returns-then-k-closables
