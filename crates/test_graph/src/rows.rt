@@ -25,11 +25,10 @@ fn sound(alloc: Global, files: &Files) -> Result<Features, Fail>
         findings,
         notes: _,
     } = read_folder(alloc, files)?;
-    if findings.is_empty() {
-        Ok(features)
-    } else {
-        Err(Fail::new("the files are refused"))
+    if !findings.is_empty() {
+        return Err(Fail::new("the files are refused"));
     }
+    Ok(features)
 }
 
 /// Which openings of a folder touch which of its units, within a tolerance.
@@ -52,11 +51,10 @@ fn judge_names(alloc: Global, features: &Features) -> Result<(), Fail>
 {
     own_ids_law();
     let findings = reference_findings(alloc, features)?;
-    if findings.is_empty() {
-        Ok(())
-    } else {
-        Err(Fail::new("a name is wrong"))
+    if !findings.is_empty() {
+        return Err(Fail::new("a name is wrong"));
     }
+    Ok(())
 }
 
 /// The members of the units of a folder.
