@@ -66,21 +66,13 @@ fn the_station_has_twelve_files(rt: HostRuntime) -> Result<(), Fail> {
 #[test]
 fn edits_follow_each_other(rt: HostRuntime) -> Result<(), Fail> {
     let alloc = rt.alloc();
-    let change = Change {
-        piece: "%,",
-        times: 2,
-        third: ",3",
-        ..Change::of(&[
-            (AMENITY, "", "", "one + two"),
-            (AMENITY, "one", " two", "(1,2)"),
-        ])
-    };
+    let change = Change::of(&[
+        (AMENITY, "", "", "one and two"),
+        (AMENITY, "one", " two", "(1,2)"),
+    ]);
     let slots = slots_of(alloc, change)?;
     let told = text_of(&slots.slots.as_slice()[AMENITY]);
-    assert_eq!(rt;
-        told,
-        Some(b"one 5000,5001,[10.00001,50.00002,3]".as_slice())
-    );
+    assert_eq!(rt; told, Some(b"one and[10.00001,50.00002]".as_slice()));
     judge_fault(&rt, alloc, &[(DETAIL, "", "a", "b")], "NoFile")?;
     judge_fault(
         &rt,

@@ -2,10 +2,6 @@
 #![tactic(auto)]
 
 #[cfg(test)]
-mod certificates;
-#[cfg(test)]
-mod commands;
-#[cfg(test)]
 mod hostile;
 #[cfg(test)]
 mod services;

@@ -23,13 +23,11 @@ pub(super) struct Ended {
     pub door_faults: u64,
 }
 
-/// The bytes of these texts, each so many times.
-pub(super) fn joined(alloc: Global, texts: &[(&str, usize)]) -> Result<Vec<u8>, AllocError> {
+/// The bytes of these texts.
+pub(super) fn joined(alloc: Global, texts: &[&str]) -> Result<Vec<u8>, AllocError> {
     let mut bytes = Vec::new(alloc);
-    for (text, times) in texts {
-        for _ in 0..*times {
-            bytes.extend_from_slice(text.as_bytes())?;
-        }
+    for text in texts {
+        bytes.extend_from_slice(text.as_bytes())?;
     }
     Ok(bytes)
 }
@@ -48,7 +46,7 @@ pub(super) fn file(
 }
 
 /// Folders of which the read with this number fails, counted from 1.
-pub(super) fn folders(
+pub(crate) fn folders(
     alloc: Global,
     files: Vec<MemoryFile>,
     failing: u64,
@@ -61,7 +59,7 @@ pub(super) fn folders(
 
 /// A stream with room for so many bytes, of which the read and the write with these numbers fail, counted from 1. Its input comes
 /// in pieces of this size; whole, where that is 0.
-pub(super) fn stream(
+pub(crate) fn stream(
     alloc: Global,
     input: Vec<u8>,
     piece: usize,
@@ -96,6 +94,15 @@ pub(super) fn doors(
     }
 }
 
+/// The words as they are handed in.
+pub(crate) fn owned(alloc: Global, words: &[&str]) -> Result<Vec<String>, AllocError> {
+    let mut owned = Vec::new(alloc);
+    for word in words {
+        owned.push(String::from_str(alloc, word)?)?;
+    }
+    Ok(owned)
+}
+
 /// Runs the program.
 pub(super) fn run_over<D: Doors + Send + Drop, R: Threads + Wait + Sync>(
     rt: &R,
@@ -107,12 +114,9 @@ pub(super) fn run_over<D: Doors + Send + Drop, R: Threads + Wait + Sync>(
 ) -> Result<Ended, Fail>
     requires { D.ready doors ≡ false }
 {
-    let mut owned = Vec::new(alloc);
-    for word in words {
-        owned.push(String::from_str(alloc, word)?)?;
-    }
+    let words = owned(alloc, words)?;
     let mut console = console;
-    let outcome = run(rt, alloc, owned.as_slice(), folders, doors, &mut console);
+    let outcome = run(rt, alloc, words.as_slice(), folders, doors, &mut console);
     Ok(Ended {
         status: outcome.status.code(),
         text: Vec::from_slice(alloc, console.written())?,
@@ -121,19 +125,21 @@ pub(super) fn run_over<D: Doors + Send + Drop, R: Threads + Wait + Sync>(
     })
 }
 
-/// Runs the program without doors, where the read of a file and the write to the console with these numbers fail.
+/// Runs the program without doors. The read of a file, and the read and the write of the console with these numbers fail, counted
+/// from 1 (0: none), and the console has room for so many bytes.
 pub(super) fn run_without_doors(
     rt: &(impl Threads + Wait + Sync),
     alloc: Global,
     words: &[&str],
     files: Vec<MemoryFile>,
     input: Vec<u8>,
-    failing: [u64; 2],
+    failing: [u64; 3],
+    room: usize,
 ) -> Result<Ended, Fail> {
-    let [read, write] = failing;
-    let folders = folders(alloc, files, read)?;
+    let [disk, read, write] = failing;
+    let folders = folders(alloc, files, disk)?;
     let doors = doors(alloc, Vec::new(alloc), [0, 0])?;
-    let console = stream(alloc, input, 0, 4_000, [0, write])?;
+    let console = stream(alloc, input, 0, room, [read, write])?;
     run_over(rt, alloc, words, folders, doors, console)
 }
 

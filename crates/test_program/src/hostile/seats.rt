@@ -81,7 +81,7 @@ fn judge_session<H: Hall, R: Abort>(
     ensures { (H.facts hall.new).parts ≡ (H.facts hall.old).parts }
 {
     let (_, input, failing, written, end) = *row;
-    let input = joined(alloc, &[(input, 1)])?;
+    let input = joined(alloc, &[input])?;
     let mut link = stream(alloc, input, 0, 1_000, [0, failing])?;
     let ended = serve_session(alloc, hall, front, &mut link);
     assert_eq!(rt; str::from_utf8(link.written()), Ok(written));
@@ -147,7 +147,7 @@ fn interrupt<H: Hall>(
     other: &mut H,
     front: &Front,
 ) -> Result<(End, Vec<u8>), Fail> {
-    let input = joined(alloc, &[(VERSION, 1)])?;
+    let input = joined(alloc, &[VERSION])?;
     let folder = Text::from_string(String::from_str(alloc, "station")?);
     let mut link = Interrupted {
         stream: stream(alloc, input, 0, 71, [0, 0])?,

@@ -4,7 +4,7 @@ ghost use Rattle.std.specs.Prelude.{◌≡◌, false, IfOk};
 ghost use Rattle.venue_ports.specs.Doors.{doors_ready, doors_accepted, doors_binds, doors_bound, doors_faults};
 ghost use Rattle.venue_ports.specs.InMemory.{stream_left, stream_written, stream_faults};
 
-use super::outside::{doors, folders, joined, run_over, stream};
+use super::outside::{Ended, doors, folders, joined, run_over, stream};
 use super::texts::{FIRST, VERSION};
 use std::alloc::Global;
 use std::process::Abort;
@@ -87,16 +87,22 @@ impl<'a, R: Wait + Sync> Doors for HeardDoors<'a, R> {
 // What each client sends, in pieces of this size (0: whole), and which of its reads fails (0: none).
 static CLIENTS: [(&str, usize, u64); 3] = [("", 0, 0), (VERSION, 10, 2), (VERSION, 0, 0)];
 
+const ADDRESS: &str = "127.0.0.1:7070";
+
 const WORDS: [&str; 6] = ["serve", "base", "station", "127.0.0.1:80", "2", "3"];
 
-// How many connections are asked for, which bind and which accept fail (0: none), and what is printed.
-static STOPS: [(&str, [u64; 2], &str); 2] = [
-    ("1000000", [1, 0], "fault doors\n"),
+// How many connections are asked for, which bind, accept and write of the console fail (0: none), its room, and what is printed.
+static STOPS: [(&str, [u64; 3], usize, &str); 5] = [
+    ("1000000", [1, 0, 0], 1_000, "fault doors\n"),
     (
         "3",
-        [0, 2],
+        [0, 2, 0],
+        1_000,
         "listening 127.0.0.1:7070\nworkers 1 sessions 1 versions 1 changes 0\n",
     ),
+    ("1", [0, 0, 1], 1_000, ""),
+    ("1", [0, 0, 2], 1_000, "listening 127.0.0.1:7070\n"),
+    ("1", [0, 0, 0], 30, "listening 127.0.0.1:7070\nworke"),
 ];
 
 // The doors through which the clients come.
@@ -109,7 +115,7 @@ fn heard_doors<'a, R>(
 {
     let mut streams = Vec::new(alloc);
     for (sent, piece, read) in &CLIENTS {
-        let input = joined(alloc, &[(*sent, 1)])?;
+        let input = joined(alloc, &[*sent])?;
         streams.push(stream(alloc, input, *piece, 1_000, [*read, 0])?)?;
     }
     let doors = doors(alloc, streams, [0, 0])?;
@@ -137,39 +143,51 @@ pub(super) fn a_client_says_nothing_and_another_fails(
     Ok(())
 }
 
-// A service of one worker, whose clients say nothing.
-fn judge_stop<R: Abort + Threads + Wait + Sync>(
+// A service whose clients say nothing, with what fails as in a row.
+fn run_silent<R: Threads + Wait + Sync>(
     rt: &R,
     alloc: Global,
-    connections: &str,
-    failing: [u64; 2],
-    text: &str,
-) -> Result<(), Fail> {
+    words: &[&str],
+    failing: [u64; 3],
+    room: usize,
+) -> Result<Ended, Fail> {
+    let [bind, accept, write] = failing;
     let files = station_files(alloc, "base", "station", Change::of(&[]))?;
     let folders = folders(alloc, files, 0)?;
-    let doors = doors(alloc, Vec::new(alloc), failing)?;
-    let console = stream(alloc, Vec::new(alloc), 0, 1_000, [0, 0])?;
-    let words = [
-        "serve",
-        "base",
-        "station",
-        "127.0.0.1:7070",
-        "1",
-        connections,
-    ];
-    let ended = run_over(rt, alloc, &words, folders, doors, console)?;
-    assert_eq!(rt; str::from_utf8(ended.text.as_slice()), Ok(text));
-    assert_eq!(rt; ended.status, 3, "at {text}");
-    assert_eq!(rt; ended.door_faults, 1, "at {text}");
-    Ok(())
+    let doors = doors(alloc, Vec::new(alloc), [bind, accept])?;
+    let console = stream(alloc, Vec::new(alloc), 0, room, [0, write])?;
+    run_over(rt, alloc, words, folders, doors, console)
 }
 
-pub(super) fn doors_fail(
+pub(super) fn doors_or_the_console_fail(
     rt: &(impl Threads + Wait + Abort + Sync),
     alloc: Global,
 ) -> Result<(), Fail> {
-    for (connections, failing, text) in &STOPS {
-        judge_stop(rt, alloc, connections, *failing, text)?;
+    for (connections, failing, room, text) in &STOPS {
+        let words = ["serve", "base", "station", ADDRESS, "1", *connections];
+        let ended = run_silent(rt, alloc, &words, *failing, *room)?;
+        assert_eq!(rt; str::from_utf8(ended.text.as_slice()), Ok(*text));
+        assert_eq!(rt; ended.status, 3, "at {text}");
+        let [bind, accept, _] = *failing;
+        let faults = u64::from(bind > 0 || accept > 0);
+        assert_eq!(rt; ended.door_faults, faults, "at {text}");
     }
+    Ok(())
+}
+
+// Any text of at most 256 bytes is an address, of which the doors judge.
+pub(super) fn an_address_has_256_bytes(
+    rt: &(impl Threads + Wait + Abort + Sync),
+    alloc: Global,
+) -> Result<(), Fail> {
+    let address = "a".repeat(alloc, 256)?;
+    let words = ["serve", "base", "station", address.as_str(), "16", "1"];
+    let text = format!(in alloc;
+        "listening {address}\nworkers 16 sessions 1 versions 1 changes 0\n"
+    )?;
+    let ended = run_silent(rt, alloc, &words, [0, 0, 0], 1_000)?;
+    assert_eq!(rt; str::from_utf8(ended.text.as_slice()), Ok(text.as_str()));
+    assert_eq!(rt; ended.status, 0);
+    assert_eq!(rt; ended.door_faults, 0);
     Ok(())
 }
