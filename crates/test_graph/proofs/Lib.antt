@@ -1,1 +1,1 @@
-mod Boxes
+mod Reports

@@ -1,167 +1,14 @@
-//! The members of the example station's units, and units of so many members, worked out by hand.
+//! The members of the station's units, and units of so many members, worked out by hand.
 
-ghost use Rattle.std.specs.Prelude.{IfOk, IsTrue, map};
-ghost use Rattle.feature_rows.specs.Indexes.{AreOnce};
-ghost use Rattle.venue_nodes.specs.Naming.{unit_id};
+ghost use Rattle.std.specs.Prelude.{◌≡◌, IfOk, length};
 
-use crate::members::{Membership, Rows};
-use feature_rows::Index;
-use std::alloc::Global;
+use crate::folders::{Folder, add, between, feature, name, point, polygon};
+use crate::rows::rows_of;
+use std::alloc::{AllocError, Global};
 use std::test::Fail;
-use venue_nodes::limits::{Crowding, first_crowding, limit_findings};
-use venue_types::{
-    AmenityRow, AnchorRow, FeatureId, Features, List, OutOfMemory, Point, Shape, Text, Touches,
-    UnitRow,
-};
-
-const MANY: usize = 20_000;
-
-fn unit(alloc: Global, id: u128, category: &str) -> Result<UnitRow, OutOfMemory> {
-    Ok(UnitRow {
-        id: FeatureId(id),
-        level: FeatureId(0),
-        shape: Shape {
-            parts: List::new(alloc),
-        },
-        display: None,
-        category: Text::from_string(String::from_str(alloc, category)?),
-        restricted: false,
-        name: List::new(alloc),
-    })
-}
-
-fn amenity(alloc: Global, units: List<FeatureId>) -> Result<AmenityRow, OutOfMemory> {
-    Ok(AmenityRow {
-        id: FeatureId(0),
-        address: None,
-        units,
-        point: Point { x: 0, y: 0 },
-        category: Text::from_string(String::from_str(alloc, "restroom")?),
-        name: List::new(alloc),
-    })
-}
-
-fn anchor(unit: u128) -> AnchorRow {
-    AnchorRow {
-        id: FeatureId(0),
-        address: None,
-        unit: FeatureId(unit),
-        point: Point { x: 0, y: 0 },
-    }
-}
-
-fn features(
-    alloc: Global,
-    amenities: List<AmenityRow>,
-    anchors: List<AnchorRow>,
-    units: List<UnitRow>,
-) -> Features {
-    Features {
-        addresses: List::new(alloc),
-        amenities,
-        anchors,
-        buildings: List::new(alloc),
-        details: List::new(alloc),
-        fixtures: List::new(alloc),
-        footprints: List::new(alloc),
-        geofences: List::new(alloc),
-        kiosks: List::new(alloc),
-        levels: List::new(alloc),
-        occupants: List::new(alloc),
-        openings: List::new(alloc),
-        relationships: List::new(alloc),
-        sections: List::new(alloc),
-        units,
-        venues: List::new(alloc),
-    }
-}
-
-fn ids(alloc: Global, numbers: &[u128]) -> Result<List<FeatureId>, OutOfMemory> {
-    let mut list = List::new(alloc);
-    for number in numbers {
-        list.push(FeatureId(*number))?;
-    }
-    Ok(list)
-}
-
-/// Whether each identifier stands once.
-fn are_once(alloc: Global, units: &List<UnitRow>) -> Result<bool, OutOfMemory>
-    ensures { IfOk result (λ once. IsTrue once → AreOnce (map unit_id units.now)) }
-{
-    let index = Index::of(alloc, units.as_slice())?;
-    for (k, unit) in units.as_slice().iter().enumerate() {
-        if index.place_of(unit.id) != Some(k) {
-            return Ok(false);
-        }
-    }
-    Ok(true)
-}
-
-/// The rows of a small folder, in which each unit has an identifier of its own.
-fn rows_of(
-    alloc: Global,
-    features: &Features,
-    touches: &Touches,
-) -> Result<Option<Rows>, OutOfMemory> {
-    let once = are_once(alloc, &features.units)?;
-    if !once
-        || features.amenities.len() > MANY
-        || features.anchors.len() > MANY
-        || touches.rows.len() > MANY
-        || features.units.len() > MANY
-    {
-        return Ok(None);
-    }
-    let rows = Rows::of_named(alloc, features, touches)?;
-    Ok(Some(rows))
-}
-
-/// Which units the station's openings touch, by index.
-fn station_touches(alloc: Global) -> Result<Touches, OutOfMemory> {
-    let mut rows = List::new(alloc);
-    for other in [1, 2, 3, 4, 5, 6] {
-        rows.push(List::from_vec(vec![in alloc; 0, other]?))?;
-    }
-    for _ in 0..6 {
-        rows.push(List::from_vec(vec![in alloc; 0]?))?;
-    }
-    for other in [9, 10, 11, 12] {
-        rows.push(List::from_vec(vec![in alloc; 8, other]?))?;
-    }
-    Ok(Touches { rows })
-}
-
-fn station_units(alloc: Global) -> Result<List<UnitRow>, OutOfMemory> {
-    let mut units = List::new(alloc);
-    for (id, category) in [
-        (0x300, "walkway"),
-        (0x301, "elevator"),
-        (0x302, "stairs"),
-        (0x303, "escalator"),
-        (0x304, "ramp"),
-        (0x305, "room"),
-        (0x306, "room"),
-        (0x307, "column"),
-        (0x400, "platform"),
-        (0x401, "elevator"),
-        (0x402, "stairs"),
-        (0x403, "escalator"),
-        (0x404, "ramp"),
-    ] {
-        units.push(unit(alloc, id, category)?)?;
-    }
-    Ok(units)
-}
-
-/// The station's rows, where its one amenity names these units.
-fn station_rows(alloc: Global, named: &[u128]) -> Result<Option<Rows>, OutOfMemory> {
-    let amenity = amenity(alloc, ids(alloc, named)?)?;
-    let amenities = List::from_vec(vec![in alloc; amenity]?);
-    let anchors = List::from_vec(vec![in alloc; anchor(0x305), anchor(0x400)]?);
-    let units = station_units(alloc)?;
-    let touches = station_touches(alloc)?;
-    rows_of(alloc, &features(alloc, amenities, anchors, units), &touches)
-}
+use test_station::{AMENITY, Change, Edit, slots_of};
+use venue_nodes::{Crowding, Membership, Rows, first_crowding, limit_findings};
+use venue_types::{Files, OutOfMemory};
 
 /// The numbers of members, and the indexes of the units.
 fn counts(alloc: Global, rows: &Rows) -> Result<Vec<(usize, u32)>, OutOfMemory> {
@@ -194,61 +41,94 @@ fn counts_the_station_s_members(rt: HostRuntime) -> Result<(), Fail> {
         Membership { unit: 5, place: 1 },
     ];
     // What the one amenity names: a unit, the same twice, and between them a column.
-    let table: [&[u128]; 3] = [&[0x300], &[0x300, 0x300], &[0x300, 0x307, 0x300]];
-    for named in table {
-        if let Some(rows) = station_rows(rt.alloc(), named)? {
-            let counts = counts(rt.alloc(), &rows)?;
-            assert!(rt; counts.as_slice() == want.as_slice());
-            assert!(rt; rows.memberships(7) == fifth.as_slice());
-            assert!(rt; rows.memberships(31).is_empty());
-        } else {
-            panic!(rt; "an identifier stands twice");
-        }
+    let table: [&'static [Edit]; 3] = [
+        &[],
+        &[(AMENITY, "@0031", "'@0300'", "'@0300','@0300'")],
+        &[(AMENITY, "@0031", "'@0300'", "'@0300','@0307','@0300'")],
+    ];
+    for edits in table {
+        let files = slots_of(rt.alloc(), Change::of(edits))?;
+        let rows = rows_of(rt.alloc(), &files)?;
+        let counts = counts(rt.alloc(), &rows)?;
+        assert!(rt; counts.as_slice() == want.as_slice());
+        assert!(rt; rows.memberships(7) == fifth.as_slice());
+        assert!(rt; rows.memberships(31).is_empty());
     }
     Ok(())
 }
 
+const LEVEL: usize = 10;
+
+/// The number of the first unit; those of amenities begin above all units.
+const FIRST_UNIT: usize = 1_000;
+
+const FIRST_AMENITY: usize = 2_000;
+
+/// A box of this category.
+fn unit(alloc: Global, number: usize, category: &str) -> Result<String, AllocError> {
+    let shape = polygon(alloc, &between((0, 0), (1_000, 1_000)), &[])?;
+    let level = name(alloc, LEVEL)?;
+    let properties = format!(in alloc; "\"level_id\":{level},\"category\":\"{category}\"")?;
+    feature(alloc, "unit", number, shape.as_str(), properties.as_str())
+}
+
 /// Units behind a column, one of them a moving walkway.
-fn crowd_units(alloc: Global, count: usize) -> Result<List<UnitRow>, OutOfMemory> {
-    let mut units = List::new(alloc);
-    units.push(unit(alloc, 0, "column")?)?;
+fn crowd_units(alloc: Global, count: usize) -> Result<String, AllocError> {
+    let mut units = unit(alloc, FIRST_UNIT, "column")?;
     for k in 0..count {
         let category = if k == 1 { "movingwalkway" } else { "room" };
-        units.push(unit(alloc, k as u128 + 1, category)?)?;
+        let number = k.saturating_add(FIRST_UNIT + 1);
+        add(&mut units, unit(alloc, number, category)?.as_str())?;
     }
     Ok(units)
 }
 
 /// The units that are to have more members than this.
-fn named_by(
-    alloc: Global,
-    number: usize,
-    counts: &[usize],
-) -> Result<List<FeatureId>, OutOfMemory> {
-    let mut named = List::new(alloc);
+fn named_by(alloc: Global, number: usize, counts: &[usize]) -> Result<String, AllocError> {
+    let mut named = String::new(alloc);
     for (k, count) in counts.iter().enumerate() {
         if number < *count {
-            named.push(FeatureId(k as u128 + 1))?;
+            let unit = name(alloc, k.saturating_add(FIRST_UNIT + 1))?;
+            add(&mut named, unit.as_str())?;
         }
     }
     Ok(named)
 }
 
-/// The rows of units of so many members each: amenities that name them, and they themselves.
-fn crowd_rows(alloc: Global, counts: &[usize]) -> Result<Option<Rows>, OutOfMemory> {
-    let units = crowd_units(alloc, counts.len())?;
-    let mut amenities = List::new(alloc);
-    for number in 1..4_097 {
-        amenities.push(amenity(alloc, named_by(alloc, number, counts)?)?)?;
-    }
-    let touches = Touches {
-        rows: List::new(alloc),
-    };
-    rows_of(
+/// An amenity that names these units.
+fn amenity(alloc: Global, number: usize, units: &str) -> Result<String, AllocError> {
+    let place = point(alloc, (0, 0))?;
+    let properties = format!(in alloc; "\"category\":\"restroom\",\"unit_ids\":[{units}]")?;
+    let number = number.saturating_add(FIRST_AMENITY);
+    feature(
         alloc,
-        &features(alloc, amenities, List::new(alloc), units),
-        &touches,
+        "amenity",
+        number,
+        place.as_str(),
+        properties.as_str(),
     )
+}
+
+fn level(alloc: Global) -> Result<String, AllocError> {
+    let shape = polygon(alloc, &between((0, 0), (1_000_000, 600_000)), &[])?;
+    feature(alloc, "level", LEVEL, shape.as_str(), "\"ordinal\":0")
+}
+
+/// The files of units of so many members each: amenities that name them, and they themselves.
+fn crowd(alloc: Global, counts: &[usize]) -> Result<Files, Fail>
+    ensures { IfOk result (λ files. length files.slots ≡ 17) }
+{
+    let mut folder = Folder::empty(alloc);
+    folder.levels = level(alloc)?;
+    folder.units = crowd_units(alloc, counts.len())?;
+    for number in 1..4_097 {
+        let named = named_by(alloc, number, counts)?;
+        if !named.is_empty() {
+            let amenity = amenity(alloc, number, named.as_str())?;
+            add(&mut folder.amenities, amenity.as_str())?;
+        }
+    }
+    folder.files(alloc)
 }
 
 #[test]
@@ -268,15 +148,13 @@ fn tells_the_first_limit(rt: HostRuntime) -> Result<(), Fail> {
         ),
     ];
     for (counts, limit, told) in table {
-        if let Some(rows) = crowd_rows(rt.alloc(), counts)? {
-            assert!(rt; first_crowding(&rows) == limit);
-            let findings = limit_findings(rt.alloc(), &rows)?;
-            assert!(rt; findings.len() == told.is_some() as usize);
-            let first = findings.get(0).map(|finding| (finding.rule, finding.index));
-            assert!(rt; first == told);
-        } else {
-            panic!(rt; "an identifier stands twice");
-        }
+        let files = crowd(rt.alloc(), counts)?;
+        let rows = rows_of(rt.alloc(), &files)?;
+        assert!(rt; first_crowding(&rows) == limit);
+        let findings = limit_findings(rt.alloc(), &rows)?;
+        assert!(rt; findings.len() == told.is_some() as usize);
+        let first = findings.get(0).map(|finding| (finding.rule, finding.index));
+        assert!(rt; first == told);
     }
     Ok(())
 }

@@ -1,81 +1,48 @@
 //! The doors of a small station, worked out by hand, and a slow check of all pairs on a grid.
 
-ghost use Rattle.std.specs.Prelude.{◌≡◌, ◌≤◌, ◌↔◌, All, IfOk, OnOk, IsTrue};
-ghost use Rattle.test_figures.specs.Boxes.{IsInBox};
-ghost use Rattle.plane_exact.specs.Figure.{vertices, IsNear};
-ghost use Rattle.opening_match.specs.Matches.{AreCloseTo};
-ghost use Rattle.test_graph.specs.BoxedRows.{IsBoxedOpening, IsBoxedUnit};
+ghost use Rattle.std.specs.Prelude.{◌≡◌, IfOk, length};
 
-use opening_match::touch_rows::rows_of;
-use plane_exact::near;
+use crate::folders::{Folder, Place, add, between, feature, line, name, polygon};
+use crate::rows::touches_of;
 use std::alloc::{AllocError, Global};
 use std::process::Abort;
 use std::test::Fail;
-use test_figures::{at, polygon};
-use venue_types::{FeatureId, Line, List, OpeningRow, OutOfMemory, Point, Shape, Text, UnitRow};
+use venue_types::{Files, List};
 
-fn opening(alloc: Global, level: u128, points: [(i64, i64); 3]) -> Result<OpeningRow, AllocError>
-    ensures { IfOk result (λ opening. IsBoxedOpening opening) }
-{
-    let points = vec![in alloc; at(points[0]), at(points[1]), at(points[2])]?;
-    Ok(OpeningRow {
-        id: FeatureId(0),
-        level: FeatureId(level),
-        line: Line {
-            points: List::from_vec(points),
-        },
-        revolving: false,
-        turnstile: false,
-        marked: false,
-        out: false,
-    })
+/// An opening of a level.
+fn opening(
+    alloc: Global,
+    number: usize,
+    level: usize,
+    points: &[Place],
+) -> Result<String, AllocError> {
+    let line = line(alloc, points)?;
+    let level = name(alloc, level)?;
+    let properties = format!(in alloc; "\"level_id\":{level}")?;
+    feature(alloc, "opening", number, line.as_str(), properties.as_str())
 }
 
 /// A unit with one polygon, and at most one hole.
 fn unit(
     alloc: Global,
-    level: u128,
-    outer: &[(i64, i64)],
-    hole: &[(i64, i64)],
-) -> Result<UnitRow, AllocError>
-    ensures { IfOk result (λ unit. IsBoxedUnit unit) }
-{
+    number: usize,
+    level: usize,
+    outer: &[Place],
+    hole: &[Place],
+) -> Result<String, AllocError> {
     let shape = polygon(alloc, outer, hole)?;
-    Ok(UnitRow {
-        id: FeatureId(0),
-        level: FeatureId(level),
-        shape,
-        display: None,
-        category: Text::from_string(String::new(alloc)),
-        restricted: false,
-        name: List::new(alloc),
-    })
+    let level = name(alloc, level)?;
+    let properties = format!(in alloc; "\"level_id\":{level},\"category\":\"room\"")?;
+    feature(alloc, "unit", number, shape.as_str(), properties.as_str())
 }
 
-/// The ring between two opposite corners.
-fn between(low: (i64, i64), high: (i64, i64)) -> [(i64, i64); 5] {
-    [low, (high.0, low.1), high, (low.0, high.1), low]
-}
+/// The number of the first unit; those of openings begin above all units.
+const FIRST_UNIT: usize = 1_000;
 
-fn touched(
-    alloc: Global,
-    openings: &[OpeningRow],
-    units: &[UnitRow],
-    tolerance: u32,
-) -> Result<Vec<List<u32>>, OutOfMemory>
-    requires openings { All IsBoxedOpening openings.now }
-    requires units { All IsBoxedUnit units.now }
-{
-    if units.len() > 100_000 {
-        return Err(OutOfMemory);
-    }
-    rows_of(alloc, openings, units, u32::min(tolerance, 100_000))
-}
-
-type Place = (i64, i64);
+const FIRST_OPENING: usize = 2_000;
 
 /// Level, two corners.
-const UNITS: [(u128, Place, Place); 13] = [
+const UNITS: [(usize, Place, Place); 13] = [
     (10, (100_000, 100_000), (900_000, 400_000)),
     (10, (200_000, 400_000), (240_000, 440_000)),
     (10, (400_000, 400_000), (440_000, 500_000)),
@@ -92,7 +59,7 @@ const UNITS: [(u128, Place, Place); 13] = [
 ];
 
 /// Level, two ends.
-const OPENINGS: [(u128, Place, Place); 16] = [
+const OPENINGS: [(usize, Place, Place); 16] = [
     (10, (210_000, 400_000), (230_000, 400_000)),
     (10, (410_000, 400_000), (430_000, 400_000)),
     (10, (510_000, 400_000), (530_000, 400_000)),
@@ -123,41 +90,55 @@ fn corner(low: Place, west: i64) -> Place {
 /// The units of these boxes, and behind them a floor with a hole.
 fn units_of(
     alloc: Global,
-    boxes: &[(u128, Place, Place)],
+    boxes: &[(usize, Place, Place)],
     west: i64,
-) -> Result<Vec<UnitRow>, AllocError>
-    ensures { IfOk result (λ units. All IsBoxedUnit units.items) }
-{
-    let mut units = Vec::new(alloc);
+) -> Result<String, AllocError> {
+    let mut units = String::new(alloc);
+    let mut number = FIRST_UNIT;
     for (level, low, high) in boxes {
-        units.push(unit(alloc, *level, &between(corner(*low, west), *high), &[])?)?;
+        let ring = between(corner(*low, west), *high);
+        add(
+            &mut units,
+            unit(alloc, number, *level, &ring, &[])?.as_str(),
+        )?;
+        number = number.saturating_add(1);
     }
     let hole = between((600_000, 500_000), (620_000, 520_000));
     let floor = between((0, 450_000), (1_000_000, 600_000));
-    units.push(unit(alloc, 10, &floor, &hole)?)?;
+    add(&mut units, unit(alloc, number, 10, &floor, &hole)?.as_str())?;
     Ok(units)
 }
 
-fn openings_of(alloc: Global, lines: &[(u128, Place, Place)]) -> Result<Vec<OpeningRow>, AllocError>
-    ensures { IfOk result (λ openings. All IsBoxedOpening openings.items) }
-{
-    let mut openings = Vec::new(alloc);
+fn openings_of(alloc: Global, lines: &[(usize, Place, Place)]) -> Result<String, AllocError> {
+    let mut openings = String::new(alloc);
+    let mut number = FIRST_OPENING;
     for (level, from, to) in lines {
-        openings.push(opening(alloc, *level, [*from, *from, *to])?)?;
+        let opening = opening(alloc, number, *level, &[*from, *from, *to])?;
+        add(&mut openings, opening.as_str())?;
+        number = number.saturating_add(1);
     }
     Ok(openings)
 }
 
+/// The files of these openings and units.
+fn files_of(alloc: Global, openings: String, units: String) -> Result<Files, Fail>
+    ensures { IfOk result (λ files. length files.slots ≡ 17) }
+{
+    let mut folder = Folder::empty(alloc);
+    folder.openings = openings;
+    folder.units = units;
+    folder.files(alloc)
+}
+
 fn touched_at_station(
     alloc: Global,
-    openings: &[OpeningRow],
+    openings: String,
     west: i64,
     tolerance: u32,
-) -> Result<Vec<List<u32>>, OutOfMemory>
-    requires { All IsBoxedOpening openings.now }
-{
+) -> Result<List<List<u32>>, Fail> {
     let units = units_of(alloc, &UNITS, west)?;
-    touched(alloc, openings, &units, tolerance)
+    let files = files_of(alloc, openings, units)?;
+    Ok(touches_of(alloc, &files, tolerance)?.rows)
 }
 
 fn judge_rows(rt: &impl Abort, rows: &[List<u32>], wanted: &[&[u32]]) {
@@ -170,7 +151,7 @@ fn judge_rows(rt: &impl Abort, rows: &[List<u32>], wanted: &[&[u32]]) {
 /// What an opening of a level touches at the station.
 #[derive(Clone, Copy)]
 struct Case<'a> {
-    level: u128,
+    level: usize,
     points: [Place; 3],
     /// Where the seventh unit begins.
     west: i64,
@@ -179,17 +160,16 @@ struct Case<'a> {
 }
 
 fn judge(rt: &impl Abort, alloc: Global, case: &Case) -> Result<(), Fail> {
-    let mut doors = Vec::new(alloc);
-    doors.push(opening(alloc, case.level, case.points)?)?;
-    let rows = touched_at_station(alloc, &doors, case.west, case.tolerance)?;
-    judge_rows(rt, &rows, &[case.want]);
+    let door = opening(alloc, FIRST_OPENING, case.level, &case.points)?;
+    let rows = touched_at_station(alloc, door, case.west, case.tolerance)?;
+    judge_rows(rt, rows.as_slice(), &[case.want]);
     Ok(())
 }
 
 #[test]
 fn openings_touch_units_of_their_level(rt: HostRuntime) -> Result<(), Fail> {
     let openings = openings_of(rt.alloc(), &OPENINGS)?;
-    let rows = touched_at_station(rt.alloc(), &openings, 400_000, 1000)?;
+    let rows = touched_at_station(rt.alloc(), openings, 400_000, 1000)?;
     let wanted: [&[u32]; 16] = [
         &[0, 1],
         &[0, 2],
@@ -208,13 +188,13 @@ fn openings_touch_units_of_their_level(rt: HostRuntime) -> Result<(), Fail> {
         &[8, 11],
         &[8, 12],
     ];
-    judge_rows(&rt, &rows, &wanted);
+    judge_rows(&rt, rows.as_slice(), &wanted);
     Ok(())
 }
 
 /// From the first position to the last, by one between them.
 fn told<'a>(
-    level: u128,
+    level: usize,
     points: [Place; 3],
     west: i64,
     tolerance: u32,
@@ -256,50 +236,67 @@ fn moved_openings_touch_others(rt: HostRuntime) -> Result<(), Fail> {
     Ok(())
 }
 
-/// Whether each of the positions is near the border of the shape, edge by edge.
-fn all_near(shape: &Shape, points: &[Point]) -> bool
-    requires { AreCloseTo shape.now points.now }
-{
-    points.iter().all(|p| near(*p, shape, 30))
+/// The corners of the i-th square: on each of four levels there are five rows of ten, side by side.
+fn square(i: u32) -> (Place, Place) {
+    let low = (i64::from(i / 4 % 10) * 1000, i64::from(i / 40) * 1000);
+    (
+        low,
+        (low.0.saturating_add(1000), low.1.saturating_add(1000)),
+    )
 }
 
-/// Whether the opening touches the unit within 30.
-fn touches_slowly(door: &OpeningRow, unit: &UnitRow) -> bool
-    requires door { IsBoxedOpening door.now }
-    requires unit { IsBoxedUnit unit.now }
-{
-    door.level == unit.level && all_near(&unit.shape, door.line.points.as_slice())
+const SQUARES: u32 = 200;
+
+const DOORS: u32 = 300;
+
+/// How far outside of a range a number is.
+fn gap(n: i64, low: i64, high: i64) -> u64 {
+    if n < low {
+        low.abs_diff(n)
+    } else if n > high {
+        n.abs_diff(high)
+    } else {
+        0
+    }
 }
 
-/// The units that it touches, one by one.
-fn touching_units(
-    alloc: Global,
-    door: &OpeningRow,
-    units: &[UnitRow],
-) -> Result<Vec<u32>, AllocError>
-    requires door { IsBoxedOpening door.now }
-    requires units { All IsBoxedUnit units.now }
-{
+/// Whether the position is within 30 of the border of a box.
+fn is_near(p: Place, low: Place, high: Place) -> bool {
+    let (east, north) = (gap(p.0, low.0, high.0), gap(p.1, low.1, high.1));
+    if east > 0 || north > 0 {
+        let squares = east.saturating_mul(east);
+        return squares.saturating_add(north.saturating_mul(north)) <= 900;
+    }
+    let west_or_east = p.0.abs_diff(low.0).min(p.0.abs_diff(high.0));
+    let south_or_north = p.1.abs_diff(low.1).min(p.1.abs_diff(high.1));
+    west_or_east.min(south_or_north) <= 30
+}
+
+/// Whether the i-th opening touches the j-th square within 30.
+fn touches_slowly(i: u32, j: u32) -> bool {
+    let (low, high) = square(j);
+    let [a, b, c] = beside_squares(i);
+    i % 4 == j % 4 && is_near(a, low, high) && is_near(b, low, high) && is_near(c, low, high)
+}
+
+/// The squares that it touches, one by one.
+fn touching_squares(alloc: Global, i: u32) -> Result<Vec<u32>, AllocError> {
     let mut places = Vec::new(alloc);
-    let mut place: u32 = 0;
-    for unit in units {
-        if touches_slowly(door, unit) {
-            places.push(place)?;
+    for j in 0..SQUARES {
+        if touches_slowly(i, j) {
+            places.push(j)?;
         }
-        place = place.saturating_add(1);
     }
     Ok(places)
 }
 
-/// On each of four levels five rows of ten squares, side by side.
-fn squares(alloc: Global) -> Result<Vec<UnitRow>, AllocError>
-    ensures { IfOk result (λ units. All IsBoxedUnit units.items) }
-{
-    let mut units = Vec::new(alloc);
-    for i in 0..200u32 {
-        let low = (i64::from(i / 4 % 10) * 1000, i64::from(i / 40) * 1000);
-        let high = (low.0 + 1000, low.1 + 1000);
-        units.push(unit(alloc, u128::from(i % 4), &between(low, high), &[])?)?;
+fn squares(alloc: Global) -> Result<String, AllocError> {
+    let mut units = String::new(alloc);
+    for j in 0..SQUARES {
+        let (low, high) = square(j);
+        let number = (j as usize).saturating_add(FIRST_UNIT);
+        let unit = unit(alloc, number, j as usize % 4, &between(low, high), &[])?;
+        add(&mut units, unit.as_str())?;
     }
     Ok(units)
 }
@@ -323,32 +320,22 @@ fn beside_squares(i: u32) -> [Place; 3] {
     }
 }
 
-fn many_doors(alloc: Global) -> Result<Vec<OpeningRow>, AllocError>
-    ensures { IfOk result (λ openings. All IsBoxedOpening openings.items) }
-{
-    let mut openings = Vec::new(alloc);
-    for i in 0..300u32 {
-        openings.push(opening(alloc, u128::from(i % 4), beside_squares(i))?)?;
+fn many_doors(alloc: Global) -> Result<String, AllocError> {
+    let mut openings = String::new(alloc);
+    for i in 0..DOORS {
+        let number = (i as usize).saturating_add(FIRST_OPENING);
+        let opening = opening(alloc, number, i as usize % 4, &beside_squares(i))?;
+        add(&mut openings, opening.as_str())?;
     }
     Ok(openings)
 }
 
 /// Holds the rows against all pairs, and counts the touches.
-fn judge_slowly(
-    rt: &impl Abort,
-    alloc: Global,
-    openings: &[OpeningRow],
-    units: &[UnitRow],
-) -> Result<usize, Fail>
-    requires openings { All IsBoxedOpening openings.now }
-    requires units { All IsBoxedUnit units.now }
-{
-    let rows = touched(alloc, openings, units, 30)?;
-    assert_eq!(rt; rows.len(), openings.len());
+fn judge_slowly(rt: &impl Abort, alloc: Global, rows: &[List<u32>]) -> Result<usize, Fail> {
+    assert_eq!(rt; rows.len(), DOORS as usize);
     let mut count: usize = 0;
-    for (place, door) in openings.iter().enumerate() {
-        let want = touching_units(alloc, door, units)?;
-        let row = rows.get(place).expect(rt, "a row for each opening");
+    for (i, row) in (0..DOORS).zip(rows) {
+        let want = touching_squares(alloc, i)?;
         assert_eq!(rt; row.as_slice(), want.as_slice());
         count = count.saturating_add(want.len());
     }
@@ -357,9 +344,10 @@ fn judge_slowly(
 
 #[test]
 fn rows_are_those_of_all_pairs(rt: HostRuntime) -> Result<(), Fail> {
-    let openings = many_doors(rt.alloc())?;
-    let units = squares(rt.alloc())?;
-    let count = judge_slowly(&rt, rt.alloc(), &openings, &units)?;
+    let alloc = rt.alloc();
+    let files = files_of(alloc, many_doors(alloc)?, squares(alloc)?)?;
+    let touches = touches_of(alloc, &files, 30)?;
+    let count = judge_slowly(&rt, alloc, touches.rows.as_slice())?;
     // 42 openings touch two squares and 16 one, by a count in exact fractions outside.
     assert_eq!(rt; count, 100);
     Ok(())

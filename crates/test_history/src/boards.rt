@@ -1,15 +1,14 @@
 //! Boards over the station, whose answers were worked out by hand.
 
 ghost use Rattle.std.specs.Prelude.{◌≡◌, IfOk};
-ghost use Rattle.std.specs.Arc.{arc_value};
 ghost use Rattle.venue_state.specs.Preparing.{HasSettings};
 
+use crate::station::{id, tail, venue_of};
 use std::alloc::Global;
 use std::process::Abort;
 use std::sync::Arc;
 use std::test::Fail;
-use test_station::{Change, Edit, NO_LIFT, slots_of, station_settings};
-use venue_build::{Built, Venue, build};
+use test_station::{Edit, NO_LIFT, station_settings};
 use venue_history::Act;
 use venue_state::{Board, Unready};
 use venue_types::{
@@ -114,17 +113,6 @@ const LOWER: [u128; 16] = [
     0x0031, 0x0041, 0x0101, 0x0102, 0x0103, 0x0104, 0x0105, 0x0106, 0x0108, 0x0109, 0x0110, 0x0111,
     0x0300, 0x0304, 0x0305, 0x0306,
 ];
-
-const NAMELESS: u128 = 0x4000_8000_0000_0000_0000;
-
-// The identifier that ends so.
-fn id(tail: u128) -> FeatureId {
-    FeatureId(NAMELESS | tail)
-}
-
-fn tail(id: FeatureId) -> u128 {
-    id.0.wrapping_sub(NAMELESS)
-}
 
 fn first_name(row: &PlaceRow) -> &str {
     match row.name.get(0) {
@@ -272,16 +260,6 @@ fn judge_change(rt: &impl Abort, alloc: Global, board: &mut Board, act: Act, row
             assert_eq!(rt; Told::Changed(board.number()), row.told);
         }
         Err(unready) => assert_eq!(rt; Told::Unready(unready), row.told),
-    }
-}
-
-fn venue_of(alloc: Global, settings: &Settings, edits: &'static [Edit]) -> Result<Arc<Venue>, Fail>
-    ensures { IfOk result (λ venue. (arc_value venue).settings ≡ settings.now) }
-{
-    let files = slots_of(alloc, Change::of(edits))?;
-    match build(alloc, &files, settings)? {
-        Built::Venue(venue) => Ok(Arc::new(alloc, venue)?),
-        Built::Rejected(_) => Err(Fail::new("the folder is rejected")),
     }
 }
 

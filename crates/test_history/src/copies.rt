@@ -1,11 +1,12 @@
 //! A writer and two readers over the station, one call after the other.
 
-ghost use Rattle.std.specs.Prelude.{◌≡◌, IfOk};
+ghost use Rattle.std.specs.Prelude.{◌≡◌};
 ghost use Rattle.std.specs.Arc.{arc_value};
 ghost use Rattle.left_right.specs.Sides.{view};
 ghost use Rattle.venue_state.specs.Preparing.{HasSettings};
 ghost use Rattle.board_copies.specs.Rules.{book_of, Knows};
 
+use crate::station::{id, venue_of};
 use board_copies::{
     Held, Keep, Keeper, Roll, SideReader, make_reader, make_writer, publish, read_in, settle,
 };
@@ -13,10 +14,9 @@ use core::mem::replace_with;
 use std::alloc::Global;
 use std::sync::{Arc, Wait};
 use std::test::Fail;
-use test_station::{Change, slots_of, station_settings};
-use venue_build::{Built, Venue, build};
+use test_station::station_settings;
 use venue_history::Act;
-use venue_types::{Ask, FeatureId, OutOfMemory, Query, Reply, Settings};
+use venue_types::{Ask, FeatureId, OutOfMemory, Query, Reply};
 
 // The writer and its book.
 #[derive(Drop)]
@@ -43,22 +43,12 @@ enum Call {
 }
 
 fn lift() -> FeatureId {
-    FeatureId(0x4000_8000_0000_0000_0301)
-}
-
-fn venue_of(alloc: Global, settings: &Settings) -> Result<Arc<Venue>, Fail>
-    ensures { IfOk result (λ venue. (arc_value venue).settings ≡ settings.now) }
-{
-    let files = slots_of(alloc, Change::of(&[]))?;
-    match build(alloc, &files, settings)? {
-        Built::Venue(venue) => Ok(Arc::new(alloc, venue)?),
-        Built::Rejected(_) => Err(Fail::new("the folder is rejected")),
-    }
+    id(0x0301)
 }
 
 fn opened<R: Wait>(rt: &R, alloc: Global) -> Result<Office, Fail> {
     let settings = Arc::new(alloc, station_settings(alloc)?)?;
-    let venue = venue_of(alloc, &settings)?;
+    let venue = venue_of(alloc, &settings, &[])?;
     let mut roll = Roll::new();
     let held = Held::first(alloc, &mut roll, settings, venue)?;
     let writer = make_writer(alloc, held, 2)?;

@@ -13,3 +13,5 @@ mod histories;
 mod one_thread;
 #[cfg(test)]
 mod shared;
+#[cfg(test)]
+mod station;

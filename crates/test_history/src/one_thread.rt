@@ -1,18 +1,13 @@
 //! The hall of one thread over the station and some folders, whose replies were worked out by hand.
 
-ghost use Rattle.std.specs.Prelude.{◌≡◌, IfOk};
-ghost use Rattle.std.specs.Arc.{arc_value};
-
+use crate::station::{folders, id, tail, venue_of};
 use std::alloc::Global;
 use std::process::Abort;
 use std::sync::Arc;
 use std::test::Fail;
-use test_station::{
-    Change as Edits, Edit, NO_LIFT, TALL, folder_files, slots_of, station_settings,
-};
-use venue_build::{Built, Venue, build};
-use venue_ports::{Folders, MemoryFile, MemoryFolders};
-use venue_types::{Ask, Change, FeatureId, Finding, Query, Reply, Report, Settings, Text};
+use test_station::station_settings;
+use venue_ports::{Folders, MemoryFolders};
+use venue_types::{Ask, Change, FeatureId, Finding, Query, Reply, Report, Text};
 use version_board::{Alone, Asks, Hall, Unopened, answered_law, changed_law};
 
 // What is done in a hall, or asked. A feature is named by the last digits of its identifier.
@@ -101,17 +96,6 @@ const NOTHING: [Finding; 2] = [
         member: 0,
     },
 ];
-
-const NAMELESS: u128 = 0x4000_8000_0000_0000_0000;
-
-// The identifier that ends so.
-fn id(tail: u128) -> FeatureId {
-    FeatureId(NAMELESS | tail)
-}
-
-fn tail(id: FeatureId) -> u128 {
-    id.0.wrapping_sub(NAMELESS)
-}
 
 fn text(alloc: Global, text: &str) -> Result<Text, Fail> {
     Ok(Text::from_string(String::from_str(alloc, text)?))
@@ -212,47 +196,12 @@ fn reply_to(alloc: Global, hall: &mut impl Hall, deed: Deed) -> Result<Reply, Fa
     }
 }
 
-fn venue_of(alloc: Global, settings: &Settings) -> Result<Arc<Venue>, Fail>
-    ensures { IfOk result (λ venue. (arc_value venue).settings ≡ settings.now) }
-{
-    let files = slots_of(alloc, Edits::of(&[]))?;
-    match build(alloc, &files, settings)? {
-        Built::Venue(venue) => Ok(Arc::new(alloc, venue)?),
-        Built::Rejected(_) => Err(Fail::new("the folder is rejected")),
-    }
-}
-
-// Adds the files of a folder of the base.
-fn add_folder(
-    alloc: Global,
-    files: &mut Vec<MemoryFile>,
-    path: &str,
-    edits: &'static [Edit],
-) -> Result<(), Fail> {
-    for file in folder_files(alloc, path, Edits::of(edits))? {
-        files.push(file)?;
-    }
-    Ok(())
-}
-
-// Folders of which the read with this number fails.
-fn folders(alloc: Global, failing: u64) -> Result<MemoryFolders, Fail> {
-    let mut files = Vec::new(alloc);
-    add_folder(alloc, &mut files, "base/station", &[])?;
-    add_folder(alloc, &mut files, "base/tall", &TALL)?;
-    add_folder(alloc, &mut files, "base/nolift", &NO_LIFT)?;
-    match MemoryFolders::new(files, vec![in alloc; failing]?) {
-        Ok(folders) => Ok(folders),
-        Err(_) => Err(Fail::new("no folders")),
-    }
-}
-
 // The hall of the station under a last version.
 fn hall(alloc: Global, last_version: u32, failing: u64) -> Result<Alone<MemoryFolders>, Fail> {
     let mut settings = station_settings(alloc)?;
     settings.last_version = last_version.max(1);
     let settings = Arc::new(alloc, settings)?;
-    let venue = venue_of(alloc, &settings)?;
+    let venue = venue_of(alloc, &settings, &[])?;
     let base = text(alloc, "base")?;
     match Alone::begin(alloc, settings, venue, folders(alloc, failing)?, base) {
         Ok(hall) => Ok(hall),

@@ -9,9 +9,7 @@ ghost use Rattle.shared_hall.specs.Copied.{entries_in, book_in};
 ghost use Rattle.shared_hall.specs.Entries.{HaveSettings};
 ghost use Rattle.shared_hall.specs.Offices.{parts_of};
 
-mod folders;
-
-use folders::folders;
+use crate::station::{folders, id, tail, venue_of};
 use shared_hall::{
     Closed, Copies, HallName, Office, Opened, Pass, Seat, close_hall, first_law, following_law,
     open_hall, opening_entries,
@@ -24,8 +22,7 @@ use std::sync::{Arc, Mutex, Wait};
 use std::test::Fail;
 use std::thread;
 use std::thread::Threads;
-use test_station::{Change as Edits, slots_of, station_settings};
-use venue_build::{Built, Venue, build};
+use test_station::station_settings;
 use venue_history::{Act, Entry, entry_law, version_law};
 use venue_ports::{Folders, MemoryFolders};
 use venue_state::Board;
@@ -71,20 +68,13 @@ enum Told {
 
 type Row = (Who, Deed, Told);
 
-const NAMELESS: u128 = 0x4000_8000_0000_0000_0000;
-
-// The identifier that ends so.
-fn id(tail: u128) -> FeatureId {
-    FeatureId(NAMELESS | tail)
-}
-
 // How many features these are, and how the last of them ends.
 fn published(number: u32, dropped: &[FeatureId]) -> Told {
-    let tail = match dropped.last() {
-        Some(id) => id.0.wrapping_sub(NAMELESS),
+    let last = match dropped.last() {
+        Some(id) => tail(*id),
         None => 0,
     };
-    Told::Published(number, dropped.len(), tail)
+    Told::Published(number, dropped.len(), last)
 }
 
 fn told_of(reply: &Reply) -> Told {
@@ -214,16 +204,6 @@ fn rows_at<F: Folders + Drop, R: Abort + Wait>(
     rows_under::<Brand, F, R>(rt, alloc, Blank::new(2), copies, folders, base, rows)
 }
 
-fn venue_of(alloc: Global, settings: &Settings) -> Result<Arc<Venue>, Fail>
-    ensures { IfOk result (λ venue. (arc_value venue).settings ≡ settings.now) }
-{
-    let files = slots_of(alloc, Edits::of(&[]))?;
-    match build(alloc, &files, settings)? {
-        Built::Venue(venue) => Ok(Arc::new(alloc, venue)?),
-        Built::Rejected(_) => Err(Fail::new("the folder is rejected")),
-    }
-}
-
 // The copies of the station under a last version.
 fn copies_of<R: Wait>(rt: &R, alloc: Global, last_version: u32, workers: u8) -> Result<Copies, Fail>
     requires some { 1 ≤ workers }
@@ -232,7 +212,7 @@ fn copies_of<R: Wait>(rt: &R, alloc: Global, last_version: u32, workers: u8) -> 
     let mut settings = station_settings(alloc)?;
     settings.last_version = last_version.max(1);
     let settings = Arc::new(alloc, settings)?;
-    let venue = venue_of(alloc, &settings)?;
+    let venue = venue_of(alloc, &settings, &[])?;
     let entries = opening_entries(alloc, venue)?;
     Ok(Copies::new(rt, alloc, settings, entries, workers)?)
 }
@@ -576,7 +556,7 @@ fn three_entries(alloc: Global, settings: &Arc<Settings>) -> Result<Vec<Entry>, 
     ensures settings { IfOk result (λ entries. HaveSettings (arc_value settings.now) entries.items) }
 {
     version_law();
-    let venue = venue_of(alloc, settings)?;
+    let venue = venue_of(alloc, settings, &[])?;
     let mut entries = opening_entries(alloc, Arc::try_clone(&venue)?)?;
     let first = Board::first(alloc, Arc::try_clone(&venue)?, Arc::try_clone(settings)?)?;
     let second = entered(alloc, first, &mut entries, Act::Closed(id(0x0301)), 2)?;

@@ -1,12 +1,12 @@
 //! A desk over doors in memory, and its guests at a seat of the station's hall.
 
 ghost use Rattle.std.specs.Prelude.{◌≡◌, ◌≤◌, length, true, IfOk};
-ghost use Rattle.std.specs.Arc.{arc_value};
 ghost use Rattle.venue_ports.specs.Doors.{doors_ready, doors_accepted, doors_binds, doors_bound, doors_faults};
 ghost use Rattle.venue_ports.specs.InMemory.{memory_files, memory_faults};
-ghost use Rattle.venue_state.specs.Making.{shelf_of};
+ghost use Rattle.shared_hall.specs.Making.{shelf_of};
 ghost use Rattle.shared_hall.specs.Copied.{entries_in, book_in};
 
+use crate::station::{base, venue_of};
 use shared_hall::{Copies, HallName, Opened, Seat, open_hall, opening_entries};
 use std::alloc::Global;
 use std::marker::Brand;
@@ -14,12 +14,11 @@ use std::process::Abort;
 use std::sync::ledger::Blank;
 use std::sync::{Arc, Wait};
 use std::test::Fail;
-use test_station::{Change, slots_of, station_settings};
-use venue_build::{Built, Venue, build};
+use test_station::station_settings;
 use venue_ports::{Doors, MemoryDoors, MemoryFolders, MemoryStream};
 use venue_service::{DoorDesk, Next};
 use venue_session::End;
-use venue_types::{Settings, Text};
+use venue_types::Text;
 use venue_wire::Front;
 
 // What came of an accept: how its session ended, and how many bytes were written there.
@@ -120,16 +119,6 @@ fn judge<R: Abort + Wait>(
     judge_under::<Brand, R>(rt, alloc, blank, copies, folders, base, doors, front, 2)
 }
 
-fn venue_of(alloc: Global, settings: &Settings) -> Result<Arc<Venue>, Fail>
-    ensures { IfOk result (λ venue. (arc_value venue).settings ≡ settings.now) }
-{
-    let files = slots_of(alloc, Change::of(&[]))?;
-    match build(alloc, &files, settings)? {
-        Built::Venue(venue) => Ok(Arc::new(alloc, venue)?),
-        Built::Rejected(_) => Err(Fail::new("the folder is rejected")),
-    }
-}
-
 fn no_folders(alloc: Global) -> Result<MemoryFolders, Fail> {
     match MemoryFolders::new(Vec::new(alloc), Vec::new(alloc)) {
         Ok(folders) => Ok(folders),
@@ -171,7 +160,7 @@ fn a_desk_follows_its_doors(rt: HostRuntime) -> Result<(), Fail> {
     let venue = venue_of(alloc, &settings)?;
     let entries = opening_entries(alloc, venue)?;
     let copies = Copies::new(&rt, alloc, settings, entries, 1)?;
-    let base = Text::from_string(String::from_str(alloc, "base")?);
+    let base = base(alloc)?;
     let folders = no_folders(alloc)?;
     judge(
         &rt,

@@ -15,3 +15,5 @@ mod seats;
 mod session_laws;
 #[cfg(test)]
 mod sessions;
+#[cfg(test)]
+mod station;

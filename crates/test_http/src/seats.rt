@@ -1,10 +1,10 @@
 //! Sessions over a stream in memory, whose input comes byte by byte: at a seat, and over the hall of one thread.
 
-ghost use Rattle.std.specs.Prelude.{◌≡◌, ◌≤◌, length, IfOk};
-ghost use Rattle.std.specs.Arc.{arc_value};
-ghost use Rattle.venue_state.specs.Making.{shelf_of};
+ghost use Rattle.std.specs.Prelude.{◌≡◌, ◌≤◌, length};
+ghost use Rattle.shared_hall.specs.Making.{shelf_of};
 ghost use Rattle.shared_hall.specs.Copied.{entries_in, book_in};
 
+use crate::station::{base, venue_of};
 use shared_hall::{Copies, HallName, Opened, Seat, open_hall, opening_entries};
 use std::alloc::Global;
 use std::marker::Brand;
@@ -12,11 +12,10 @@ use std::process::Abort;
 use std::sync::ledger::Blank;
 use std::sync::{Arc, Wait};
 use std::test::Fail;
-use test_station::{Change, folder_files, slots_of, station_settings};
-use venue_build::{Built, Venue, build};
+use test_station::{Change, folder_files, station_settings};
 use venue_ports::{Folders, MemoryFolders, MemoryStream};
 use venue_session::{End, serve_session};
-use venue_types::{Settings, Text};
+use venue_types::Text;
 use venue_wire::Front;
 use version_board::{Alone, Hall, Unopened};
 
@@ -77,20 +76,6 @@ fn serve<H: Hall>(alloc: Global, hall: &mut H, sent: Sent<'_>) -> Result<Served,
     let mut written = Vec::new(alloc);
     written.extend_from_slice(link.written())?;
     Ok(Served { written, end })
-}
-
-fn venue_of(alloc: Global, settings: &Settings) -> Result<Arc<Venue>, Fail>
-    ensures { IfOk result (λ venue. (arc_value venue).settings ≡ settings.now) }
-{
-    let files = slots_of(alloc, Change::of(&[]))?;
-    match build(alloc, &files, settings)? {
-        Built::Venue(venue) => Ok(Arc::new(alloc, venue)?),
-        Built::Rejected(_) => Err(Fail::new("the folder is rejected")),
-    }
-}
-
-fn base(alloc: Global) -> Result<Text, Fail> {
-    Ok(Text::from_string(String::from_str(alloc, "base")?))
 }
 
 fn folders(alloc: Global) -> Result<MemoryFolders, Fail> {

@@ -1,17 +1,17 @@
 //! Sessions over streams in memory: what is written, and how they end, was worked out by hand.
 
-ghost use Rattle.std.specs.Prelude.{◌≡◌, IfOk};
+ghost use Rattle.std.specs.Prelude.{◌≡◌};
 ghost use Rattle.std.specs.Arc.{arc_value};
 
+use crate::station::{base, venue_of};
 use std::alloc::Global;
 use std::process::Abort;
 use std::sync::Arc;
 use std::test::Fail;
-use test_station::{Change, slots_of, station_settings};
-use venue_build::{Built, Venue, build};
+use test_station::station_settings;
 use venue_ports::{MemoryFolders, MemoryStream};
-use venue_session::{End, serve_session};
-use venue_types::{Settings, Text};
+use venue_session::{End, Venue, serve_session};
+use venue_types::Settings;
 use venue_wire::Front;
 use version_board::{Alone, Hall, Unopened};
 
@@ -147,16 +147,6 @@ fn judge_session(
     Ok(())
 }
 
-fn venue_of(alloc: Global, settings: &Settings) -> Result<Arc<Venue>, Fail>
-    ensures { IfOk result (λ venue. (arc_value venue).settings ≡ settings.now) }
-{
-    let files = slots_of(alloc, Change::of(&[]))?;
-    match build(alloc, &files, settings)? {
-        Built::Venue(venue) => Ok(Arc::new(alloc, venue)?),
-        Built::Rejected(_) => Err(Fail::new("the folder is rejected")),
-    }
-}
-
 // A hall of the venue, over no folders.
 fn hall(
     alloc: Global,
@@ -168,7 +158,7 @@ fn hall(
     let Ok(folders) = MemoryFolders::new(Vec::new(alloc), Vec::new(alloc)) else {
         return Err(Fail::new("no folders"));
     };
-    let base = Text::from_string(String::from_str(alloc, "base")?);
+    let base = base(alloc)?;
     let settings = Arc::try_clone(settings)?;
     let venue = Arc::try_clone(venue)?;
     match Alone::begin(alloc, settings, venue, folders, base) {

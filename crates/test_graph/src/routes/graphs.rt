@@ -5,7 +5,7 @@ ghost use Rattle.link_graph.specs.Graphs.{network};
 ghost use Rattle.link_graph.specs.Marking.{AreMarksOf};
 
 use super::graph_rows::{Passage, ROWS, Row};
-use super::{id, venue_of};
+use crate::station::{id, venue_of};
 use link_graph::{Graph, Marks};
 use std::alloc::Global;
 use std::marker::Brand;

@@ -5,7 +5,7 @@ ghost use Rattle.link_graph.specs.Graphs.{network};
 ghost use Rattle.link_graph.specs.Marking.{AreMarksOf};
 
 use super::search_rows::{ROWS, Row, Wanted};
-use super::{id, venue_of};
+use crate::station::{id, venue_of};
 use imdf_access::allows;
 use link_graph::{Graph, Marks};
 use route_search::{Found, least};

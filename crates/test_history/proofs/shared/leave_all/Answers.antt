@@ -1,5 +1,5 @@
 use Rattle.std.proofs.Common.{arith, ◌≡◌, ◌+◌, List, length}
-use Rattle.venue_hall.specs.Facts.{Facts}
+use Rattle.shared_hall.specs.Facts.{Facts}
 use Rattle.shared_hall.proofs.Passes.{no_parts}
 use Rattle.test_history.proofs.shared.leave_all.Goals as goal
 

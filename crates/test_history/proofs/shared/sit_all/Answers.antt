@@ -1,6 +1,6 @@
 use Rattle.std.proofs.Common.{arith, ◌≡◌, ◌+◌, List, [], ◌∷◌, ◌++◌, ap, ◌∙◌, length, length-append, Option}
 use Rattle.core.specs.Option.{option_to_list}
-use Rattle.venue_hall.specs.Facts.{Facts}
+use Rattle.shared_hall.specs.Facts.{Facts}
 use Rattle.shared_hall.specs.Offices.{parts_of}
 use Rattle.shared_hall.proofs.Passes.{parts_push}
 use Rattle.test_history.proofs.shared.sit_all.Goals as goal

@@ -1,5 +1,5 @@
 use Rattle.std.proofs.Common.{rules, ◌≡◌, ◌<◌, ℕ, sym, length, slice_index_or}
-use Rattle.venue_hall.specs.Facts.{Facts}
+use Rattle.shared_hall.specs.Facts.{Facts}
 use Rattle.shared_hall.proofs.Passes.{same_parts}
 use Rattle.test_history.proofs.shared.work_all.Goals as goal
 

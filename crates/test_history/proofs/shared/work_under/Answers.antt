@@ -1,7 +1,7 @@
 use Rattle.std.proofs.Common.{rules, arith, ◌≡◌, ◌++◌, ◌∙◌, ap, subst, length, List}
 use Rattle.std.proofs.Math.ListN.{take}
 use Rattle.std.proofs.Math.Seq.{take-append_seam}
-use Rattle.venue_hall.specs.Facts.{Facts}
+use Rattle.shared_hall.specs.Facts.{Facts}
 use Rattle.shared_hall.specs.Offices.{parts_of}
 use Rattle.test_history.proofs.shared.work_under.Goals as goal
 

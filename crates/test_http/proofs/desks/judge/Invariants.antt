@@ -1,7 +1,7 @@
 use Rattle.std.proofs.Common.{length}
 use Rattle.venue_ports.specs.Doors.{doors_accepted, doors_binds, doors_bound, doors_faults}
 use Rattle.venue_ports.specs.InMemory.{memory_files, memory_faults}
-use Rattle.venue_state.specs.Making.{shelf_of}
+use Rattle.shared_hall.specs.Making.{shelf_of}
 use Rattle.shared_hall.specs.Copied.{entries_in, book_in}
 use Rattle.test_http.proofs.desks.judge.Given as goal
 

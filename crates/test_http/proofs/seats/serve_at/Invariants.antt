@@ -1,5 +1,5 @@
 use Rattle.std.proofs.Common.{length, None}
-use Rattle.venue_state.specs.Making.{shelf_of}
+use Rattle.shared_hall.specs.Making.{shelf_of}
 use Rattle.shared_hall.specs.Copied.{entries_in, book_in}
 use Rattle.test_http.proofs.seats.serve_at.Given as goal
 

@@ -1,0 +1,10 @@
+use Rattle.imdf_read.specs.Broken.{IsBroken}
+use Rattle.test_graph.proofs.Reports.{nothing, empty}
+use Rattle.test_graph.proofs.rows.sound.Goals as goal
+
+pub returns : goal.returns
+returns c =
+    let out = c.in_ok-features.field-0 in
+    let none = empty c.is_empty.result out.findings c.is_empty.ensures c.if-not-is_empty.false in
+    c.sound_reading_law.ensures c.args.files.now out.features c.requires
+    (nothing (IsBroken c.args.files.now) out.findings none c.in_ok-features.ensures.findings.whole) (c.in_ok-features.ensures.rows none)

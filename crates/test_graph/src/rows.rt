@@ -1,0 +1,72 @@
+//! Rows that are read of files and that the first two phases accept, and what is made of them.
+
+ghost use Rattle.std.specs.Prelude.{◌≡◌, IfOk, length};
+ghost use Rattle.imdf_read.specs.Rows.{HaveOwnIds};
+ghost use Rattle.imdf_read.specs.Sound.{AreSound};
+
+use imdf_read::{ReadOut, read_folder, sound_reading_law};
+use imdf_refs::{own_ids_law, reference_findings};
+use opening_match::touches;
+use ring_rules::is_spread;
+use std::alloc::Global;
+use std::test::Fail;
+use test_station::station_settings;
+use venue_nodes::Rows;
+use venue_types::{Features, Files, Touches};
+
+/// The rows of a folder in which the first phase finds nothing.
+fn sound(alloc: Global, files: &Files) -> Result<Features, Fail>
+    requires { length files.now.slots ≡ 17 }
+    ensures { IfOk result AreSound }
+{
+    sound_reading_law();
+    let ReadOut {
+        features,
+        findings,
+        notes: _,
+    } = read_folder(alloc, files)?;
+    if !findings.is_empty() {
+        return Err(Fail::new("the files are refused"));
+    }
+    Ok(features)
+}
+
+/// Which openings of a folder touch which of its units, within a tolerance.
+pub(crate) fn touches_of(alloc: Global, files: &Files, tolerance: u32) -> Result<Touches, Fail>
+    requires { length files.now.slots ≡ 17 }
+{
+    let features = sound(alloc, files)?;
+    if is_spread(&features) {
+        return Err(Fail::new("the folder is spread"));
+    }
+    let mut settings = station_settings(alloc)?;
+    settings.border_tol = tolerance.min(100_000);
+    Ok(touches(alloc, &features, &settings)?)
+}
+
+/// The references of these rows name what is there, and no two rows have one identifier.
+fn judge_names(alloc: Global, features: &Features) -> Result<(), Fail>
+    requires { AreSound features.now }
+    ensures { IfOk result (λ _. HaveOwnIds features.now) }
+{
+    own_ids_law();
+    let findings = reference_findings(alloc, features)?;
+    if !findings.is_empty() {
+        return Err(Fail::new("a name is wrong"));
+    }
+    Ok(())
+}
+
+/// The members of the units of a folder.
+pub(crate) fn rows_of(alloc: Global, files: &Files) -> Result<Rows, Fail>
+    requires { length files.now.slots ≡ 17 }
+{
+    let features = sound(alloc, files)?;
+    judge_names(alloc, &features)?;
+    if is_spread(&features) {
+        return Err(Fail::new("the folder is spread"));
+    }
+    let settings = station_settings(alloc)?;
+    let touches = touches(alloc, &features, &settings)?;
+    Ok(Rows::of(alloc, &features, &settings, &touches)?)
+}
