@@ -92,22 +92,11 @@ pub(crate) fn push_feature(
     geometry: &str,
     properties: &str,
 ) -> Result<(), AllocError> {
-    let end = format!(in alloc; "{number:012}")?;
+    let feature = format!(in alloc;
+        "{{\"type\":\"Feature\",\"id\":\"00000000-0000-4000-8000-{number:012}\",\"feature_type\":\"{feature_type}\",\"geometry\":{geometry},\"properties\":{{{properties}}}}}"
+    )?;
     text.push_str(if text.is_empty() { "" } else { "," })?;
-    for part in [
-        "{\"type\":\"Feature\",\"id\":\"00000000-0000-4000-8000-",
-        end.as_str(),
-        "\",\"feature_type\":\"",
-        feature_type,
-        "\",\"geometry\":",
-        geometry,
-        ",\"properties\":{",
-        properties,
-        "}}",
-    ] {
-        text.push_str(part)?;
-    }
-    Ok(())
+    text.push_str(feature.as_str())
 }
 
 /// The file of these features.
