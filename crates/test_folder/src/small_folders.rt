@@ -92,11 +92,17 @@ pub(crate) fn push_feature(
     geometry: &str,
     properties: &str,
 ) -> Result<(), AllocError> {
-    let feature = format!(in alloc;
-        "{{\"type\":\"Feature\",\"id\":\"00000000-0000-4000-8000-{number:012}\",\"feature_type\":\"{feature_type}\",\"geometry\":{geometry},\"properties\":{{{properties}}}}}"
-    )?;
+    let end = format!(in alloc; "{number:012}")?;
     text.push_str(if text.is_empty() { "" } else { "," })?;
-    text.push_str(feature.as_str())
+    text.push_str("{\"type\":\"Feature\",\"id\":\"00000000-0000-4000-8000-")?;
+    text.push_str(end.as_str())?;
+    text.push_str("\",\"feature_type\":\"")?;
+    text.push_str(feature_type)?;
+    text.push_str("\",\"geometry\":")?;
+    text.push_str(geometry)?;
+    text.push_str(",\"properties\":{")?;
+    text.push_str(properties)?;
+    text.push_str("}}")
 }
 
 /// The file of these features.
