@@ -141,8 +141,12 @@ class Build:
             room = self.memory - sum(ONE_JOB + MORE_JOBS * (jobs - 1) for _, jobs in self.running.values())
             if idle < 1 or self.running and room < ONE_JOB:
                 return
-            jobs = max(1, min(-(-idle // len(ready)), 1 + int((room - ONE_JOB) / MORE_JOBS)))
+            most = 1 + int((room - ONE_JOB) / MORE_JOBS)
+            jobs = max(1, min(-(-idle // len(ready)), most))
             name = ready.pop(0)
+            # What most waits for gets a second job beside others too: holding that up costs more than two that share a processor.
+            if all(self.behind[name] >= self.behind[it] for it in self.running):
+                jobs = max(jobs, min(2, most))
             self.left.remove(name)
             self.begin(name, plant(name, self.crates, self.rows), ["lib"], jobs)
 
