@@ -1,6 +1,6 @@
 -- From what a read finds to a file's place in a folder.
-use Rattle.std.proofs.Common.{◌≡◌, ◌∙◌, ◌≤◌, ℕ, List, Option, Some, None, Ok, refl, ap, subst, map, take, length}
-use Rattle.std.proofs.lemmas.List.{take_all}
+use Rattle.std.proofs.Common.{◌≡◌, ◌∙◌, ◌<◌, ◌≤◌, ◌+◌, ℕ, List, [], ◌∷◌, ◌++◌, get_or, sym, Option, Some, None, Ok, refl, ap, subst, map, take, length}
+use Rattle.std.proofs.lemmas.List.{take_all, take_more, map_push}
 use Rattle.std.specs.Prelude.{IfSome, Vec}
 use Rattle.std.specs.Option.{option_map}
 use Rattle.std.specs.declared.alloc.Global.{Global}
@@ -40,6 +40,14 @@ slot_held None path name f found v bytes named told is same = tt
 slot_held (Some fs) path name f found v bytes named told is same =
     ap slot.Held same
     ∙ held_slot v.items (file_at fs path (file_name f)) (subst (λ (o : Option (Vec ℕ Global)). ReadsFile (Some fs) path (file_name f) file_limit (Ok o)) is (found_at fs path name f found named told))
+
+pub slots_more : (files : Option (List StoredFile)) (path : List ℕ) (names : List File) (n : ℕ) (f : File) (slots items : List Slot) (slot : Slot) → n < length names
+    → IfSome files (λ fs. slots ≡ map (slot_at fs path) (take n names)) → IfSome files (λ fs. slot ≡ slot_at fs path (get_or names n f)) → items ≡ slots ++ slot ∷ []
+    → IfSome files (λ fs. items ≡ map (slot_at fs path) (take (n + 1) names))
+slots_more None path names n f slots items slot within told one pushed = tt
+slots_more (Some fs) path names n f slots items slot within told one pushed =
+    pushed ∙ ap (λ (l : List Slot). l ++ slot ∷ []) told ∙ ap (λ (x : Slot). map (slot_at fs path) (take n names) ++ x ∷ []) one
+    ∙ sym (map_push (slot_at fs path) (take n names) (get_or names n f)) ∙ ap (λ (ns : List File). map (slot_at fs path) ns) (sym (take_more names n f within))
 
 pub slots_whole : (files : Option (List StoredFile)) (path : List ℕ) (names : List File) (slots : List Slot) (n : ℕ) → length names ≤ n
     → IfSome files (λ fs. slots ≡ map (slot_at fs path) (take n names)) → IfSome files (λ fs. slots ≡ map (slot_at fs path) names)

@@ -1,6 +1,7 @@
 //! Folders of files.
 
-ghost use Rattle.std.specs.Prelude.{◌≡◌, ℕ, ◌^◌, ◌<◌, List, Option};
+ghost use Rattle.std.specs.Prelude.{◌≡◌, ℕ, ◌^◌, ◌<◌, List, [], ◌∷◌, Option};
+ghost use Rattle.venue_ports.specs.Asked.{AskedFile, HaveAsked, has_failed};
 ghost use Rattle.venue_ports.specs.Files.{StoredFile, ReadsFile, HasReadCause};
 ghost use Rattle.venue_ports.specs.declared.folders.ReadFault.TheVariants.{OutOfMemory};
 
@@ -36,6 +37,9 @@ pub trait Folders {
     /// The files, where they are told.
     ghost files: { Self → Option (List StoredFile) };
 
+    /// The reads that were asked for so far, in order, where they are told.
+    ghost asked: { Self → Option (List AskedFile) };
+
     /// How often a read has failed.
     ghost faults: { Self → ℕ };
 
@@ -54,5 +58,6 @@ pub trait Folders {
         requires { most < 2 ^ 32 }
         ensures bytes { ReadsFile (files self.old) folder.now file.now most result }
         ensures same { files self.new ≡ files self.old }
+        ensures asked { HaveAsked (record { folder = folder.now; file = file.now; failed = has_failed result } ∷ []) (asked self.old) (asked self.new) }
         ensures cause { HasReadCause (faults self.old) (faults self.new) result };
 }

@@ -13,6 +13,7 @@ mod memory_stream;
 mod outside;
 mod plan;
 mod quiet;
+mod read_log;
 mod reports;
 mod room;
 mod sockets;
@@ -23,7 +24,7 @@ mod waits;
 
 pub use doors::Doors;
 pub use folders::{Folders, ReadFault};
-pub use laws::same_files_law;
+pub use laws::{asked_law, same_files_law};
 pub use memory::OutOfMemory;
 pub use memory_doors::MemoryDoors;
 pub use memory_folders::{MemoryFile, MemoryFolders};

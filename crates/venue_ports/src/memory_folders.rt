@@ -1,7 +1,8 @@
 //! Folders in memory.
 
-ghost use Rattle.std.specs.Prelude.{◌≡◌, ℕ, ◌+◌, ◌^◌, ◌<◌, ◌↔◌, List, Some, IfOk, IsErr, IsOk, IsErrOf, IsSome};
+ghost use Rattle.std.specs.Prelude.{◌≡◌, ℕ, ◌+◌, ◌^◌, ◌<◌, ◌↔◌, List, [], ◌∷◌, Some, IfOk, IsErr, IsOk, IsErrOf, IsSome};
 ghost use Rattle.std.specs.Option.{option_map};
+ghost use Rattle.venue_ports.specs.Asked.{HaveAsked, has_failed};
 ghost use Rattle.venue_ports.specs.Causes.{one_more};
 ghost use Rattle.venue_ports.specs.Files.{file_at, has_names, ReadsFile, HasReadCause};
 ghost use Rattle.venue_ports.specs.Plans.{FailsNext, called, fresh};
@@ -10,6 +11,7 @@ ghost use Rattle.venue_ports.specs.Stored.{stored_file, stored_files};
 use crate::folders::{Folders, ReadFault};
 use crate::memory::OutOfMemory;
 use crate::plan::CallPlan;
+use crate::read_log::ReadLog;
 use std::alloc::Global;
 
 /// A file with its names.
@@ -25,22 +27,26 @@ pub struct MemoryFile {
 pub struct MemoryFolders {
     files: Vec<MemoryFile>,
     reads: CallPlan,
+    asked: ReadLog,
     faults: u64,
 }
 
 impl MemoryFolders {
-    ghost use Rattle.venue_ports.specs.InMemory.{memory_files, memory_reads, memory_faults};
+    ghost use Rattle.venue_ports.specs.InMemory.{memory_files, memory_asked, memory_reads, memory_faults};
 
     /// The last of two files with equal names counts. The reads with these numbers, from 1, fail. Takes no memory.
     pub fn new(files: Vec<MemoryFile>, failing: Vec<u64>) -> Result<MemoryFolders, OutOfMemory>
         ensures succeeds { IsOk result }
         ensures files { IfOk result (λ f. memory_files f ≡ Some (stored_files files.items)) }
         ensures reads { IfOk result (λ f. memory_reads f ≡ fresh failing.items) }
+        ensures asked { IfOk result (λ f. memory_asked f ≡ Some []) }
         ensures faults { IfOk result (λ f. memory_faults f ≡ 0) }
     {
+        let asked = ReadLog::new(*files.allocator());
         Ok(MemoryFolders {
             files,
             reads: CallPlan::new(failing),
+            asked,
             faults: 0,
         })
     }
@@ -89,9 +95,11 @@ pub(crate) fn read_memory(
 }
 
 impl Folders for MemoryFolders {
-    ghost use Rattle.venue_ports.specs.InMemory.{memory_files, memory_reads, memory_faults};
+    ghost use Rattle.venue_ports.specs.InMemory.{memory_files, memory_asked, memory_reads, memory_faults};
 
     ghost files = { memory_files };
+
+    ghost asked = { memory_asked };
 
     ghost faults = { memory_faults };
 
@@ -109,6 +117,7 @@ impl Folders for MemoryFolders {
         requires { most < 2 ^ 32 }
         ensures bytes { ReadsFile (memory_files self.old) folder.now file.now most result }
         ensures same { memory_files self.new ≡ memory_files self.old }
+        ensures asked { HaveAsked (record { folder = folder.now; file = file.now; failed = has_failed result } ∷ []) (memory_asked self.old) (memory_asked self.new) }
         ensures cause { HasReadCause (memory_faults self.old) (memory_faults self.new) result }
 
         ensures fails { IsErrOf result ReadFault.Failed ↔ FailsNext (memory_reads self.old) }
@@ -116,7 +125,9 @@ impl Folders for MemoryFolders {
         ensures called { memory_reads self.new ≡ called (memory_reads self.old) }
         ensures memory { IsErrOf result ReadFault.OutOfMemory → IsSome (file_at (stored_files self.old.files.items) folder.now file.now) }
     {
-        if self.reads.fails() {
+        let fails = self.reads.fails();
+        self.asked.note(alloc, folder, file, fails);
+        if fails {
             self.faults = self.faults.saturating_add(1);
             return Err(ReadFault::Failed);
         }

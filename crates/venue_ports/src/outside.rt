@@ -53,6 +53,8 @@ fn read_cut<R: Files>(rt: &R, alloc: Global, path: &str, most: u64) -> io::Resul
 impl<R: Files> Folders for DirFolders<R> {
     ghost files = { λ _. None };
 
+    ghost asked = { λ _. None };
+
     ghost faults = { λ d. d.faults };
 
     fn fault_count(&self) -> u64 {

@@ -1,6 +1,6 @@
 //! Folders and doors in memory that never fail.
 
-ghost use Rattle.std.specs.Prelude.{◌≡◌, ℕ, ◌^◌, ◌<◌, ◌≤◌, List, [], Some, IfOk, IsOk, IsOkAnd, IsErr, IsErrOf, IsSome, OnOk, OnErr, Bool, length, true, false};
+ghost use Rattle.std.specs.Prelude.{◌≡◌, ℕ, ◌^◌, ◌<◌, ◌≤◌, List, [], Some, None, IfOk, IsOk, IsOkAnd, IsErr, IsErrOf, IsSome, OnOk, OnErr, Bool, length, true, false};
 ghost use Rattle.std.specs.Option.{option_map};
 ghost use Rattle.venue_ports.specs.Causes.{one_more, HasExactCause};
 ghost use Rattle.venue_ports.specs.Files.{file_at, ReadsFile, HasReadCause};
@@ -37,6 +37,8 @@ impl Folders for QuietFolders {
     ghost use Rattle.venue_ports.specs.InMemory.{quiet_files};
 
     ghost files = { quiet_files };
+
+    ghost asked = { λ _. None };
 
     ghost faults = { λ _. 0 };
 
