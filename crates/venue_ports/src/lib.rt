@@ -2,6 +2,7 @@
 //! implements them in memory and for real.
 #![tactic(auto)]
 
+mod disk;
 mod doors;
 mod folders;
 mod laws;
@@ -21,6 +22,7 @@ mod tcp;
 mod tcp_link;
 mod waits;
 
+pub use disk::{Disk, Disks};
 pub use doors::Doors;
 pub use folders::{Folders, ReadFault};
 pub use laws::same_files_law;
