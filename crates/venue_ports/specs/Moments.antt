@@ -73,7 +73,7 @@ pub record HasSynced (now next : Moment) : Type 0 where
 -- what any call may make of the newest moment
 pub data IsStep (now next : Moment) : Type 0 where
   has_stayed : HasStayed now next → IsStep now next
-  has_written : (at : ℕ) (piece : List ℕ) → HasWritten at piece now next → IsStep now next
+  has_written : (at : ℕ) (piece : List ℕ) → at ≤ length now.reads → HasWritten at piece now next → IsStep now next
   may_have_written : (at : ℕ) (piece : List ℕ) → MayHaveWritten at piece now next → IsStep now next
   has_synced : HasSynced now next → IsStep now next
 
