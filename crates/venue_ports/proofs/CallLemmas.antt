@@ -71,7 +71,7 @@ pub kept_noted : (r : DiskRecord) (reads : List ℕ) (call : DiskCall) (calls : 
 kept_noted r reads call calls kept is none other =
     let before : List Moment = moments_of r.first r.calls r.put in
     let more : moments_of r.first (r.calls ++ call ∷ []) r.put ≡ add_call call [] before =
-        ap (λ (l : List ℕ). moments_of r.first (r.calls ++ call ∷ []) l) (sym (append-nil r.put)) ∙ add_calls-push r.calls call r.put [] (first_moment r.first ∷ []) kept.counts none in
+    ap (λ (l : List ℕ). moments_of r.first (r.calls ++ call ∷ []) l) (sym (append-nil r.put)) ∙ add_calls-push r.calls call r.put [] (first_moment r.first ∷ []) kept.counts none in
     record {
       counts = ap count_put is ∙ count_put-push r.calls call ∙ omega (arith, none, kept.counts);
       content = kept.content ∙ sym (ap (λ (l : List DiskCall). newest_reads (moments_of r.first l r.put)) is ∙ ap newest_reads more ∙ reads_stay call [] before other);
@@ -101,8 +101,8 @@ pub kept_written : (r : DiskRecord) (reads : List ℕ) (call : DiskCall) (calls 
 kept_written r reads call calls put all kept is whole size write within room =
     let before : List Moment = moments_of r.first r.calls r.put in
     let more : moments_of r.first calls all ≡ add_call call put before =
-        ap (λ (l : List DiskCall). moments_of r.first l all) is ∙ ap (λ (l : List ℕ). moments_of r.first (r.calls ++ call ∷ []) l) whole
-        ∙ add_calls-push r.calls call r.put put (first_moment r.first ∷ []) kept.counts size in
+    ap (λ (l : List DiskCall). moments_of r.first l all) is ∙ ap (λ (l : List ℕ). moments_of r.first (r.calls ++ call ∷ []) l) whole
+    ∙ add_calls-push r.calls call r.put put (first_moment r.first ∷ []) kept.counts size in
     let long : length all ≡ length r.put + length put = ap length whole ∙ length-append r.put put in
     record {
       counts = ap count_put is ∙ count_put-push r.calls call ∙ omega (arith, size, kept.counts, long);

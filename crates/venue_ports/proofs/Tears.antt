@@ -7,7 +7,7 @@ use Rattle.venue_ports.specs.Moments.{Range, Moment, IsTorn, IsLeft, Leaves, IsS
 pub length-with_piece : (old : List ℕ) (at : ℕ) (piece : List ℕ) → at ≤ length old → length (with_piece old at piece) ≡ max (length old) (at + length piece)
 length-with_piece old at piece le =
     let whole : length (with_piece old at piece) ≡ length (take at old) + (length piece + length (drop (at + length piece) old)) =
-        length-append (take at old) (piece ++ drop (at + length piece) old) ∙ ap (λ n. length (take at old) + n) (length-append piece (drop (at + length piece) old)) in
+    length-append (take at old) (piece ++ drop (at + length piece) old) ∙ ap (λ n. length (take at old) + n) (length-append piece (drop (at + length piece) old)) in
     let front : length (take at old) ≡ min at (length old) = length-take at old in
     let back : length (drop (at + length piece) old) ≡ length old - (at + length piece) = length-drop (at + length piece) old in
     omega (arith, whole, front, back, le)
@@ -21,18 +21,17 @@ torn_by_piece old at count piece le fits =
     let reach : min at (length old) ≡ at = omega (arith, le) in
     let rest : drop at (with_piece old at piece) ≡ piece ++ drop (at + n) old = drop_at (take at old) (piece ++ drop (at + n) old) at taken in
     let later : drop (at + n) (with_piece old at piece) ≡ drop (at + n) old =
-        sym (drop-drop n at (with_piece old at piece)) ∙ ap (drop n) rest ∙ drop_at piece (drop (at + n) old) n refl in
+    sym (drop-drop n at (with_piece old at piece)) ∙ ap (drop n) rest ∙ drop_at piece (drop (at + n) old) n refl in
     let more : (at + n) + (count - n) ≡ at + count = omega (arith, fits) in
     let behind : drop (at + count) (with_piece old at piece) ≡ drop (at + count) old =
-        ap (λ k. drop k (with_piece old at piece)) (sym more) ∙ sym (drop-drop (count - n) (at + n) (with_piece old at piece)) ∙ ap (drop (count - n)) later
-        ∙ drop-drop (count - n) (at + n) old ∙ ap (λ k. drop k old) more in
+    ap (λ k. drop k (with_piece old at piece)) (sym more) ∙ sym (drop-drop (count - n) (at + n) (with_piece old at piece)) ∙ ap (drop (count - n)) later
+    ∙ drop-drop (count - n) (at + n) old ∙ ap (λ k. drop k old) more in
     record {
       front = ap (λ k. take k (with_piece old at piece)) reach ∙ take_at (take at old) (piece ++ drop (at + n) old) at taken;
       behind = ap (take (length old - (at + count))) behind ∙ take_all (length old - (at + count)) (drop (at + count) old) (omega (arith, length-drop (at + count) old));
       no_shorter = omega (arith, long);
       no_longer = omega (arith, long, fits);
     }
-
 
 -- a place outside the range keeps its byte
 tear_keeps : (range : Range) (old new : List ℕ) (place : ℕ) → place < length old → (place < range.at) ⊎ (range.at + range.count ≤ place) → IsTorn range old new → get_or new place 0 ≡ get_or old place 0

@@ -92,8 +92,9 @@ impl<R: Files<File = File>> Disks for FileDisks<R> {
         ensures counted { OnErr result (self.new.faults ≡ one_more self.old.faults) }
     {
         let mut buf = [0; LONGEST];
-        let opened = journal_path(&mut buf, base, name)
-            .and_then(|path| open_locked(&self.rt, base, path));
+        let opened = journal_path(&mut buf, base, name).and_then(|path| open_locked(
+            &self.rt, base, path,
+        ));
         match opened {
             Ok(file) => Ok(FileDisk::new(file)),
             Err(_) => {

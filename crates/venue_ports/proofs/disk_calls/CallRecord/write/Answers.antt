@@ -14,8 +14,8 @@ put-requires-clause-within c =
 pub put-requires-clause-fits : goal.put-requires-clause-fits
 put-requires-clause-fits c =
     let within : c.args.call.at ≤ length c.self.inside.reads.bytes =
-        of_content (λ (l : List ℕ). c.args.call.at ≤ length l) _ _ c.self.invariant.3 (ap is_full c.self.view_is ∙ sym c.is_full.ensures.exact ∙ c.if-is_full.false)
-        (subst (λ (r : DiskRecord). Now (λ m. c.args.call.at ≤ length m.reads) (record_moments r)) (sym c.self.view_is) c.requires.within) in
+    of_content (λ (l : List ℕ). c.args.call.at ≤ length l) _ _ c.self.invariant.3 (ap is_full c.self.view_is ∙ sym c.is_full.ensures.exact ∙ c.if-is_full.false)
+    (subst (λ (r : DiskRecord). Now (λ m. c.args.call.at ≤ length m.reads) (record_moments r)) (sym c.self.view_is) c.requires.within) in
     let fits = subst (λ (r : DiskRecord). c.args.call.put ≤ bytes_left r) (sym c.self.view_is) c.requires.fits in
     let size : length (take c.args.call.put c.args.piece.now) ≤ c.args.call.put = omega (arith, length-take c.args.call.put c.args.piece.now) in
     omega (arith, within, fits, size, c.self.invariant.1, c.self.invariant.3.room, c.self.invariant.3.fits)
@@ -24,8 +24,8 @@ pub invariant_of-self-2 : goal.invariant_of-self-2
 invariant_of-self-2 c =
     let x = take c.args.call.put c.args.piece.now in
     let within : c.args.call.at ≤ length c.self.inside.reads.bytes =
-        of_content (λ (l : List ℕ). c.args.call.at ≤ length l) _ _ c.self.invariant.3 (ap is_full c.self.view_is ∙ sym c.is_full.ensures.exact ∙ c.if-is_full.false)
-        (subst (λ (r : DiskRecord). Now (λ m. c.args.call.at ≤ length m.reads) (record_moments r)) (sym c.self.view_is) c.requires.within) in
+    of_content (λ (l : List ℕ). c.args.call.at ≤ length l) _ _ c.self.invariant.3 (ap is_full c.self.view_is ∙ sym c.is_full.ensures.exact ∙ c.if-is_full.false)
+    (subst (λ (r : DiskRecord). Now (λ m. c.args.call.at ≤ length m.reads) (record_moments r)) (sym c.self.view_is) c.requires.within) in
     let fits = subst (λ (r : DiskRecord). c.args.call.put ≤ bytes_left r) (sym c.self.view_is) c.requires.fits in
     let size : c.args.call.put ≡ length x = omega (arith, length-take c.args.call.put c.args.piece.now, c.requires.put) in
     let pushed : c.push.new.self.items ≡ c.self.inside.calls.items ++ c.args.call ∷ [] = grind (arith, common_steps) in
@@ -35,8 +35,7 @@ invariant_of-self-2 c =
     let rooms = ap (λ (h : Held). h.room) appended in
     let put_room = ap (λ (h : Held). h.room) c.put.ensures in
     let kept = kept_appended c.self.inside.first c.self.inside.most c.self.inside.bytes c.append.new.self c.self.inside.calls.items c.push.new.self.items c.self.inside.ended c.self.inside.reads.bytes c.args.call x
-        c.self.invariant.0 appended c.self.invariant.3 pushed size c.requires.write within (omega (arith, size, fits)) in
-    (
+    c.self.invariant.0 appended c.self.invariant.3 pushed size c.requires.write within (omega (arith, size, fits)) in (
       omega (arith, longer, c.self.invariant.0),
       put_room ∙ c.self.invariant.1 ∙ sym rooms,
       omega arith,
