@@ -10,7 +10,7 @@ use std::alloc::Global;
 use std::marker::Model;
 
 /// What a call on a disk was.
-#[derive(Clone, Copy, Debug, PartialEq, Eq)]
+#[derive(Clone, Copy, PartialEq, Eq)]
 pub enum DiskCallKind {
     Len,
     Read,
@@ -19,7 +19,7 @@ pub enum DiskCallKind {
 }
 
 /// A call on a disk, and how it ended.
-#[derive(Clone, Copy, Debug, PartialEq, Eq)]
+#[derive(Clone, Copy)]
 pub struct DiskCall {
     pub kind: DiskCallKind,
     /// The place of the first byte of a read or a write, else 0.

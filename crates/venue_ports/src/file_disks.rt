@@ -9,7 +9,7 @@ use crate::file_disk::FileDisk;
 use crate::stream::Failed;
 use std::fs::{File, OpenOptions};
 use std::rt::Files;
-use std::str;
+use std::{io, str};
 
 // How many bytes the longest path has: a folder, a slash, a name, and what all journals end with.
 const LONGEST: usize = 1024 + 1 + 64 + 8;
@@ -52,19 +52,17 @@ fn journal_path<'a>(buf: &'a mut [u8; LONGEST], base: &str, name: &str) -> Resul
     let len = append(buf, len, "/");
     let len = append(buf, len, name);
     let len = append(buf, len, ".journal");
-    str::from_utf8(&buf[..len]).map_err(|_| Failed)
+    match str::from_utf8(&buf[..len]) {
+        Ok(path) => Ok(path),
+        Err(_) => Err(Failed),
+    }
 }
 
 // Opens a file that is there and takes its lock. Its folder is synced, so that a file made a moment ago keeps its name.
-fn open_locked<R: Files<File = File>>(rt: &R, base: &str, path: &str) -> Result<File, Failed> {
-    let file = OpenOptions::new()
-        .read(true)
-        .write(true)
-        .open(rt, path)
-        .map_err(|_| Failed)?;
-    file.try_lock().map_err(|_| Failed)?;
-    let folder = File::open(rt, base).map_err(|_| Failed)?;
-    folder.sync_all().map_err(|_| Failed)?;
+fn open_locked<R: Files<File = File>>(rt: &R, base: &str, path: &str) -> io::Result<File> {
+    let file = OpenOptions::new().read(true).write(true).open(rt, path)?;
+    file.try_lock()?;
+    File::open(rt, base)?.sync_all()?;
     Ok(file)
 }
 
@@ -92,15 +90,12 @@ impl<R: Files<File = File>> Disks for FileDisks<R> {
         ensures counted { OnErr result (self.new.faults ≡ one_more self.old.faults) }
     {
         let mut buf = [0; LONGEST];
-        let opened = journal_path(&mut buf, base, name).and_then(|path| open_locked(
-            &self.rt, base, path,
-        ));
-        match opened {
-            Ok(file) => Ok(FileDisk::new(file)),
-            Err(_) => {
-                self.faults = self.faults.saturating_add(1);
-                Err(Failed)
+        if let Ok(path) = journal_path(&mut buf, base, name) {
+            if let Ok(file) = open_locked(&self.rt, base, path) {
+                return Ok(FileDisk::new(file));
             }
         }
+        self.faults = self.faults.saturating_add(1);
+        Err(Failed)
     }
 }
