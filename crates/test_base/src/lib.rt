@@ -8,6 +8,8 @@ mod certificates;
 #[cfg(test)]
 mod decimals;
 #[cfg(test)]
+mod disks;
+#[cfg(test)]
 mod json_texts;
 #[cfg(test)]
 mod lines;

@@ -59,8 +59,8 @@ fn has_names(stored: &MemoryFile, folder: &str, file: &str) -> bool
     stored.folder.as_str() == folder && stored.file.as_str() == file
 }
 
-// The bytes of the last file with these names.
-fn last_bytes<'a>(files: &'a [MemoryFile], folder: &str, file: &str) -> Option<&'a [u8]>
+/// The bytes of the last file with these names.
+pub(crate) fn last_bytes<'a>(files: &'a [MemoryFile], folder: &str, file: &str) -> Option<&'a [u8]>
     ensures { option_map (λ x. x.now) result ≡ file_at (stored_files files.now) folder.now file.now }
 {
     let mut found = None;

@@ -1,7 +1,8 @@
 //! Room for bytes that is made once.
 
-ghost use Rattle.std.specs.Prelude.{◌≡◌, ◌≤◌, ◌++◌, [], IfOk, IsOk, OnOk, min, take, length, vec_len};
+ghost use Rattle.std.specs.Prelude.{◌≡◌, ◌+◌, ◌≤◌, ◌++◌, [], IfOk, IsOk, OnOk, min, take, length, vec_len};
 ghost use Rattle.std.specs.Vec.{vec_capacity};
+ghost use Rattle.venue_ports.specs.Moments.{with_piece};
 ghost use Rattle.venue_ports.specs.Plans.{Held, room_left};
 
 use crate::memory::OutOfMemory;
@@ -67,5 +68,16 @@ impl Room {
             Ok(()) => count,
             Err(_) => 0,
         }
+    }
+
+    /// Writes over what is there and past its end, where there is room.
+    pub(crate) fn put(&mut self, at: usize, piece: &[u8])
+        requires within { at ≤ length self.old.bytes }
+        requires fits { at + length piece.now ≤ self.old.room }
+        ensures { self.new ≡ record self.old { bytes = with_piece self.old.bytes at piece.now } }
+    {
+        let over = (self.bytes.len() - at).min(piece.len());
+        self.bytes[at..at + over].copy_from_slice(&piece[..over]);
+        self.append(&piece[over..]);
     }
 }
