@@ -1,7 +1,9 @@
 pub mod Answers
+pub mod Reaches
 pub mod Labels
 pub mod Waiting
 pub mod States
+pub mod Tallies
 pub mod Scans
 pub mod Trails
 pub use Rattle.link_graph.specs.Nodes
