@@ -1,5 +1,5 @@
 -- What a search knows of nodes: the least costs of walks that it found, and how these end. The code's own machinery.
-use Rattle.std.specs.Prelude.{◌≡◌, ℕ, ◌+◌, ◌-◌, ◌^◌, ◌<◌, ◌≤◌, List, length, Option, Some, None, slice_index_or}
+use Rattle.std.specs.Prelude.{◌≡◌, ℕ, ◌+◌, ◌-◌, ◌^◌, ◌<◌, ◌≤◌, List, length, Some, None, slice_index_or}
 use Rattle.venue_types.specs.declared.link.Link.{Link}
 use Rattle.route_search.specs.declared.labels.Last.{Last}
 

@@ -1,19 +1,11 @@
 -- What a search with several ends hands out.
-use Rattle.std.specs.Prelude.{◌≡◌, ◌≢◌, ℕ, ◌-◌, ◌^◌, ◌<◌, ◌≤◌, Bool, true, List, AllPairs, Contains, Option, Some, None, length, nat_le, if◌then◌else◌}
+use Rattle.std.specs.Prelude.{◌≡◌, ◌≢◌, ℕ, ◌^◌, ◌<◌, Bool, true, List, AllPairs, Contains, Option, Some, length}
 use Rattle.venue_types.specs.declared.link.Link.{Link}
 use Rattle.walk_laws.specs.Reaches.{CostsLess, IsReach}
 use Rattle.link_graph.specs.Views.{link_view}
 use Rattle.route_search.specs.declared.reached.Reach.{Reach}
-use Rattle.route_search.specs.Labels.{no_cost, cost_at, AreOver}
-
--- the greatest cost that is handed out
-abbrev pub most : Option ℕ → ℕ
-most None = no_cost - 1
-most (Some bound) = bound
-
--- what is handed out of the cost that is known of a node: nothing above the bound, since such a walk need not be a least one
-unfoldable pub handed : Option ℕ → ℕ → Option ℕ
-handed bound cost = if nat_le cost (most bound) then Some cost else None
+use Rattle.route_search.specs.Handed.{handed}
+use Rattle.route_search.specs.Labels.{cost_at, AreOver}
 
 -- the cost below which everything is known; none where all that can be reached is known
 unfoldable pub bound_of : Reach → Option ℕ

@@ -7,6 +7,7 @@ mod families;
 mod found;
 mod frontier;
 mod growth;
+mod handed;
 mod labels;
 mod node_scan;
 mod passed_links;

@@ -1,10 +1,13 @@
 //! What a search knows, asked for.
 
+use crate::families::PassableLinks;
+use crate::handed::hand_out;
 use crate::labels::NO_COST;
 use crate::reached::Reach;
 use crate::trails::{nodes_below, potentials_below, walk_back};
 use std::alloc::Global;
 use venue_types::{Link, List, OutOfMemory, Potential};
+use walk_laws::reach_law;
 
 impl Reach {
     ghost use Rattle.std.specs.Prelude.{◌≡◌, ◌<◌, ◌≤◌, ◌↔◌, ℕ, List as AList, All, Contains, IfOk, None, Some, length};
@@ -19,6 +22,7 @@ impl Reach {
     ghost use Rattle.route_search.specs.Reaches.{IsReachOver, bound_of, cost_of, nodes_of};
 
     /// The cost below which everything is known, in centimetres; nothing where all that can be reached is known.
+    #[tactic(auto, unfolding(crate::specs::Reaches::bound_of))]
     pub fn bound(&self) -> Option<u64>
         ensures { result ≡ bound_of self.now }
     {
@@ -29,9 +33,10 @@ impl Reach {
     pub fn cost(&self, node: u32) -> Option<u64>
         ensures { result ≡ cost_of self.now node }
     {
-        let cost = *self.costs.get(node as usize)?;
-        let most = self.bound.unwrap_or(NO_COST - 1);
-        (cost <= most).then_some(cost)
+        match self.costs.get(node as usize) {
+            Some(cost) => hand_out(self.bound, *cost),
+            None => None,
+        }
     }
 
     /// A least walk to a node of which the cost is known. Takes time and memory in proportion to its links.
@@ -42,6 +47,7 @@ impl Reach {
             → IsLeast link_view (IsPassable network closed profile) from node walk cost) }
         ensures few { IfOk result (λ walk. length walk ≤ nodes_of self.now) }
     {
+        reach_law::<PassableLinks>();
         walk_back(alloc, &self.lasts, node)
     }
 

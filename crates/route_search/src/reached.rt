@@ -1,7 +1,8 @@
 //! What a search with several ends hands out.
 
-ghost use Rattle.std.specs.Prelude.{◌≤◌, length};
-ghost use Rattle.route_search.specs.Labels.{IsTree};
+ghost use Rattle.std.specs.Prelude.{◌<◌, ◌≤◌, length};
+ghost use Rattle.route_search.specs.Labels.{no_cost, IsTree};
+ghost use Rattle.route_search.specs.Handed.{most};
 
 use crate::labels::Last;
 
@@ -14,6 +15,7 @@ pub struct Reach {
     pub(crate) lasts: Vec<Last>,
     /// What would have come next costs so much; none where nothing was left.
     pub(crate) bound: Option<u64>,
+    pub(crate) ghost near: { most bound < no_cost },
     pub(crate) ghost few: { length costs.items ≤ 400000 },
     pub(crate) ghost tree: { IsTree (length costs.items) from costs.items lasts.items },
 }
