@@ -3,5 +3,7 @@
 
 mod graph_rows;
 mod graphs;
+mod reach_rows;
+mod reaches;
 mod search_rows;
 mod searches;
