@@ -13,7 +13,7 @@ use Rattle.venue_hall.specs.Answers.{IsTrip}
 use Rattle.venue_hall.specs.Changes.{Changes}
 use Rattle.venue_hall.specs.Closed.{Version}
 use Rattle.venue_hall.specs.Histories.{IsLegal, Replays}
-use Rattle.venue_hall.specs.Ways.{Usable, step_of}
+use Rattle.venue_hall.specs.Ways.{Usable, name_of, step_of}
 use Rattle.venue_hall.specs.Facts.{IsAnswered}
 use Rattle.wire_frames.specs.Frames.{IsShort, IsRefused}
 use Rattle.wire_frames.specs.declared.refusals.Refusal.{Refusal}
@@ -46,12 +46,12 @@ IsRight shelf worker before (Message.Refused refusal) (Of r) seen = r ≡ reply.
 IsRight shelf worker before (Message.Refused refusal) (No given) seen = given ≡ refusal
 IsRight shelf worker before _ _ seen = ⊥
 
--- a route is a walk over open links that the profile may use, and none costs less; where it is said that there is none, there is none;
--- the other replies tell of no walk, and one that is added needs its own equation
+-- a route is a walk from the start over open links that the profile may use, and none costs less; where it is said that there is none,
+-- there is none; the other replies tell of no walk, and one that is added needs its own equation
 abbrev pub TellsTheWay : List Entry → Response → Type 0
 TellsTheWay seen (Of (reply.Route number from to name start cost steps potentials)) =
     (v : Version) × (profile : Profile) × (a : ℕ) × (b : ℕ) × Replays seen v × (number ≡ v.number) × IsTrip v from to name profile a b
-    × (walk : List Link) × IsLeast link_view (Usable v profile) a b walk cost × (steps ≡ map (step_of v) walk)
+    × (walk : List Link) × IsLeast link_view (Usable v profile) a b walk cost × (start ≡ name_of v a) × (steps ≡ map (step_of v) walk)
 TellsTheWay seen (Of (reply.NoRoute number from to name reached)) =
     (v : Version) × (profile : Profile) × (a : ℕ) × (b : ℕ) × Replays seen v × (number ≡ v.number) × IsTrip v from to name profile a b
     × HasNoWalk link_view (Usable v profile) a b
