@@ -1,6 +1,6 @@
 -- What a search hands out, call by call.
 use Rattle.std.proofs.Common.{◌≡◌, ◌↔◌, ℕ, ◌^◌, ◌<◌, ◌≤◌, Bool, List, Option, Some, None, length, get_or, All, refl, sym, ap, subst, ◌∙◌, arith}
-use Rattle.std.specs.Prelude.{Contains}
+use Rattle.std.specs.Prelude.{Contains, IfSome}
 use Rattle.venue_types.specs.declared.link.Link.{Link}
 use Rattle.venue_types.specs.declared.link.Potential.{Potential}
 use Rattle.walk_laws.specs.Walks.{IsWalk, walk_cost}
@@ -91,6 +91,10 @@ call_reached_nodes reach costs reached same are = subst (λ (cs : List ℕ). All
 pub call_within : (reach : Reach) (n cost : ℕ) → cost_of reach n ≡ Some cost → IsWithin (bound_of reach) cost
 unfolding cost_of bound_of
 call_within reach n cost some = some_within reach.bound (cost_at reach.costs.items n) cost some
+
+pub call_low : (reach : Reach) (n : ℕ) (cost : Option ℕ) → cost ≡ cost_of reach n → IfSome cost (IsWithin (bound_of reach))
+call_low reach n None same = tt
+call_low reach n (Some cost) same = call_within reach n cost (sym same)
 
 -- ---- the search ended
 

@@ -10,7 +10,7 @@ use venue_types::{Link, List, OutOfMemory, Potential};
 use walk_laws::reach_law;
 
 impl Reach {
-    ghost use Rattle.std.specs.Prelude.{◌≡◌, ◌<◌, ◌≤◌, ◌↔◌, ℕ, List as AList, All, Contains, IfOk, None, Some, length};
+    ghost use Rattle.std.specs.Prelude.{◌≡◌, ◌<◌, ◌≤◌, ◌↔◌, ℕ, List as AList, All, Contains, IfOk, IfSome, None, Some, length};
     ghost use Rattle.std.specs.List.Sorted.{IsStrictlyIncreasing};
     ghost use Rattle.venue_types.specs.declared.feature_id.FeatureId.{FeatureId};
     ghost use Rattle.venue_types.specs.declared.link.Potential.{Potential as APotential};
@@ -31,7 +31,8 @@ impl Reach {
 
     /// The least cost of a walk to the node, where it is known; it is at most the bound.
     pub fn cost(&self, node: u32) -> Option<u64>
-        ensures { result ≡ cost_of self.now node }
+        ensures cost { result ≡ cost_of self.now node }
+        ensures low { IfSome result (IsWithin (bound_of self.now)) }
     {
         match self.costs.get(node as usize) {
             Some(cost) => hand_out(self.bound, *cost),
