@@ -1,5 +1,5 @@
 -- What is known between two nodes that are settled.
-use Rattle.std.proofs.Common.{◌≡◌, ◌≢◌, ◌⊎◌, inl, inr, ◌↔◌, ℕ, ◌+◌, ◌<◌, ◌≤◌, Bool, true, false, List, length, Option, Some, None, set, replicate, refl, sym, ap, subst, ◌∙◌, arith}
+use Rattle.std.proofs.Common.{◌≡◌, ◌≢◌, ◌⊎◌, inl, inr, ◌↔◌, ℕ, ◌+◌, ◌^◌, ◌<◌, ◌≤◌, Bool, true, false, List, length, Option, Some, None, set, replicate, refl, sym, ap, subst, ◌∙◌, arith}
 use Rattle.std.specs.Prelude.{Contains, slice_get}
 use Rattle.std.proofs.lemmas.List.{get_or-set_same, get_or-set_other, length-set, get_or-replicate, length-replicate, get_or_past}
 use Rattle.std.proofs.lemmas.Option.{slice_get_within}
@@ -8,20 +8,20 @@ use Rattle.venue_types.specs.declared.link.Link.{Link}
 use Rattle.link_graph.specs.Networks.{Network, links_out}
 use Rattle.route_search.specs.declared.labels.Last.{Last}
 use Rattle.route_search.specs.declared.state.State.{State}
-use Rattle.route_search.specs.Labels.{no_cost, cost_at, last_at, IsLabelled, Hops, IsTree, AreOver, IsRelaxed, IsFound, IsSpent}
+use Rattle.route_search.specs.Labels.{no_cost, cost_at, last_at, IsTree, AreOver, IsRelaxed, IsFound, IsSpent}
 use Rattle.route_search.specs.Waiting.{Waits, IsPopped}
-use Rattle.route_search.specs.States.{settled_at, open_sum, cost_in, last_in, settled_in, IsReached, IsRelaxedFrom, IsStep, IsFrom, ComesBy, IsEntry, Grows, IsBetween, IsBegun, IsEnded}
+use Rattle.route_search.specs.States.{settled_at, open_sum, cost_in, last_in, settled_in, IsReached, IsRelaxedFrom, IsStep, IsEmpty, IsFrom, ComesBy, IsEntry, Grows, IsBetween, IsBegun, IsEnded}
 use Rattle.route_search.specs.Scans.{HangsOn, IsAmid, IsLater, IsScanned}
 use Rattle.route_search.proofs.Covers.{out_place}
 use Rattle.route_search.proofs.Detours.{HasDetours, detour_relaxed}
 use Rattle.route_search.proofs.Lowered.{cost-set_same, cost-set_other}
 use Rattle.route_search.proofs.Sums.{open_sum-settle, ones_begun}
 
-settled-set_same : (settled : List Bool) (i : ℕ) (y : Bool) → i < length settled → settled_at (set settled i y) i ≡ y
+pub settled-set_same : (settled : List Bool) (i : ℕ) (y : Bool) → i < length settled → settled_at (set settled i y) i ≡ y
 unfolding settled_at
 settled-set_same settled i y within = get_or-set_same settled i y false within
 
-settled-set_other : (settled : List Bool) (i n : ℕ) (y : Bool) → n ≢ i → settled_at (set settled i y) n ≡ settled_at settled n
+pub settled-set_other : (settled : List Bool) (i n : ℕ) (y : Bool) → n ≢ i → settled_at (set settled i y) n ≡ settled_at settled n
 unfolding settled_at
 settled-set_other settled i n y other = get_or-set_other settled i n y false other
 
@@ -201,82 +201,94 @@ root_later from node more old new later root = record {
 
 -- ---- the end
 
-hopped : (IsLink : Link → Type 0) (state : State) (from n : ℕ) (by : Option Link) → IsReached state n → (by ≡ None → n ≡ from) → ComesBy IsLink state n by → Hops state.costs.items state.lasts.items from n by
-hopped IsLink state from n None is only empty = record { node = only refl; cost = empty.cost; depth = empty.depth }
-hopped IsLink state from n (Some link) is only step =
-    record { to = step.to; before = (let low : cost_in state n < no_cost = is in let goal : cost_in state link.from < no_cost = omega (arith, step.cost) in goal); cost = step.cost; depth = step.depth }
+module _ (IsLink : Link → Type 0) (nodes from now : ℕ) (state : State) (short : (link : Link) → IsLink link → link.cost ≤ 6700000) (root : IsFrom from state)
+    (tree : Grows IsLink nodes state now) where
+  empty_at : (n : ℕ) → IsReached state n → (last_in state n).by ≡ None → IsEmpty state n
+  empty_at n is none = subst (λ (o : Option Link). ComesBy IsLink state n o) none (tree.comes n is)
 
-module _ (IsLink : Link → Type 0) (nodes from to now : ℕ) (state : State) (short : (link : Link) → IsLink link → link.cost ≤ 6700000) (root : IsFrom from state)
-    (tree : Grows IsLink nodes state now) (low : (n : ℕ) → IsReached state n → cost_in state n < cost_in state to → IsRelaxedFrom IsLink state n) where
+  step_at : (n : ℕ) (link : Link) → IsReached state n → (last_in state n).by ≡ Some link → IsStep IsLink state n link
+  step_at n link is by = subst (λ (o : Option Link). ComesBy IsLink state n o) by (tree.comes n is)
+
+  small_at : (n : ℕ) → IsReached state n → cost_in state n < 2 ^ 42
+  small_at n is = let room = (tree.small n is).cost_room in omega (arith, room, tree.few)
+
   tree_of : IsTree nodes from state.costs.items state.lasts.items
   tree_of = record {
     costs_count = tree.costs_count;
     lasts_count = tree.lasts_count;
     start = root.start;
-    rooted = λ n is. hopped IsLink state from n (last_in state n).by is (root.only n is) (tree.comes n is);
-    small = λ n is. (let room = (tree.small n is).cost_room in omega (arith, room, tree.few));
+    first = λ n is none. (let empty = empty_at n is none in record { node = root.only n is none; cost = empty.cost; depth = empty.depth });
+    hop = λ n link is by.
+        (let step = step_at n link is by in
+        let low : cost_in state n < no_cost = is in
+        let before : cost_in state link.from < no_cost = omega (arith, step.cost) in
+        record { to = step.to; before = before; cost = step.cost; depth = step.depth });
+    small = small_at;
     shallow = λ n is. (let room = (tree.small n is).depth_room in omega (arith, room));
   }
 
   over : AreOver IsLink state.costs.items state.lasts.items
-  over n link is by = let step : IsStep IsLink state n link = subst (λ (o : Option Link). ComesBy IsLink state n o) by (tree.comes n is) in step.is
+  over n link is by = (step_at n link is by).is
 
-  spent_relaxed : ¬ IsReached state to → (link : Link) → IsLink link → IsReached state link.from → IsRelaxed state.costs.items link
-  spent_relaxed not_to link is known_from =
-      let low_from : cost_in state link.from < no_cost = known_from in
-      let less : cost_in state link.from < cost_in state to = elim (cases_lt (cost_in state to) no_cost) [ inl is_to ↦ absurd (not_to is_to) | inr none ↦ omega arith ] in
-      low link.from known_from less link is refl
-
-  spent_closed : ¬ IsReached state to → (link : Link) → IsLink link → IsReached state link.from → IsReached state link.to
-  spent_closed not_to link is known_from =
-      let relaxed : cost_in state link.to ≤ cost_in state link.from + link.cost = spent_relaxed not_to link is known_from in
-      let room = (tree.small link.from known_from).cost_room in
-      let goal : cost_in state link.to < no_cost = omega (arith, relaxed, room, tree.few, short link is) in
+  closed_at : (link : Link) → IsLink link → IsReached state link.from → IsRelaxed state.costs.items link → IsReached state link.to
+  closed_at link is known_from rises =
+      let relaxed : cost_in state link.to ≤ cost_in state link.from + link.cost = rises in
+      let low = small_at link.from known_from in
+      let goal : cost_in state link.to < no_cost = omega (arith, relaxed, low, short link is) in
       goal
 
-  pub ended : IsEnded IsLink nodes from to state
-  ended = record {
+  -- every node that costs less than the bound is relaxed
+  found_below : (bound : ℕ) → bound < 2 ^ 42 → ((n : ℕ) → IsReached state n → cost_in state n < bound → IsRelaxedFrom IsLink state n) → IsEnded IsLink nodes from (Some bound) state
+  found_below bound near low = record {
     tree = tree_of;
-    found = λ is_to. record {
+    near = λ cost same. (let is : bound ≡ cost = cc in omega (arith, is, near));
+    found = λ cost same. subst (λ (b : ℕ). IsFound IsLink b state.costs.items state.lasts.items) (let is : bound ≡ cost = cc in is) (record {
       over = over;
-      relaxed = λ link is less. (let known_to : cost_in state to < no_cost = is_to in let known_from : cost_in state link.from < no_cost = omega (arith, less) in low link.from known_from less link is refl);
-    };
-    spent = λ not_to. record { over = over; relaxed = spent_relaxed not_to; closed = spent_closed not_to };
+      relaxed = λ link is less. (let known : cost_in state link.from < no_cost = omega (arith, less, near) in low link.from known less link is refl);
+    });
+    spent = λ none. (let never : Some bound ≡ None = none in absurd cc);
   }
 
-ended_moved : (IsLink : Link → Type 0) (nodes from to : ℕ) (old new : State) → new.costs.items ≡ old.costs.items → new.lasts.items ≡ old.lasts.items → IsEnded IsLink nodes from to old
-    → IsEnded IsLink nodes from to new
-ended_moved IsLink nodes from to old new costs lasts was =
-    let parts : List ℕ → List Last → Type 0 = λ cs ls. IsTree nodes from cs ls × (IsLabelled cs to → IsFound IsLink to cs ls) × (¬ IsLabelled cs to → IsSpent IsLink cs ls) in
+  -- every node that is reached is relaxed
+  spent_all : ((n : ℕ) → IsReached state n → IsRelaxedFrom IsLink state n) → IsEnded IsLink nodes from None state
+  spent_all low = record {
+    tree = tree_of;
+    near = λ cost some. (let never : None ≡ Some cost = some in absurd cc);
+    found = λ cost some. (let never : None ≡ Some cost = some in absurd cc);
+    spent = λ none. record {
+      over = over;
+      relaxed = λ link is known. low link.from known link is refl;
+      closed = λ link is known. closed_at link is known (low link.from known link is refl);
+    };
+  }
+
+ended_moved : (IsLink : Link → Type 0) (nodes from : ℕ) (bound : Option ℕ) (old new : State) → new.costs.items ≡ old.costs.items → new.lasts.items ≡ old.lasts.items → IsEnded IsLink nodes from bound old
+    → IsEnded IsLink nodes from bound new
+ended_moved IsLink nodes from bound old new costs lasts was =
+    let parts : List ℕ → List Last → Type 0 = λ cs ls. IsTree nodes from cs ls × ((cost : ℕ) → bound ≡ Some cost → IsFound IsLink cost cs ls) × (bound ≡ None → IsSpent IsLink cs ls) in
     let moved : parts new.costs.items new.lasts.items = subst (λ (cs : List ℕ). parts cs new.lasts.items) (sym costs) (subst (λ (ls : List Last). parts old.costs.items ls) (sym lasts) (was.tree, was.found, was.spent)) in
-    record { tree = moved.0; found = moved.1; spent = moved.2 }
+    record { tree = moved.0; near = was.near; found = moved.1; spent = moved.2 }
 
 -- nothing waits
-pub ended_spent : (IsLink : Link → Type 0) (nodes from to : ℕ) (old new : State) → ((link : Link) → IsLink link → link.cost ≤ 6700000) → IsFrom from old → IsBetween IsLink nodes old
-    → ((c n : ℕ) → Waits old.frontier c n → ⊥) → new.costs.items ≡ old.costs.items → new.lasts.items ≡ old.lasts.items → IsEnded IsLink nodes from to new
-ended_spent IsLink nodes from to old new short root between none costs lasts =
-    ended_moved IsLink nodes from to old new costs lasts (ended IsLink nodes from to between.now old short root between.tree (λ n is less. elim (between.progress n is) [ inl waits ↦ absurd (none _ n waits) | inr was ↦ was ]))
+pub ended_spent : (IsLink : Link → Type 0) (nodes from : ℕ) (old new : State) → ((link : Link) → IsLink link → link.cost ≤ 6700000) → IsFrom from old → IsBetween IsLink nodes old
+    → ((c n : ℕ) → Waits old.frontier c n → ⊥) → new.costs.items ≡ old.costs.items → new.lasts.items ≡ old.lasts.items → IsEnded IsLink nodes from None new
+ended_spent IsLink nodes from old new short root between none costs lasts =
+    ended_moved IsLink nodes from None old new costs lasts (spent_all IsLink nodes from between.now old short root between.tree (λ n is. elim (between.progress n is) [ inl waits ↦ absurd (none _ n waits) | inr was ↦ was ]))
 
--- the end is the next of what waits
-pub ended_found : (IsLink : Link → Type 0) (nodes from to cost node : ℕ) (old new : State) → ((link : Link) → IsLink link → link.cost ≤ 6700000) → IsFrom from old → IsBetween IsLink nodes old
-    → IsPopped old.frontier new.frontier cost node → cost_in old node ≡ cost → node ≡ to → new.costs.items ≡ old.costs.items → new.lasts.items ≡ old.lasts.items → IsEnded IsLink nodes from to new
-ended_found IsLink nodes from to cost node old new short root between popped fresh same costs lasts =
-    let cost_to : cost_in old to ≡ cost = subst (λ (k : ℕ). cost_in old k ≡ cost) same fresh in
-    ended_moved IsLink nodes from to old new costs lasts (ended IsLink nodes from to between.now old short root between.tree (λ n is less. elim (between.progress n is) [
-      | inl waits ↦ absurd (omega (arith, popped.least _ n waits, cost_to, less))
+-- a node that waits at its cost is the next, and its cost the bound
+pub ended_found : (IsLink : Link → Type 0) (nodes from cost node : ℕ) (old new : State) → ((link : Link) → IsLink link → link.cost ≤ 6700000) → IsFrom from old → IsBetween IsLink nodes old
+    → IsPopped old.frontier new.frontier cost node → cost_in old node ≡ cost → new.costs.items ≡ old.costs.items → new.lasts.items ≡ old.lasts.items → IsEnded IsLink nodes from (Some cost) new
+ended_found IsLink nodes from cost node old new short root between popped fresh costs lasts =
+    let low = small_at IsLink nodes from between.now old short root between.tree node (between.tree.entries cost node popped.waited).known in
+    ended_moved IsLink nodes from (Some cost) old new costs lasts (found_below IsLink nodes from between.now old short root between.tree cost (omega (arith, low, fresh)) (λ n is less. elim (between.progress n is) [
+      | inl waits ↦ absurd (omega (arith, popped.least _ n waits, less))
       | inr was ↦ was
     ]))
 
 -- ---- the end, as it is handed out
 
-pub tree_as : (nodes from : ℕ) (costs costs' : List ℕ) (lasts lasts' : List Last) → costs' ≡ costs → lasts' ≡ lasts → IsTree nodes from costs lasts → IsTree (length costs') from costs' lasts'
-tree_as nodes from costs costs' lasts lasts' same_costs same_lasts tree =
-    let count : length costs' ≡ nodes = ap length same_costs ∙ tree.costs_count in
-    let moved : IsTree nodes from costs' lasts' = subst (λ (cs : List ℕ). IsTree nodes from cs lasts') (sym same_costs) (subst (λ (ls : List Last). IsTree nodes from costs ls) (sym same_lasts) tree) in
-    subst (λ (n : ℕ). IsTree n from costs' lasts') (sym count) moved
-
-pub few_as : (nodes from : ℕ) (costs costs' : List ℕ) (lasts : List Last) → costs' ≡ costs → nodes ≤ 400000 → IsTree nodes from costs lasts → length costs' ≤ 400000
-few_as nodes from costs costs' lasts same few tree = let count : length costs' ≡ nodes = ap length same ∙ tree.costs_count in omega arith
+pub tree_as : (nodes from : ℕ) (costs : List ℕ) (lasts : List Last) → IsTree nodes from costs lasts → IsTree (length costs) from costs lasts
+tree_as nodes from costs lasts tree = subst (λ (n : ℕ). IsTree n from costs lasts) (sym tree.costs_count) tree
 
 -- ---- the start
 

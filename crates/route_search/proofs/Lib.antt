@@ -9,9 +9,13 @@ pub mod Looked
 pub mod Walked
 pub mod Sums
 pub mod Between
+pub mod Tallies
 pub mod TrailLists
 pub mod TrailWalks
+pub mod HandedCosts
 pub mod TrailAnswers
+pub mod ReachCalls
+pub mod OneNode
 pub use Rattle.link_graph.proofs.Identifiers
 pub use Rattle.link_graph.proofs.Finding
 pub use Rattle.link_graph.proofs.Placed

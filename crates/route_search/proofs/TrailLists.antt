@@ -24,6 +24,11 @@ cost_within costs limit n most less = elim (cases_lt n (length costs)) [
   | inr past ↦ let none : get_or costs n no_cost ≡ no_cost = get_or_past costs n no_cost past in absurd (omega (arith, none, less, most))
 ]
 
+-- a number past the list costs none
+pub cost_past : (costs : List ℕ) (n : ℕ) → length costs ≤ n → cost_at costs n ≡ no_cost
+unfolding cost_at
+cost_past costs n past = get_or_past costs n no_cost past
+
 -- ---- nodes
 
 -- a node that costs no less is left out

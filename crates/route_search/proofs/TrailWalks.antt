@@ -1,12 +1,12 @@
 -- The walk back over the last links.
 use Rattle.std.proofs.Common.{◌≡◌, ℕ, zero, suc, ◌+◌, ◌<◌, List, [], ◌∷◌, ◌++◌, reverse, length, Option, Some, None, refl, sym, subst, ◌∙◌, arith}
 use Rattle.std.proofs.lemmas.List.{reverse-append}
-use Rattle.std.proofs.lemmas.List.Sums.{sum_by-cons}
+use Rattle.std.proofs.lemmas.List.Sums.{sum_by-cons, sum_by-append}
 use Rattle.venue_types.specs.declared.link.Link.{Link}
-use Rattle.walk_laws.specs.Walks.{IsWalk, walk_cost, HasWalk}
+use Rattle.walk_laws.specs.Walks.{IsWalk, walk_cost}
 use Rattle.link_graph.specs.Views.{link_view}
 use Rattle.route_search.specs.declared.labels.Last.{Last}
-use Rattle.route_search.specs.Labels.{IsTree, IsLabelled, IsFirst, IsHop, Hops, AreOver, last_at, no_cost}
+use Rattle.route_search.specs.Labels.{IsTree, IsLabelled, AreOver, cost_at, last_at, no_cost}
 use Rattle.route_search.specs.Trails.{IsLast, IsKnown, IsTrail}
 use Rattle.route_search.proofs.TrailLists.{cost_within}
 
@@ -19,18 +19,11 @@ pub record IsBack (costs : List ℕ) (lasts : List Last) (to here : ℕ) (back :
 pub labelled_within : (nodes from : ℕ) (costs : List ℕ) (lasts : List Last) (n : ℕ) → IsTree nodes from costs lasts → IsLabelled costs n → n < nodes
 labelled_within nodes from costs lasts n tree known = omega (arith, tree.costs_count, cost_within costs no_cost n (omega arith) known)
 
--- how the walk to a labelled node ends
-hop_of : (nodes from : ℕ) (costs : List ℕ) (lasts : List Last) (n : ℕ) (link : Link) → IsTree nodes from costs lasts → IsLabelled costs n → (last_at lasts n).by ≡ Some link → IsHop costs lasts n link
-hop_of nodes from costs lasts n link tree known by = subst (Hops costs lasts from n) by (tree.rooted n known)
-
-first_of : (nodes from : ℕ) (costs : List ℕ) (lasts : List Last) (n : ℕ) → IsTree nodes from costs lasts → IsLabelled costs n → (last_at lasts n).by ≡ None → IsFirst costs lasts from n
-first_of nodes from costs lasts n tree known by = subst (Hops costs lasts from n) by (tree.rooted n known)
-
 -- one link further back
 pub back_more : (lasts : List Last) (to here : ℕ) (link : Link) (back : List Link) (known : IsKnown lasts to) → (last_at lasts here).by ≡ Some link
     → IsBack known.costs lasts to here back → IsBack known.costs lasts to link.from (back ++ link ∷ [])
 back_more lasts to here link back known by is =
-    let hop = hop_of (length known.costs) known.from known.costs lasts here link known.tree is.known by in
+    let hop = known.tree.hop here link is.known by in
     let further = is.trail in
     let leads : IsWalk link_view (IsLast known.costs lasts) link.from to (link ∷ reverse back) = (
       record { node = here; known = is.known; by = by },
@@ -47,7 +40,7 @@ back_more lasts to here link back known by is =
 pub back_all : (lasts : List Last) (to here : ℕ) (back : List Link) (known : IsKnown lasts to) → (last_at lasts here).by ≡ None
     → IsBack known.costs lasts to here back → IsTrail known.costs lasts known.from to (reverse back)
 back_all lasts to here back known by is =
-    subst (λ (n : ℕ). IsTrail known.costs lasts n to (reverse back)) (first_of (length known.costs) known.from known.costs lasts here known.tree is.known by).node is.trail
+    subst (λ (n : ℕ). IsTrail known.costs lasts n to (reverse back)) (known.tree.first here is.known by).node is.trail
 
 -- the node is listed
 pub back_within : (lasts : List Last) (to here : ℕ) (back : List Link) (known : IsKnown lasts to) → IsBack known.costs lasts to here back → here < length lasts
@@ -56,7 +49,7 @@ back_within lasts to here back known is = omega (arith, known.tree.lasts_count, 
 -- one link fewer is left
 pub back_less : (lasts : List Last) (to here : ℕ) (link : Link) (back : List Link) (known : IsKnown lasts to) → (last_at lasts here).by ≡ Some link
     → IsBack known.costs lasts to here back → (last_at lasts link.from).depth < (last_at lasts here).depth
-back_less lasts to here link back known by is = omega (arith, (hop_of (length known.costs) known.from known.costs lasts here link known.tree is.known by).depth)
+back_less lasts to here link back known by is = omega (arith, (known.tree.hop here link is.known by).depth)
 
 -- ---- walks to labelled nodes
 
@@ -69,17 +62,29 @@ walk_push : (IsLink : Link → Type 0) (a b : ℕ) (walk : List Link) (link : Li
 walk_push IsLink a b [] link same is e = (is, e ∙ sym same, refl)
 walk_push IsLink a b (first ∷ rest) link walk is e = (walk.0, walk.1, walk_push IsLink first.to b rest link walk.2 is e)
 
+-- the cost of a walk with a link more
+push_cost : (walk : List Link) (link : Link) → walk_cost link_view (walk ++ link ∷ []) ≡ walk_cost link_view walk + link.cost
+push_cost walk link =
+    let joined : walk_cost link_view (walk ++ link ∷ []) ≡ walk_cost link_view walk + walk_cost link_view (link ∷ []) = sum_by-append link_view.cost walk (link ∷ []) in
+    let last : walk_cost link_view (link ∷ []) ≡ link.cost + 0 = sum_by-cons link_view.cost link [] in
+    omega (arith, joined, last)
+
+-- a walk over the family that costs what is known of its end
+abbrev pub HasKnownWalk : (Link → Type 0) → List ℕ → ℕ → ℕ → Type 0
+HasKnownWalk IsLink costs from n = (walk : List Link) × IsWalk link_view IsLink from n walk × (walk_cost link_view walk ≡ cost_at costs n)
+
 walk_by : (IsLink : Link → Type 0) (nodes from : ℕ) (costs : List ℕ) (lasts : List Last) → IsTree nodes from costs lasts → AreOver IsLink costs lasts
-    → (depth n : ℕ) (by : Option Link) → IsLabelled costs n → (last_at lasts n).depth ≡ depth → (last_at lasts n).by ≡ by → HasWalk link_view IsLink from n
-walk_by IsLink nodes from costs lasts tree over depth n None known deep by = ([], sym (first_of nodes from costs lasts n tree known by).node)
-walk_by IsLink nodes from costs lasts tree over zero n (Some link) known deep by = absurd (omega (arith, (hop_of nodes from costs lasts n link tree known by).depth))
+    → (depth n : ℕ) (by : Option Link) → IsLabelled costs n → (last_at lasts n).depth ≡ depth → (last_at lasts n).by ≡ by → HasKnownWalk IsLink costs from n
+walk_by IsLink nodes from costs lasts tree over depth n None known deep by = let first = tree.first n known by in ([], sym first.node, sym first.cost)
+walk_by IsLink nodes from costs lasts tree over zero n (Some link) known deep by = absurd (omega (arith, (tree.hop n link known by).depth))
 walk_by IsLink nodes from costs lasts tree over (suc depth) n (Some link) known deep by =
-    let hop = hop_of nodes from costs lasts n link tree known by in
-    let before = walk_by IsLink nodes from costs lasts tree over depth link.from (last_at lasts link.from).by hop.before (omega (arith, hop.depth)) refl in (
-      before.0 ++ link ∷ [],
-      subst (λ (k : ℕ). IsWalk link_view IsLink from k (before.0 ++ link ∷ [])) hop.to (walk_push IsLink from link.from before.0 link before.1 (over n link known by) refl),
+    let hop = tree.hop n link known by in
+    let (walk, leads, sum) = walk_by IsLink nodes from costs lasts tree over depth link.from (last_at lasts link.from).by hop.before (omega (arith, hop.depth)) refl in (
+      walk ++ link ∷ [],
+      subst (λ (k : ℕ). IsWalk link_view IsLink from k (walk ++ link ∷ [])) hop.to (walk_push IsLink from link.from walk link leads (over n link known by) refl),
+      omega (arith, push_cost walk link, sum, hop.cost),
     )
 
--- a walk leads to each labelled node
-pub has_walk : (IsLink : Link → Type 0) (nodes from : ℕ) (costs : List ℕ) (lasts : List Last) (n : ℕ) → IsTree nodes from costs lasts → AreOver IsLink costs lasts → IsLabelled costs n → HasWalk link_view IsLink from n
-has_walk IsLink nodes from costs lasts n tree over known = walk_by IsLink nodes from costs lasts tree over (last_at lasts n).depth n (last_at lasts n).by known refl refl
+-- a walk of its cost leads to each labelled node
+pub known_walk : (IsLink : Link → Type 0) (nodes from : ℕ) (costs : List ℕ) (lasts : List Last) (n : ℕ) → IsTree nodes from costs lasts → AreOver IsLink costs lasts → IsLabelled costs n → HasKnownWalk IsLink costs from n
+known_walk IsLink nodes from costs lasts n tree over known = walk_by IsLink nodes from costs lasts tree over (last_at lasts n).depth n (last_at lasts n).by known refl refl

@@ -1,5 +1,5 @@
 -- What a search knows of nodes: the least costs of walks that it found, and how these end. The code's own machinery.
-use Rattle.std.specs.Prelude.{◌≡◌, ℕ, ◌+◌, ◌-◌, ◌^◌, ◌<◌, ◌≤◌, List, length, Option, Some, None, slice_index_or}
+use Rattle.std.specs.Prelude.{◌≡◌, ℕ, ◌+◌, ◌-◌, ◌^◌, ◌<◌, ◌≤◌, List, length, Some, None, slice_index_or}
 use Rattle.venue_types.specs.declared.link.Link.{Link}
 use Rattle.route_search.specs.declared.labels.Last.{Last}
 
@@ -30,20 +30,13 @@ pub record IsHop (costs : List ℕ) (lasts : List Last) (n : ℕ) (link : Link) 
   pub cost : cost_at costs n ≡ cost_at costs link.from + link.cost
   pub depth : (last_at lasts n).depth ≡ (last_at lasts link.from).depth + 1
 
-abbrev pub Hops : List ℕ → List Last → ℕ → ℕ → Option Link → Type 0
-Hops costs lasts from n None = IsFirst costs lasts from n
-Hops costs lasts from n (Some link) = IsHop costs lasts n link
-
--- each known walk leads back to the start
-abbrev pub Rooted : List ℕ → List Last → ℕ → Type 0
-Rooted costs lasts from = (n : ℕ) → IsLabelled costs n → Hops costs lasts from n (last_at lasts n).by
-
 -- every known walk leads back to the start, costs little, and has no more links than there are nodes
 pub record IsTree (nodes from : ℕ) (costs : List ℕ) (lasts : List Last) : Type 0 where
   pub costs_count : length costs ≡ nodes
   pub lasts_count : length lasts ≡ nodes
   pub start : cost_at costs from ≡ 0
-  pub rooted : Rooted costs lasts from
+  pub first : (n : ℕ) → IsLabelled costs n → (last_at lasts n).by ≡ None → IsFirst costs lasts from n
+  pub hop : (n : ℕ) (link : Link) → IsLabelled costs n → (last_at lasts n).by ≡ Some link → IsHop costs lasts n link
   pub small : (n : ℕ) → IsLabelled costs n → cost_at costs n < 2 ^ 42
   pub shallow : (n : ℕ) → IsLabelled costs n → (last_at lasts n).depth ≤ nodes
 
@@ -55,12 +48,12 @@ AreOver IsLink costs lasts = (n : ℕ) (link : Link) → IsLabelled costs n → 
 abbrev pub IsRelaxed : List ℕ → Link → Type 0
 IsRelaxed costs link = cost_at costs link.to ≤ cost_at costs link.from + link.cost
 
--- the known walk to the end is a least one over the family: every link out of a node that costs less was regarded
-pub record IsFound (IsLink : Link → Type 0) (to : ℕ) (costs : List ℕ) (lasts : List Last) : Type 0 where
+-- what is known below the bound is least over the family: every link out of a node that costs less was regarded
+pub record IsFound (IsLink : Link → Type 0) (bound : ℕ) (costs : List ℕ) (lasts : List Last) : Type 0 where
   pub over : AreOver IsLink costs lasts
-  pub relaxed : (link : Link) → IsLink link → cost_at costs link.from < cost_at costs to → IsRelaxed costs link
+  pub relaxed : (link : Link) → IsLink link → cost_at costs link.from < bound → IsRelaxed costs link
 
--- there is none over the family: every link out of a known node was regarded, and its end is known
+-- all that can be reached is known over the family: every link out of a known node was regarded, and its end is known
 pub record IsSpent (IsLink : Link → Type 0) (costs : List ℕ) (lasts : List Last) : Type 0 where
   pub over : AreOver IsLink costs lasts
   pub relaxed : (link : Link) → IsLink link → IsLabelled costs link.from → IsRelaxed costs link

@@ -1,7 +1,10 @@
 pub mod Answers
+pub mod Reaches
 pub mod Labels
+pub mod Handed
 pub mod Waiting
 pub mod States
+pub mod Tallies
 pub mod Scans
 pub mod Trails
 pub use Rattle.link_graph.specs.Nodes

@@ -1,5 +1,5 @@
 -- What a search knows between two nodes that it settles, and how that changes. The code's own machinery.
-use Rattle.std.specs.Prelude.{◌≡◌, ◌⊎◌, ℕ, suc, ◌+◌, ◌*◌, ◌<◌, ◌≤◌, Bool, true, false, List, [], ◌∷◌, length, Option, Some, None, replicate, slice_index_or, slice_set, if◌then◌else◌}
+use Rattle.std.specs.Prelude.{◌≡◌, ◌⊎◌, ℕ, suc, ◌+◌, ◌*◌, ◌^◌, ◌<◌, ◌≤◌, Bool, true, false, List, [], ◌∷◌, length, Option, Some, None, replicate, slice_index_or, slice_set, if◌then◌else◌}
 use Rattle.venue_types.specs.declared.link.Link.{Link}
 use Rattle.route_search.specs.declared.frontier.Frontier.{Frontier}
 use Rattle.route_search.specs.declared.labels.Last.{Last}
@@ -97,11 +97,12 @@ pub record IsBegun (nodes from : ℕ) (state : State) : Type 0 where
   pub waits : Waits state.frontier 0 from
   pub only : (cost n : ℕ) → Waits state.frontier cost n → (0 ≡ cost) × (from ≡ n)
 
--- the known walk to the end is a least one, or there is none
-pub record IsEnded (IsLink : Link → Type 0) (nodes from to : ℕ) (state : State) : Type 0 where
+-- below the bound all is known, or there is no bound and all that can be reached is known
+pub record IsEnded (IsLink : Link → Type 0) (nodes from : ℕ) (bound : Option ℕ) (state : State) : Type 0 where
   pub tree : IsTree nodes from state.costs.items state.lasts.items
-  pub found : IsReached state to → IsFound IsLink to state.costs.items state.lasts.items
-  pub spent : ¬ IsReached state to → IsSpent IsLink state.costs.items state.lasts.items
+  pub near : (cost : ℕ) → bound ≡ Some cost → cost < 2 ^ 42
+  pub found : (cost : ℕ) → bound ≡ Some cost → IsFound IsLink cost state.costs.items state.lasts.items
+  pub spent : bound ≡ None → IsSpent IsLink state.costs.items state.lasts.items
 
 -- ---- a label
 

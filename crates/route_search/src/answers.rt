@@ -1,39 +1,29 @@
-//! From what a search knows at its end to its answer.
+//! From what a search for one node knows to its answer.
 
-ghost use Rattle.std.specs.Prelude.{◌<◌, ◌≤◌, ℕ, List, length, IfOk};
+ghost use Rattle.std.specs.Prelude.{◌≡◌, ℕ, List, None, Some, IfOk};
 ghost use Rattle.venue_types.specs.declared.feature_id.FeatureId.{FeatureId};
 ghost use Rattle.venue_types.specs.declared.settings.Profile.{Profile};
 ghost use Rattle.link_graph.specs.Networks.{Network, IsPassable};
 ghost use Rattle.route_search.specs.Answers.{IsAnswer, IsSmall};
-ghost use Rattle.route_search.specs.Labels.{IsTree, IsLabelled, IsFound, IsSpent};
+ghost use Rattle.route_search.specs.Reaches.{IsReachOver, IsSmallReach, bound_of, cost_of};
 
 use crate::families::{PassableLinks, RoutePotentials};
 use crate::found::Found;
-use crate::labels::{Last, NO_COST};
-use crate::trails::{nodes_below, potentials_below, walk_back};
+use crate::reached::Reach;
 use std::alloc::Global;
 use venue_types::OutOfMemory;
-use walk_laws::{cut_law, least_law, potential_law};
+use walk_laws::{below_law, reach_law};
 
 /// The walk to the end, and the potentials. Takes time and memory in proportion to the nodes.
-pub(crate) fn route(
-    alloc: Global,
-    costs: &[u64],
-    lasts: &[Last],
-    from: u32,
-    to: u32,
-) -> Result<Found, OutOfMemory>
-    requires few { length costs.now ≤ 400000 }
-    requires tree { IsTree (length costs.now) from costs.now lasts.now }
-    requires there { IsLabelled costs.now to }
-    ensures answer { IfOk result (λ found. (network : Network) (closed : List FeatureId) (profile : Profile) → IsFound (IsPassable network closed profile) to costs.now lasts.now → IsAnswer (IsPassable network closed profile) from to found) }
-    ensures small { IfOk result (IsSmall (length costs.now)) }
+pub(crate) fn route(alloc: Global, reach: &Reach, to: u32, cost: u64) -> Result<Found, OutOfMemory>
+    requires { cost_of reach.now to ≡ Some cost }
+    ensures answer { IfOk result (λ found. (network : Network) (closed : List FeatureId) (profile : Profile) (from : ℕ)
+        → IsReachOver (IsPassable network closed profile) from reach.now → IsAnswer (IsPassable network closed profile) from to found) }
+    ensures small { IfOk result (λ found. (nodes : ℕ) → IsSmallReach nodes reach.now → IsSmall nodes found) }
 {
-    least_law::<PassableLinks>();
-    potential_law::<RoutePotentials>();
-    let cost = costs[to as usize];
-    let walk = walk_back(alloc, lasts, to)?;
-    let potentials = potentials_below(alloc, costs, cost)?;
+    below_law::<PassableLinks, RoutePotentials>();
+    let walk = reach.walk(alloc, to)?;
+    let potentials = reach.costs_below(alloc, cost)?;
     Ok(Found::Route {
         walk,
         cost,
@@ -42,20 +32,14 @@ pub(crate) fn route(
 }
 
 /// The nodes that are reached. Takes time and memory in proportion to the nodes.
-pub(crate) fn cut(
-    alloc: Global,
-    costs: &[u64],
-    lasts: &[Last],
-    from: u32,
-    to: u32,
-) -> Result<Found, OutOfMemory>
-    requires few { length costs.now ≤ 400000 }
-    requires tree { IsTree (length costs.now) from costs.now lasts.now }
-    requires nowhere { ¬ IsLabelled costs.now to }
-    ensures answer { IfOk result (λ found. (network : Network) (closed : List FeatureId) (profile : Profile) → IsSpent (IsPassable network closed profile) costs.now lasts.now → IsAnswer (IsPassable network closed profile) from to found) }
-    ensures small { IfOk result (IsSmall (length costs.now)) }
+pub(crate) fn cut(alloc: Global, reach: &Reach, to: u32) -> Result<Found, OutOfMemory>
+    requires nowhere { cost_of reach.now to ≡ None }
+    requires whole { bound_of reach.now ≡ None }
+    ensures answer { IfOk result (λ found. (network : Network) (closed : List FeatureId) (profile : Profile) (from : ℕ)
+        → IsReachOver (IsPassable network closed profile) from reach.now → IsAnswer (IsPassable network closed profile) from to found) }
+    ensures small { IfOk result (λ found. (nodes : ℕ) → IsSmallReach nodes reach.now → IsSmall nodes found) }
 {
-    cut_law::<PassableLinks>();
-    let reached = nodes_below(alloc, costs, NO_COST)?;
+    reach_law::<PassableLinks>();
+    let reached = reach.reached(alloc)?;
     Ok(Found::Cut { reached })
 }

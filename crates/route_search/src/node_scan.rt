@@ -5,6 +5,7 @@ ghost use Rattle.link_graph.specs.Graphs.{network};
 ghost use Rattle.route_search.specs.Scans.{AreMarked, Followed, IsStretchOf, Regarded, Regards, node_count, out_count_of};
 ghost use Rattle.route_search.specs.States.{cost_in};
 
+use crate::ends::Ends;
 use crate::passed_links::{can_leave, can_pass, is_passed_over};
 use crate::quiet::has_to_wait;
 use crate::relaxation::lower;
@@ -16,7 +17,7 @@ use venue_types::{Link, OutOfMemory};
 use walk_laws::Steps;
 
 // Where the link can be passed, its end is known by it from now on.
-fn follow(ways: &Ways, to: u32, link: &Link, state: &mut State) -> Result<(), OutOfMemory>
+fn follow<E: Ends>(ways: &Ways, ends: &E, link: &Link, state: &mut State) -> Result<(), OutOfMemory>
     requires marks { AreMarked ways.now }
     requires there { Contains (network ways.now.graph.now).links link.now }
     requires cheap { cost_in state.old link.now.from + link.now.cost < cost_in state.old link.now.to }
@@ -27,14 +28,14 @@ fn follow(ways: &Ways, to: u32, link: &Link, state: &mut State) -> Result<(), Ou
         return Ok(());
     }
     ways.graph.range_law();
-    let waits = has_to_wait(ways.graph, link, to);
+    let waits = has_to_wait(ways.graph, link, ends);
     lower(state, link, waits)
 }
 
 // Looks at the link at one place.
-fn look<L: Ledger>(
+fn look<L: Ledger, E: Ends>(
     ways: &Ways,
-    to: u32,
+    ends: &E,
     node: u32,
     place: u32,
     state: &mut State,
@@ -54,15 +55,15 @@ fn look<L: Ledger>(
         .graph
         .lower_link(node, place, cost, &state.costs, steps)
     {
-        Some(link) => follow(ways, to, &link, state),
+        Some(link) => follow(ways, ends, &link, state),
         None => Ok(()),
     }
 }
 
 // Looks at the links of one stretch.
-fn look_along<L: Ledger>(
+fn look_along<L: Ledger, E: Ends>(
     ways: &Ways,
-    to: u32,
+    ends: &E,
     node: u32,
     stretch: &Stretch,
     state: &mut State,
@@ -78,15 +79,15 @@ fn look_along<L: Ledger>(
     ways.graph.range_law();
     for turn in 0..stretch.count {
         let place = stretch.first + turn;
-        look(ways, to, node, place, state, steps)?;
+        look(ways, ends, node, place, state, steps)?;
     }
     Ok(())
 }
 
 // Looks at the links of one stretch, or passes it over.
-fn scan_stretch<L: Ledger>(
+fn scan_stretch<L: Ledger, E: Ends>(
     ways: &Ways,
-    to: u32,
+    ends: &E,
     node: u32,
     stretch: &Stretch,
     state: &mut State,
@@ -107,13 +108,13 @@ fn scan_stretch<L: Ledger>(
         ways.graph.detour_law();
         return Ok(());
     }
-    look_along(ways, to, node, stretch, state, steps)
+    look_along(ways, ends, node, stretch, state, steps)
 }
 
 // Looks at the links of a node, stretch by stretch.
-fn scan_stretches<L: Ledger>(
+fn scan_stretches<L: Ledger, E: Ends>(
     ways: &Ways,
-    to: u32,
+    ends: &E,
     node: u32,
     state: &mut State,
     steps: &mut Steps<L>,
@@ -127,16 +128,16 @@ fn scan_stretches<L: Ledger>(
     ways.graph.stretch_law();
     for k in 0..ways.graph.stretches(node) {
         let stretch = ways.graph.stretch(node, k);
-        scan_stretch(ways, to, node, &stretch, state, steps)?;
+        scan_stretch(ways, ends, node, &stretch, state, steps)?;
     }
     Ok(())
 }
 
 /// Looks at the links of a node that is settled now. Passes over those that can't be passed by the node or by the way that they go,
 /// and those across the unit by which the node was reached, since what they lead to is known from the start of its last link.
-pub(crate) fn scan<L: Ledger>(
+pub(crate) fn scan<L: Ledger, E: Ends>(
     ways: &Ways,
-    to: u32,
+    ends: &E,
     node: u32,
     state: &mut State,
     steps: &mut Steps<L>,
@@ -151,5 +152,5 @@ pub(crate) fn scan<L: Ledger>(
         ways.graph.member_law();
         return Ok(());
     }
-    scan_stretches(ways, to, node, state, steps)
+    scan_stretches(ways, ends, node, state, steps)
 }

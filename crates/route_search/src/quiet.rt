@@ -4,6 +4,7 @@ ghost use Rattle.std.specs.Prelude.{◌≡◌, ◌↔◌, ◌<◌, IsTrue, false
 ghost use Rattle.link_graph.specs.Graphs.{network};
 ghost use Rattle.route_search.specs.Scans.{IsOwn, IsQuiet, node_count};
 
+use crate::ends::Ends;
 use link_graph::{Graph, Stretch, Way};
 use venue_types::Link;
 
@@ -37,10 +38,10 @@ fn is_quiet(graph: &Graph, via: u32, node: u32) -> bool
     true
 }
 
-/// Whether the end of the link, if it is known by this link, has to wait: unless it leads nowhere else, and isn't the end of the search.
-pub(crate) fn has_to_wait(graph: &Graph, link: &Link, to: u32) -> bool
+/// Whether the end of the link, if it is known by this link, has to wait: unless it leads nowhere else, and is no end of the search.
+pub(crate) fn has_to_wait<E: Ends>(graph: &Graph, link: &Link, ends: &E) -> bool
     requires { link.now.to < node_count graph.now }
     ensures { result ≡ false → IsQuiet (network graph.now) link.now.via link.now.to }
 {
-    link.to == to || !is_quiet(graph, link.via, link.to)
+    ends.is_end(link.to) || !is_quiet(graph, link.via, link.to)
 }

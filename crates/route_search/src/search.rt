@@ -7,11 +7,9 @@ ghost use Rattle.link_graph.specs.Networks.{IsPassable};
 ghost use Rattle.route_search.specs.Answers.{IsAnswer, IsSmall};
 
 use crate::answers::{cut, route};
+use crate::ends::OneEnd;
 use crate::found::Found;
-use crate::growth::grow;
-use crate::labels::NO_COST;
-use crate::start::begin;
-use crate::ways::Ways;
+use crate::reaching::reach;
 use link_graph::{Graph, Marks};
 use std::alloc::Global;
 use std::sync::ledger::Ledger;
@@ -37,17 +35,10 @@ pub fn least<L: Ledger>(
     ensures small { IfOk result (IsSmall (length (network graph.now).nodes)) }
     ensures steps { steps.new ≤ steps.old + length (network graph.now).links }
 {
-    graph.range_law();
-    let mut state = begin(alloc, graph.nodes(), from)?;
-    let ways = Ways {
-        graph,
-        marks,
-        profile,
-    };
-    grow(&ways, to, &mut state, steps)?;
-    if state.costs[to as usize] < NO_COST {
-        route(alloc, &state.costs, &state.lasts, from, to)
-    } else {
-        cut(alloc, &state.costs, &state.lasts, from, to)
+    let end = OneEnd { node: to };
+    let found = reach(alloc, graph, marks, profile, from, &end, 1, steps)?;
+    match found.cost(to) {
+        Some(cost) => route(alloc, &found, to, cost),
+        None => cut(alloc, &found, to),
     }
 }

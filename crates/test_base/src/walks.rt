@@ -5,8 +5,8 @@ ghost use Rattle.walk_laws.specs.Certificates.{IsCut};
 ghost use Rattle.walk_laws.specs.Walks.{HasNoWalk};
 
 use walk_laws::{
-    LinkFamily, PotentialKind, certificate_law, cut_law, has_node, least_law, potential_law,
-    rises_within, stand_in_law, walk_law,
+    LinkFamily, PotentialKind, below_law, certificate_law, cut_law, has_node, least_law,
+    potential_law, reach_law, rises_within, stand_in_law, walk_law,
 };
 
 // Links as a start, an end and a cost, those of a list.
@@ -47,6 +47,8 @@ fn laws_and_steps(rt: HostRuntime) {
     walk_law::<Triples>();
     stand_in_law::<Triples, Triples>();
     potential_law::<Pairs>();
+    reach_law::<Triples>();
+    below_law::<Triples, Pairs>();
     for (start, end, cost, within) in [
         (0, 0, 0, true),
         (633, 833, 200, true),

@@ -46,6 +46,7 @@ route_told seen v (ask.Route from' to' name' certificate) number cost from to st
   same_trip v from' to' from to name' name is.2.profile is.2.a is.2.b is.1 is.2.trip,
   is.2.walk,
   is.2.least,
+  is.2.started,
   is.2.stepped,
 )
 route_told seen v _ number cost from to start name steps potentials stands is = absurd is

@@ -13,7 +13,7 @@ use Rattle.venue_hall.specs.Answers.{IsTrip}
 use Rattle.venue_hall.specs.Changes.{Changes}
 use Rattle.venue_hall.specs.Closed.{Version}
 use Rattle.venue_hall.specs.Histories.{IsLegal, Replays}
-use Rattle.venue_hall.specs.Ways.{Usable, step_of}
+use Rattle.venue_hall.specs.Ways.{Usable, name_of, step_of}
 use Rattle.venue_hall.specs.Facts.{IsAnswered}
 use Rattle.wire_frames.specs.Frames.{IsShort, IsRefused}
 use Rattle.wire_frames.specs.declared.refusals.Refusal.{Refusal}
@@ -46,15 +46,30 @@ IsRight shelf worker before (Message.Refused refusal) (Of r) seen = r ≡ reply.
 IsRight shelf worker before (Message.Refused refusal) (No given) seen = given ≡ refusal
 IsRight shelf worker before _ _ seen = ⊥
 
--- a route is a walk over open links that the profile may use, and none costs less; where it is said that there is none, there is none
+-- a route is a walk from the start over open links that the profile may use, and none costs less; where it is said that there is none,
+-- there is none; the other replies tell of no walk, and one that is added needs its own equation
 abbrev pub TellsTheWay : List Entry → Response → Type 0
 TellsTheWay seen (Of (reply.Route number from to name start cost steps potentials)) =
     (v : Version) × (profile : Profile) × (a : ℕ) × (b : ℕ) × Replays seen v × (number ≡ v.number) × IsTrip v from to name profile a b
-    × (walk : List Link) × IsLeast link_view (Usable v profile) a b walk cost × (steps ≡ map (step_of v) walk)
+    × (walk : List Link) × IsLeast link_view (Usable v profile) a b walk cost × (start ≡ name_of v a) × (steps ≡ map (step_of v) walk)
 TellsTheWay seen (Of (reply.NoRoute number from to name reached)) =
     (v : Version) × (profile : Profile) × (a : ℕ) × (b : ℕ) × Replays seen v × (number ≡ v.number) × IsTrip v from to name profile a b
     × HasNoWalk link_view (Usable v profile) a b
-TellsTheWay seen _ = Unit {0}
+TellsTheWay seen (Of (reply.Version number closed places)) = Unit {0}
+TellsTheWay seen (Of (reply.Places number rows)) = Unit {0}
+TellsTheWay seen (Of (reply.Place number row closed)) = Unit {0}
+TellsTheWay seen (Of (reply.Closures number closed)) = Unit {0}
+TellsTheWay seen (Of (reply.ClosureDone number feature closed changed)) = Unit {0}
+TellsTheWay seen (Of (reply.Published number dropped)) = Unit {0}
+TellsTheWay seen (Of (reply.Ahead since number)) = Unit {0}
+TellsTheWay seen (Of reply.NoProfile) = Unit {0}
+TellsTheWay seen (Of (reply.NoPlace which)) = Unit {0}
+TellsTheWay seen (Of reply.NoFeature) = Unit {0}
+TellsTheWay seen (Of (reply.FolderFault before after)) = Unit {0}
+TellsTheWay seen (Of (reply.Rejected report)) = Unit {0}
+TellsTheWay seen (Of (reply.HistoryFull number)) = Unit {0}
+TellsTheWay seen (Of reply.OutOfMemory) = Unit {0}
+TellsTheWay seen (No refusal) = Unit {0}
 
 -- the message stands at the front of the bytes and is answered right, at a legal history that begins with the one before
 pub record IsExchange (keys : List (List ℕ)) (shelf : Option Shelf) (worker : ℕ) (before : List Entry) (bytes : List ℕ) (x : Exchange) : Type 0 where

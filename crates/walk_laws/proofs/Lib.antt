@@ -2,3 +2,4 @@ pub mod WalkLemmas
 pub mod Theorems
 pub mod Potentials
 pub mod Nodes
+pub mod Reaches

@@ -1,3 +1,4 @@
 pub mod Views
 pub mod Walks
 pub mod Certificates
+pub mod Reaches

@@ -1,11 +1,12 @@
 //! What a certificate and a cut mean, for the links of whatever layer.
 
-ghost use Rattle.std.specs.Prelude.{◌≡◌, ◌≢◌, ℕ, ◌+◌, ◌++◌, List, Contains, Result, MatchResult, length, map, slice_index_or};
+ghost use Rattle.std.specs.Prelude.{◌≡◌, ◌≢◌, ◌↔◌, ◌≤◌, ℕ, ◌+◌, ◌++◌, List, Contains, Option, Some, None, Result, MatchResult, length, map, slice_index_or};
 ghost use Rattle.std.specs.List.Sorted.{IsSearchInRange, IsBinarySearchResult};
 ghost use Rattle.std.specs.Ordering.{nat_cmp};
 ghost use Rattle.walk_laws.specs.Views.{LinkView, PotentialView, StandsFor};
-ghost use Rattle.walk_laws.specs.Walks.{IsWalk, walk_cost, CostsAtLeast, HasNoWalk, IsLeast};
+ghost use Rattle.walk_laws.specs.Walks.{IsWalk, walk_cost, CostsAtLeast, HasWalk, HasNoWalk, IsLeast};
 ghost use Rattle.walk_laws.specs.Certificates.{potential, Ascends, IsCertificate, IsCut};
+ghost use Rattle.walk_laws.specs.Reaches.{lesser, AreBelow, HasCost, IsReach, IsWithin};
 
 /// A family of links: what is read of a link, and which links are those of what they belong to, as a table or a version.
 pub trait LinkFamily {
@@ -77,4 +78,34 @@ pub fn potential_law<P: PotentialKind>()
         → Ascends P.view listed → IsSearchInRange found (length listed) → IsBinarySearchResult (λ p. nat_cmp (P.view.node p) node) listed found
         → MatchResult found (λ place. (d : P.Potential) → potential P.view cost listed node ≡ P.view.value (slice_index_or listed place d))
         (λ place. potential P.view cost listed node ≡ cost) }
+{}
+
+/// What a search knows at its end means of walks: each cost is a least one; what has none costs at least the bound, or can't be reached
+/// where there is no bound; and up to a limit within the bound, costs are a certificate for each node that costs no more.
+pub fn reach_law<F: LinkFamily>()
+    ensures has_least { (whole : F.Ground) (from n cost : ℕ) (bound : Option ℕ) (cost_of : ℕ → Option ℕ)
+        → IsReach F.view (F.has whole) from bound cost_of → cost_of n ≡ Some cost → (walk : List F.Link) × IsLeast F.view (F.has whole) from n walk cost }
+    ensures least { (whole : F.Ground) (from n cost : ℕ) (bound : Option ℕ) (cost_of : ℕ → Option ℕ) (walk : List F.Link)
+        → IsReach F.view (F.has whole) from bound cost_of → cost_of n ≡ Some cost → IsWalk F.view (F.has whole) from n walk → walk_cost F.view walk ≡ cost
+        → IsLeast F.view (F.has whole) from n walk cost }
+    ensures beyond { (whole : F.Ground) (from n bound : ℕ) (cost_of : ℕ → Option ℕ)
+        → IsReach F.view (F.has whole) from (Some bound) cost_of → cost_of n ≡ None → CostsAtLeast F.view (F.has whole) from n bound }
+    ensures reached { (whole : F.Ground) (from n : ℕ) (cost_of : ℕ → Option ℕ)
+        → IsReach F.view (F.has whole) from None cost_of → HasCost cost_of n ↔ HasWalk F.view (F.has whole) from n }
+    ensures cut { (whole : F.Ground) (from n : ℕ) (cost_of : ℕ → Option ℕ) (reached : List ℕ)
+        → IsReach F.view (F.has whole) from None cost_of → ((m : ℕ) → Contains reached m ↔ HasCost cost_of m) → cost_of n ≡ None
+        → IsCut F.view (F.has whole) from n reached }
+    ensures certificate { (whole : F.Ground) (from n cost limit : ℕ) (bound : Option ℕ) (cost_of : ℕ → Option ℕ)
+        → IsReach F.view (F.has whole) from bound cost_of → IsWithin bound limit → cost_of n ≡ Some cost → cost ≤ limit
+        → IsCertificate F.view (F.has whole) from n cost (λ m. lesser limit (cost_of m)) }
+{}
+
+/// Where the costs below a limit are listed as potentials, a node's potential is the lesser of the limit and its cost; so the list is a
+/// certificate too.
+pub fn below_law<F: LinkFamily, P: PotentialKind>()
+    ensures lesser { (cost_of : ℕ → Option ℕ) (limit n : ℕ) (listed : List P.Potential)
+        → AreBelow P.view cost_of limit listed → potential P.view limit listed n ≡ lesser limit (cost_of n) }
+    ensures certificate { (whole : F.Ground) (from n cost limit : ℕ) (bound : Option ℕ) (cost_of : ℕ → Option ℕ) (listed : List P.Potential)
+        → IsReach F.view (F.has whole) from bound cost_of → IsWithin bound limit → AreBelow P.view cost_of limit listed → cost_of n ≡ Some cost → cost ≤ limit
+        → IsCertificate F.view (F.has whole) from n cost (potential P.view limit listed) }
 {}

@@ -11,7 +11,7 @@ mod steps;
 
 pub use checks::{has_node, rises_within};
 pub use laws::{
-    LinkFamily, PotentialKind, certificate_law, cut_law, least_law, potential_law, stand_in_law,
-    walk_law,
+    LinkFamily, PotentialKind, below_law, certificate_law, cut_law, least_law, potential_law,
+    reach_law, stand_in_law, walk_law,
 };
 pub use steps::Steps;

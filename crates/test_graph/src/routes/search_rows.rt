@@ -21,7 +21,7 @@ pub struct Row {
 
 const WALK: usize = 0;
 
-const WHEELCHAIR: usize = 1;
+pub(super) const WHEELCHAIR: usize = 1;
 
 /// What can be reached on the lower level without stairs, escalator, lift and ramp.
 const LOWER: &[u128] = &[
@@ -30,7 +30,7 @@ const LOWER: &[u128] = &[
 ];
 
 /// What a wheelchair reaches from the lower level.
-const BOTH: &[u128] = &[
+pub(super) const BOTH: &[u128] = &[
     0x0031, 0x0041, 0x0042, 0x0101, 0x0102, 0x0103, 0x0104, 0x0105, 0x0106, 0x0108, 0x0109, 0x0110,
     0x0111, 0x0201, 0x0202, 0x0203, 0x0204, 0x0300, 0x0301, 0x0304, 0x0305, 0x0306, 0x0400, 0x0401,
     0x0404,

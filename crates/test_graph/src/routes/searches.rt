@@ -18,7 +18,7 @@ use venue_build::Venue;
 use venue_types::{Link, Potential, Profile};
 use walk_laws::Steps;
 
-fn node(rt: &impl Abort, graph: &Graph, tail: u128) -> u32
+pub(super) fn node(rt: &impl Abort, graph: &Graph, tail: u128) -> u32
     ensures { result < length (network graph.now).nodes }
 {
     let n = graph.node_of(id(tail)).expect(rt, "a node");
@@ -35,7 +35,12 @@ fn close(rt: &impl Abort, graph: &Graph, marks: &mut Marks, tail: u128)
     marks.mark(k, true);
 }
 
-fn marks_of(rt: &impl Abort, alloc: Global, graph: &Graph, closed: &[u128]) -> Result<Marks, Fail>
+pub(super) fn marks_of(
+    rt: &impl Abort,
+    alloc: Global,
+    graph: &Graph,
+    closed: &[u128],
+) -> Result<Marks, Fail>
     ensures { IfOk result (λ marks. AreMarksOf (network graph.now) marks) }
 {
     let mut marks = Marks::none(alloc, graph)?;
@@ -46,7 +51,7 @@ fn marks_of(rt: &impl Abort, alloc: Global, graph: &Graph, closed: &[u128]) -> R
 }
 
 // The potential of a node: that of the list, else the cost.
-fn potential(listed: &[Potential], cost: u64, n: u32) -> u64 {
+pub(super) fn potential(listed: &[Potential], cost: u64, n: u32) -> u64 {
     for one in listed {
         if one.node == n {
             return one.value;
@@ -112,7 +117,13 @@ fn judge_walk(rt: &impl Abort, graph: &Graph, walk: &[Link], ways: &[u128], name
     }
 }
 
-fn judge_reached(rt: &impl Abort, graph: &Graph, reached: &[u32], wanted: &[u128], name: &str) {
+pub(super) fn judge_reached(
+    rt: &impl Abort,
+    graph: &Graph,
+    reached: &[u32],
+    wanted: &[u128],
+    name: &str,
+) {
     assert!(rt; reached.len() == wanted.len(), "{name}");
     for (n, tail) in reached.iter().zip(wanted) {
         assert!(rt; graph.node_of(id(*tail)) == Some(*n), "{name}");

@@ -5,5 +5,5 @@ not_off : (b : Bool) → not b ≡ false → b ≡ true
 not_off true off = refl
 not_off false off = absurd cc
 
-pub returns-else-link-to : goal.returns-else-link-to
-returns-else-link-to c off = c.is_quiet.ensures (not_off c.is_quiet.result off)
+pub returns-else-is_end : goal.returns-else-is_end
+returns-else-is_end g c off = c.is_quiet.ensures (not_off c.is_quiet.result off)
