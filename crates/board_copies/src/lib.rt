@@ -30,6 +30,8 @@ pub use roll::Roll;
 pub use rule::{Law, Notes, Publishing, Seeing, SideReader, SideWriter};
 pub use seen::Seen;
 pub use stamp::Stamp;
-pub use venue_state::{BaseFolders, Outcome, Prepared, Unready, ready_change};
+pub use venue_state::{
+    BaseFolders, NextBoard, Outcome, Unready, first_law, following_law, ready_change,
+};
 pub use view::View;
 pub use writer_side::{publish, queue, settle, show};

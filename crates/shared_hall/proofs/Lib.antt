@@ -1,4 +1,3 @@
 pub mod Seen
 pub mod Passes
-pub mod NextEntries
 pub mod FirstEntries

@@ -52,12 +52,13 @@ faulted _ n = n
 abbrev pub HasShelf : Option (List StoredFile) → Option Shelf → Type 0
 HasShelf stored shelf = (base : List ℕ) × (shelf_of stored base ≡ shelf)
 
--- one legal history, which every pass has seen a beginning of; behind its first entries, as many as it was opened with, it has one
--- entry for each accepted change that the passes told
-pub record IsOneHistory (start : ℕ) (passes : List Facts) (number changes : ℕ) : Type 0 where
+-- one legal history, which every pass has seen a beginning of: it begins with the entries with which it was opened, and has one entry
+-- behind them for each accepted change that the passes told
+pub record IsOneHistory (opening : List Entry) (passes : List Facts) (number changes : ℕ) : Type 0 where
   pub entries : List Entry
   pub legal : IsLegal entries
+  pub opened : IsPrefix opening entries
   pub number_is : number ≡ length entries
   pub begun : All (Begins entries) passes
   pub told : changes ≡ made_of passes
-  pub counted : number ≡ start + changes
+  pub counted : number ≡ length opening + changes

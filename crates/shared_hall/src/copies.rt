@@ -26,7 +26,7 @@ pub struct Copies {
 impl Copies {
     ghost use Rattle.venue_hall.specs.Histories.{IsLegal};
     ghost use Rattle.shared_hall.specs.Copied.{entries_in};
-    ghost use Rattle.shared_hall.specs.Entries.{HaveSettings};
+    ghost use Rattle.venue_hall.specs.Openings.{HaveSettings};
 
     /// Two copies of the board to which these entries lead, with room for so many readers. It waits as a publication does.
     pub fn new<R: Wait>(

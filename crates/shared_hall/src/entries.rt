@@ -5,28 +5,13 @@ ghost use Rattle.std.specs.Arc.{arc_value};
 ghost use Rattle.venue_hall.specs.Venues.{SeenVenue};
 ghost use Rattle.venue_hall.specs.Histories.{IsLegal, IsPublished};
 ghost use Rattle.board_copies.specs.Stamps.{entries_of};
-ghost use Rattle.venue_hall.specs.Openings.{opening_history};
-ghost use Rattle.shared_hall.specs.Entries.{HaveSettings};
+ghost use Rattle.venue_hall.specs.Openings.{HaveSettings};
 
-use crate::entry_laws::{first_law, following_law};
-use board_copies::{Held, Roll, Unready};
+use board_copies::{Held, Roll, Unready, first_law, following_law};
 use std::alloc::Global;
 use std::sync::Arc;
-use venue_hall::{Act, Entry, Venue, beginning_law, every_venue};
+use venue_hall::{Act, Entry, beginning_law};
 use venue_types::{OutOfMemory, Settings};
-
-/// The history that a venue opens: worker 0 publishes it.
-pub fn opening_entries(alloc: Global, venue: Arc<Venue>) -> Result<Vec<Entry>, OutOfMemory>
-    ensures entries { IfOk result (λ entries. entries.items ≡ opening_history venue) }
-    ensures legal { IfOk result (λ entries. IsLegal entries.items) }
-    ensures settings { IfOk result (λ entries. HaveSettings (arc_value venue).settings entries.items) }
-{
-    every_venue(&venue);
-    let act = Act::Published(venue);
-    let mut entries = Vec::new(alloc);
-    entries.push(Entry { worker: 0, act })?;
-    Ok(entries)
-}
 
 // The board with which the first entry opens a history.
 fn held_first(
@@ -59,7 +44,7 @@ fn held_next(alloc: Global, roll: &mut Roll, held: &Held, entry: Entry) -> Resul
 {
     following_law();
     let Entry { worker, act } = entry;
-    match held.board.prepare(alloc, act, worker) {
+    match held.board.ready(alloc, act, worker) {
         Ok(ready) => held.next(roll, ready),
         Err(Unready::OutOfMemory) => Err(OutOfMemory),
         Err(Unready::NoFeature) | Err(Unready::Unchanged) | Err(Unready::Full) => unreachable!(),

@@ -7,13 +7,17 @@ use std::sync::ledger::Ledger;
 pub trait HallName: Ledger {
     ghost use Rattle.std.specs.Prelude.{ℕ, List, Option};
     ghost use Rattle.logbook.specs.Pages.{Book};
+    ghost use Rattle.venue_hall.specs.Entry.{Entry};
     ghost use Rattle.venue_hall.specs.Shelves.{Shelf};
 
     /// The book in which its lists of entries have their numbers.
     ghost book: { Book };
 
-    /// How many entries it was opened with.
-    ghost start: { ℕ };
+    /// The entries with which it was opened.
+    ghost opening: { List Entry };
+
+    /// The keys of its staff.
+    ghost keys: { List (List ℕ) };
 
     /// How often the folders had failed then.
     ghost folder_count: { ℕ };
@@ -38,12 +42,14 @@ pub trait HallName: Ledger {
 }
 
 impl HallName for Brand {
-    ghost use Rattle.std.specs.Prelude.{None};
+    ghost use Rattle.std.specs.Prelude.{[], None};
     ghost use Rattle.shared_hall.specs.Names.{no_book};
 
     ghost book = { no_book };
 
-    ghost start = { 0 };
+    ghost opening = { [] };
+
+    ghost keys = { [] };
 
     ghost folder_count = { 0 };
 

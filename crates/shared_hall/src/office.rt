@@ -18,7 +18,7 @@ mod start;
 
 use crate::name::HallName;
 use board_copies::{
-    BaseFolders, Keeper, Outcome, Prepared, Reads, Roll, SideReader, Writes, meet_in, read_in,
+    BaseFolders, Keeper, NextBoard, Outcome, Reads, Roll, SideReader, Writes, meet_in, read_in,
     ready_change, wait_for_ever,
 };
 pub use close::{Closed, close_hall};
@@ -48,6 +48,7 @@ pub type Pass<N> = PassOf<N, SideReader>;
 
 impl<N: HallName, Q: Reads> Model for PassOf<N, Q> {
     ghost use Rattle.std.specs.Prelude.{◌≡◌, ◌<◌, ◌≤◌, length, true};
+    ghost use mathlib.Core.List.{IsPrefix};
     ghost use Rattle.venue_hall.specs.Histories.{IsLegal};
     ghost use Rattle.board_copies.specs.Rules.{known};
     ghost use Rattle.venue_hall.specs.Facts.{Facts};
@@ -56,7 +57,7 @@ impl<N: HallName, Q: Reads> Model for PassOf<N, Q> {
 
     ghost view = { λ p. record { worker = p.worker; parts = p.share.parts; files = N.folder_files; seen = (Q.client p.reader).seen; made = p.share.amount; faults = p.faults; looks = p.looks } };
 
-    ghost invariant = { λ p. ((Q.client p.reader).bound ≡ true) × (known (Q.client p.reader) ≡ N.book) × IsLegal (Q.client p.reader).seen × (p.number ≡ length (Q.client p.reader).seen) × (0 < p.share.parts) × (1 ≤ p.worker) × (p.worker ≤ 16) };
+    ghost invariant = { λ p. ((Q.client p.reader).bound ≡ true) × (known (Q.client p.reader) ≡ N.book) × IsPrefix N.opening (Q.client p.reader).seen × IsLegal (Q.client p.reader).seen × (p.number ≡ length (Q.client p.reader).seen) × (0 < p.share.parts) × (1 ≤ p.worker) × (p.worker ≤ 16) };
 }
 
 impl<N: HallName> PassOf<N, SideReader> {
@@ -84,8 +85,10 @@ impl<N: HallName> PassOf<N, SideReader> {
         }
     }
 
-    /// What the type keeps: the folders of a pass are those of the hall's name, and its count of faults has a bound.
+    /// What the type keeps: what a pass has seen begins with the entries with which its hall was opened, its folders are those of
+    /// the hall's name, and its count of faults has a bound.
     pub(crate) fn pass_law(&self)
+        ensures opened { IsPrefix N.opening self.now.seen }
         ensures files { self.now.files ≡ N.folder_files }
         ensures faults { self.now.faults < 2 ^ 64 }
     {
@@ -121,6 +124,7 @@ pub type Office<N, F> = OfficeOf<N, F, Keeper>;
 impl<N: HallName, F: Folders, W: Writes> Model for OfficeOf<N, F, W> {
     ghost use Rattle.std.specs.Prelude.{◌≡◌, ◌+◌, ◌≤◌, length};
     ghost use Rattle.std.specs.Arc.{arc_value};
+    ghost use mathlib.Core.List.{IsPrefix};
     ghost use Rattle.board_copies.specs.Rules.{list_of, book_of};
     ghost use Rattle.board_copies.specs.Making.{shelf_of};
     ghost use Rattle.shared_hall.specs.Offices.{OfficeFacts};
@@ -129,7 +133,7 @@ impl<N: HallName, F: Folders, W: Writes> Model for OfficeOf<N, F, W> {
 
     ghost view = { λ o. record { entries = list_of (W.shown o.keeper); shelf = shelf_of (F.files o.reader.folders) o.reader.base; faults = F.faults o.reader.folders } };
 
-    ghost invariant = { λ o. (o.roll.seen.book ≡ N.book) × (book_of (W.shown o.keeper) ≡ N.book) × (arc_value o.settings ≡ (arc_value (W.shown o.keeper).held).board.settings) × (o.start ≡ N.start) × (o.book.total + N.start ≡ length (list_of (W.shown o.keeper))) × (N.folder_count ≤ F.faults o.reader.folders) × (shelf_of (F.files o.reader.folders) o.reader.base ≡ N.folder_files) };
+    ghost invariant = { λ o. (o.roll.seen.book ≡ N.book) × (book_of (W.shown o.keeper) ≡ N.book) × (arc_value o.settings ≡ (arc_value (W.shown o.keeper).held).board.settings) × (o.start ≡ length N.opening) × (o.book.total + length N.opening ≡ length (list_of (W.shown o.keeper))) × IsPrefix N.opening (list_of (W.shown o.keeper)) × (N.folder_count ≤ F.faults o.reader.folders) × (shelf_of (F.files o.reader.folders) o.reader.base ≡ N.folder_files) };
 }
 
 impl<N: HallName, F: Folders> OfficeOf<N, F, Keeper> {
@@ -138,11 +142,11 @@ impl<N: HallName, F: Folders> OfficeOf<N, F, Keeper> {
         &mut self,
         rt: &R,
         alloc: Global,
-        ready: Prepared,
+        ready: NextBoard,
         pass: &mut Pass<N>,
     ) -> Result<(), OutOfMemory>
         requires may { (v : Version) → Replays self.old.entries v → MayFollow v ready.entry }
-        requires next { (v : Version) → Replays self.old.entries v → ready.next ≡ after v ready.entry.act }
+        requires next { (v : Version) → Replays self.old.entries v → ready.board ≡ after v ready.entry.act }
         ensures ok { OnOk result (self.new.entries ≡ self.old.entries ++ ready.entry ∷ []) }
         ensures err { OnErr result (self.new.entries ≡ self.old.entries) }
         ensures shelf { self.new.shelf ≡ self.old.shelf }

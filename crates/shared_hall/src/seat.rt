@@ -51,6 +51,13 @@ impl<'a, N: HallName, F: Folders, R> SeatIn<'a, N, F, SideReader, Keeper, R> {
         }
     }
 
+    /// What the type keeps: what was seen from the seat begins with the entries with which its hall was opened.
+    pub fn opening_law(&self)
+        ensures { IsPrefix N.opening self.now.seen }
+    {
+        self.pass.pass_law();
+    }
+
     /// Gives the pass back. Takes no memory.
     pub fn leave(self) -> Pass<N>
         ensures { result ≡ self.entry }

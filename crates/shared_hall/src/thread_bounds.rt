@@ -1,11 +1,15 @@
-//! What may go to another thread, each type by a function that only compiles where it may.
+//! What may go to another thread, each type by a function that only compiles where it may, and what waits for nobody.
+
+ghost use Rattle.venue_hall.specs.Facts.{IsAnswered};
 
 use crate::name::HallName;
 use crate::office::{Office, Pass};
 use crate::seat::{Seat, SeatIn};
 use board_copies::{Reads, Writes};
 use std::sync::Mutex;
+use venue_hall::Asks;
 use venue_ports::Folders;
+use venue_types::{Query, Reply};
 
 fn sent<T: Send>(_x: &T) {}
 
@@ -31,4 +35,14 @@ pub fn sent_seat_in<
 
 pub fn sent_seat<N: HallName + Send + Sync, F: Folders + Send, R: Sync>(seat: &Seat<'_, N, F, R>) {
     sent(seat);
+}
+
+/// A question at a seat. Nothing here may wait, so the seat waits for nobody to answer it.
+pub fn asked_unwaiting<N: HallName, F: Folders, R>(
+    seat: &mut Seat<'_, N, F, R>,
+    query: &Query,
+) -> Reply
+    ensures { IsAnswered seat.new.seen query.now result }
+{
+    seat.ask(query)
 }

@@ -255,8 +255,8 @@ fn judge_change(rt: &impl Abort, alloc: Global, board: &mut Board, act: Act, row
             judge_listed(rt, ready.dropped().as_slice(), row.listed);
             assert_eq!(rt; ready.entry().worker, 1);
             board.apply(&mut ready);
-            let (_, same) = ready.into_parts();
-            assert_eq!(rt; same.number(), board.number());
+            assert_eq!(rt; Told::Changed(board.number()), row.told);
+            board.apply(&mut ready);
             assert_eq!(rt; Told::Changed(board.number()), row.told);
         }
         Err(unready) => assert_eq!(rt; Told::Unready(unready), row.told),

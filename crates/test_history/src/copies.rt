@@ -67,7 +67,7 @@ impl Office {
         requires { HasSettings (arc_value self.old.keeper.writer.desk.shown.value.held).board act }
     {
         let held = &*self.keeper.writer.published().held;
-        let ready = held.board.prepare(alloc, act, 1).map_err(|_| OutOfMemory)?;
+        let ready = held.board.ready(alloc, act, 1).map_err(|_| OutOfMemory)?;
         let held = Arc::new(alloc, held.next(&mut self.roll, ready)?)?;
         replace_with(
             &mut self.keeper.writer,

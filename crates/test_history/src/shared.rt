@@ -6,7 +6,7 @@ ghost use Rattle.venue_history.specs.Histories.{IsLegal, Replays};
 ghost use Rattle.venue_state.specs.Preparing.{HasSettings};
 ghost use Rattle.venue_state.specs.Making.{shelf_of};
 ghost use Rattle.shared_hall.specs.Copied.{entries_in, book_in};
-ghost use Rattle.shared_hall.specs.Entries.{HaveSettings};
+ghost use Rattle.shared_hall.specs.Openings.{HaveSettings};
 ghost use Rattle.shared_hall.specs.Offices.{parts_of};
 
 use crate::station::{folders, id, tail, venue_of};
@@ -25,7 +25,7 @@ use std::thread::Threads;
 use test_station::station_settings;
 use venue_history::{Act, Entry, entry_law, version_law};
 use venue_ports::{Folders, MemoryFolders};
-use venue_state::Board;
+use venue_state::{Board, NextBoard};
 use venue_types::{Ask, Change, FeatureId, Query, Reply, Settings, Text};
 use version_board::{Asks, Hall};
 
@@ -173,7 +173,7 @@ fn rows_under<N: HallName, F: Folders + Drop, R: Abort + Wait>(
     requires parts { blank.parts ≡ N.parts }
     requires two { blank.parts ≡ 2 }
     requires book { book_in copies ≡ N.book }
-    requires start { length (entries_in copies) ≡ N.start }
+    requires opening { entries_in copies ≡ N.opening }
     requires count { N.folder_count ≤ F.faults folders }
     requires files { shelf_of (F.files folders) base ≡ N.folder_files }
 {
@@ -486,7 +486,7 @@ fn work_under<
     requires parts { blank.parts ≡ N.parts }
     requires share { blank.parts ≡ workers }
     requires book { book_in copies ≡ N.book }
-    requires start { length (entries_in copies) ≡ N.start }
+    requires opening { entries_in copies ≡ N.opening }
     requires count { N.folder_count ≤ F.faults folders }
     requires files { shelf_of (F.files folders) base ≡ N.folder_files }
 {
@@ -542,12 +542,12 @@ fn entered(
     ensures settings { IfOk result (λ next. next.settings ≡ board.settings) }
 {
     entry_law();
-    let Ok(ready) = board.prepare(alloc, act, worker) else {
+    let Ok(ready) = board.ready(alloc, act, worker) else {
         return Err(Fail::new("not ready"));
     };
-    let (entry, next) = ready.into_parts();
+    let NextBoard { entry, board, .. } = ready;
     entries.push(entry)?;
-    Ok(next)
+    Ok(board)
 }
 
 // A history of the station: it is published, one worker closes a lift, and another publishes it again.

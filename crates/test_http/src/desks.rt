@@ -47,7 +47,9 @@ fn next_at<N: HallName, R: Wait>(
     seat: &mut Seat<'_, N, MemoryFolders, R>,
     desk: &mut DoorDesk<N, MemoryDoors>,
     front: &Front,
-) -> Told {
+) -> Told
+    requires { front.now ≡ N.keys }
+{
     match desk.next() {
         Next::Nobody => Told::Nobody,
         Next::Failed => Told::Failed,
@@ -74,7 +76,7 @@ fn judge_under<N: HallName, R: Abort + Wait>(
     requires parts { blank.parts ≡ N.parts }
     requires one { blank.parts ≡ 1 }
     requires book { book_in copies ≡ N.book }
-    requires start { length (entries_in copies) ≡ N.start }
+    requires opening { entries_in copies ≡ N.opening }
     requires count { N.folder_count ≤ memory_faults folders }
     requires files { shelf_of (memory_files folders) base ≡ N.folder_files }
     requires ready { doors_ready doors ≡ true }
@@ -83,6 +85,7 @@ fn judge_under<N: HallName, R: Abort + Wait>(
     requires connections { connections ≡ N.connections }
     requires accepted { doors_accepted doors ≡ N.accepted }
     requires faults { doors_faults doors ≡ N.door_count }
+    requires keys { front.now ≡ N.keys }
 {
     let Ok(opened) = open_hall::<N, MemoryFolders>(alloc, blank, copies, folders, base, 1) else {
         return Err(Fail::new("no hall"));

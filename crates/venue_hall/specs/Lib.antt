@@ -1,5 +1,5 @@
 pub mod Facts
-pub mod Openings
+pub use Rattle.venue_history.specs.Openings
 pub use Rattle.venue_history.specs.Venues
 pub use Rattle.venue_history.specs.Changes
 pub use Rattle.venue_history.specs.Histories

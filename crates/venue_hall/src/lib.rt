@@ -10,5 +10,5 @@ pub use laws::{answered_law, changed_law};
 pub use unopened::Unopened;
 pub use venue_history::{
     Act, Built, Entry, Venue, beginning_law, build, change_law, closed_law, entry_law, every_venue,
-    legal_law, number_law, one_outcome, version_law,
+    legal_law, number_law, one_outcome, opening_entries, version_law,
 };

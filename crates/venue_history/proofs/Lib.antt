@@ -7,3 +7,4 @@ pub mod Sorting
 pub mod Changing
 pub mod Deciding
 pub mod Acting
+pub mod Publishing

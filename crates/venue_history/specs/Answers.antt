@@ -19,7 +19,7 @@ use Rattle.venue_types.specs.declared.settings.Profile.{Profile}
 use Rattle.walk_laws.specs.Walks.{HasWalk, HasNoWalk, IsLeast}
 use Rattle.walk_laws.specs.Certificates.{potential, Ascends, IsCertificate}
 use Rattle.venue_build.specs.Identity.{is_same}
-use Rattle.venue_build.specs.Nodes.{place_of}
+use Rattle.venue_build.specs.Nodes.{nodes, place_of}
 use Rattle.venue_build.specs.Views.{link_view, potential_view}
 use Rattle.venue_build.specs.Places.{places}
 use Rattle.venue_history.specs.Closed.{Version, is_closed, closed_ids, closed_count}
@@ -46,10 +46,11 @@ pub record IsTrip (v : Version) (from to : FeatureId) (name : List ℕ) (profile
   pub has_from : place_of v.features from ≡ Some a
   pub has_to : place_of v.features to ≡ Some b
 
--- the marks show that no walk from a to b costs less: potentials that rise by node, lie below the cost, and are a certificate
+-- the marks show that no walk from a to b costs less: potentials of nodes alone, which rise by node, lie below the cost, and are a certificate
 pub record AreShown (v : Version) (profile : Profile) (a b cost : ℕ) (marks : List Mark) : Type 0 where
   pub listed : List Potential
   pub told : marks ≡ map (mark_of v) listed
+  pub nodes_alone : All (λ (p : Potential). p.node < length (nodes v.features)) listed
   pub rising : Ascends potential_view listed
   pub below : All (λ (p : Potential). p.value < cost) listed
   pub certificate : IsCertificate link_view (Usable v profile) a b cost (potential potential_view cost listed)

@@ -1,6 +1,7 @@
 pub mod Closed
 pub mod Versions
 pub mod Histories
+pub mod Openings
 pub mod Ways
 pub mod Answers
 pub mod Replies

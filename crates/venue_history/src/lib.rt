@@ -4,11 +4,13 @@
 
 mod entry;
 mod laws;
+mod opening;
 
 pub use entry::{Act, Entry};
 pub use laws::{
     act_law, answer_law, beginning_law, change_law, closed_law, entry_law, legal_law, number_law,
     refusal_law, version_law,
 };
+pub use opening::opening_entries;
 pub use venue_build::{Built, Venue, build, every_name, every_venue, one_outcome};
 pub use venue_folder::files_of;

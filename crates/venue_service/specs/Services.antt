@@ -1,12 +1,18 @@
 -- What a service comes to, from its first connection to the close of its hall.
-use Rattle.std.specs.Prelude.{◌≡◌, ℕ, ◌+◌, ◌<◌, ◌≤◌, false}
+use Rattle.std.specs.Prelude.{◌≡◌, ℕ, ◌<◌, ◌≤◌, List, length, false}
+use Rattle.shared_hall.specs.Entry.{Entry}
+use Rattle.shared_hall.specs.Facts.{Facts}
+use Rattle.shared_hall.specs.Offices.{IsOneHistory}
 use Rattle.venue_service.specs.declared.service.Counts.{Counts}
 
--- the counts that are told at the close: one to so many workers, the sessions that were accepted, and a history that was opened with so
--- many entries and has one more for each accepted change; all connections were accepted, or an accept has failed
-pub record AreCounts (workers connections start : ℕ) (counts : Counts) : Type 0 where
+-- the counts that are told at the close: one to so many workers, each with a pass; the sessions that were accepted, all of the
+-- connections unless an accept has failed; and the versions and changes of the one history that the hall was opened with and its
+-- passes have seen and changed
+pub record AreCounts (workers connections : ℕ) (opening : List Entry) (counts : Counts) : Type 0 where
+  pub passes : List Facts
+  pub workers_are : counts.workers ≡ length passes
   pub some : 1 ≤ counts.workers
   pub few : counts.workers ≤ workers
   pub sessions : counts.sessions ≤ connections
-  pub versions : counts.versions ≡ start + counts.changes
+  pub history : IsOneHistory opening passes counts.versions counts.changes
   pub all : counts.failed ≡ false → counts.sessions ≡ connections

@@ -37,7 +37,7 @@ impl<N: HallName, D: Doors> Model for DoorDesk<N, D> {
 
     ghost view = { λ d. record { left = d.left; failed = d.failed; accepted = D.accepted d.doors; faults = D.faults d.doors } };
 
-    ghost invariant = { λ d. (D.ready d.doors ≡ true) × (D.binds d.doors ≡ N.binds) × (D.bound d.doors ≡ N.bound) × (d.left ≤ N.connections) × (D.accepted d.doors ≡ raised (N.connections - d.left) N.accepted) × (d.failed ≡ false → D.faults d.doors ≡ N.door_count) × (d.failed ≡ true → Rose N.door_count (D.faults d.doors)) };
+    ghost invariant = { λ d. (D.ready d.doors ≡ true) × (D.binds d.doors ≡ N.binds) × (D.bound d.doors ≡ N.bound) × (d.left ≤ N.connections) × (D.accepted d.doors ≡ raised (N.connections - d.left) N.accepted) × (N.door_count ≤ D.faults d.doors) × (d.failed ≡ false → D.faults d.doors ≡ N.door_count) × (d.failed ≡ true → Rose N.door_count (D.faults d.doors)) };
 }
 
 impl<N: HallName, D: Doors> DoorDesk<N, D> {
@@ -107,6 +107,7 @@ impl<N: HallName, D: Doors> DoorDesk<N, D> {
         ensures accepted { D.accepted result ≡ self.accepted }
         ensures counted { self.accepted ≡ raised (N.connections - self.left) N.accepted }
         ensures faults { D.faults result ≡ self.faults }
+        ensures later { N.door_count ≤ self.faults }
         ensures sound { self.failed ≡ false → self.faults ≡ N.door_count }
         ensures failing { self.failed ≡ true → Rose N.door_count self.faults }
     {

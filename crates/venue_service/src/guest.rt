@@ -37,6 +37,7 @@ impl<N: HallName, C: Stream> Guest<N, C> {
         seat: &mut Seat<'_, N, F, R>,
         front: &Front,
     ) -> (End, C)
+        requires keys { front.now ≡ N.keys }
         ensures session { IsSession front.now seat.old seat.new (connection_between C.Stream (conn_of self) result.1) result.0 }
         ensures hall { HasServed seat.old seat.new }
         ensures link { C.faults (conn_of self) ≤ C.faults result.1 }

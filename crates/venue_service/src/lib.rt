@@ -9,6 +9,6 @@ mod worker;
 
 pub use desk::{DoorDesk, Next};
 pub use guest::Guest;
-pub use service::{Counts, Service, serve_hall};
+pub use service::{Counts, Plan, Service, serve_hall};
 pub use shared_hall::{Copies, opening_entries};
 pub use worker::work;

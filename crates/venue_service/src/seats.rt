@@ -56,6 +56,7 @@ fn work_rest<N: HallName, F: Folders, D: Doors, R: Wait>(
     desk: &mut DoorDesk<N, D>,
     front: &Front,
 )
+    requires keys { front.now ≡ N.keys }
     ensures same { IsSameHall seat.old seat.new }
     ensures ended { (desk.new.left ≡ 0) ⊎ (desk.new.failed ≡ true) }
 {
@@ -83,7 +84,8 @@ fn work_each<
     desk: &Mutex<DoorDesk<N, D>>,
     front: &Front,
 )
-    requires { 0 < length seats.old }
+    requires some { 0 < length seats.old }
+    requires keys { front.now ≡ N.keys }
     ensures count { length seats.new ≡ length seats.old }
     ensures parts { parts_of seats.new ≡ parts_of seats.old }
 {
@@ -103,7 +105,8 @@ fn work_first<N: HallName, F: Folders, D: Doors, R: Wait>(
     desk: &mut DoorDesk<N, D>,
     front: &Front,
 )
-    requires { 0 < length seats.old }
+    requires some { 0 < length seats.old }
+    requires keys { front.now ≡ N.keys }
     ensures count { length seats.new ≡ length seats.old }
     ensures parts { parts_of seats.new ≡ parts_of seats.old }
     ensures ended { (desk.new.left ≡ 0) ⊎ (desk.new.failed ≡ true) }
@@ -124,7 +127,8 @@ pub(crate) fn work_all<
     desk: Mutex<DoorDesk<N, D>>,
     front: &Front,
 ) -> DoorDesk<N, D>
-    requires { 0 < length seats.old }
+    requires some { 0 < length seats.old }
+    requires keys { front.now ≡ N.keys }
     ensures count { length seats.new ≡ length seats.old }
     ensures parts { parts_of seats.new ≡ parts_of seats.old }
     ensures ended { (result.left ≡ 0) ⊎ (result.failed ≡ true) }

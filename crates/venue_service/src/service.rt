@@ -5,7 +5,7 @@ ghost use Rattle.venue_types.specs.Room.{HasRoom};
 ghost use Rattle.venue_ports.specs.Causes.{Rose};
 ghost use Rattle.shared_hall.specs.Making.{shelf_of};
 ghost use Rattle.shared_hall.specs.Copied.{entries_in, book_in};
-ghost use Rattle.shared_hall.specs.Offices.{parts_of, HasShelf};
+ghost use Rattle.shared_hall.specs.Offices.{parts_of, HasShelf, IsOneHistory};
 ghost use Rattle.venue_service.specs.Desks.{raised};
 ghost use Rattle.venue_service.specs.Services.{AreCounts};
 
@@ -22,6 +22,20 @@ use venue_ports::{Doors, Folders};
 use venue_types::{Text, reserve};
 use venue_wire::Front;
 
+/// What a hall is opened with, and what it is to serve.
+#[derive(Drop)]
+pub struct Plan {
+    pub copies: Copies,
+    /// The base of the folders from which staff publish.
+    pub base: Text,
+    /// The routes, with the keys of the staff.
+    pub front: Front,
+    /// How many workers serve at most: 1 to 16.
+    pub workers: u8,
+    /// How many connections are accepted.
+    pub connections: u32,
+}
+
 /// What is told of a service at its close.
 #[derive(Clone, Copy)]
 pub struct Counts {
@@ -35,6 +49,21 @@ pub struct Counts {
     pub changes: u32,
     /// Whether an accept failed.
     pub failed: bool,
+}
+
+// Passes that are to sit, with room for their seats and for the passes once they leave again.
+#[derive(Drop)]
+struct Sitting<'a, N: HallName, F: Folders, R> {
+    passes: Vec<Pass<N>>,
+    seats: Vec<Seat<'a, N, F, R>>,
+    left: Vec<Pass<N>>,
+}
+
+// What is left once all was served: the desk, and the passes, which left their seats.
+#[derive(Drop)]
+struct Served<N: HallName, D: Doors> {
+    desk: DoorDesk<N, D>,
+    passes: Vec<Pass<N>>,
 }
 
 /// What a service hands back. No counts are told where memory ran out before the first connection.
@@ -81,7 +110,9 @@ fn close_served<N: HallName, F: Folders, D: Doors, R: Wait>(
     requires connections { connections ≡ N.connections }
     requires ended { (desk.left ≡ 0) ⊎ (desk.failed ≡ true) }
     ensures told { IsSome result.counts }
-    ensures counts { IfSome result.counts (AreCounts (length passes.items) connections N.start) }
+    ensures counts { IfSome result.counts (AreCounts (length passes.items) connections N.opening) }
+    ensures workers { IfSome result.counts (λ counts. counts.workers ≡ length passes.items) }
+    ensures history { IfSome result.counts (λ counts. IsOneHistory N.opening passes.items counts.versions counts.changes) }
     ensures shelf { HasShelf (F.files result.folders) N.folder_files }
     ensures later { N.folder_count ≤ F.faults result.folders }
     ensures ready { D.ready result.doors ≡ true }
@@ -90,6 +121,7 @@ fn close_served<N: HallName, F: Folders, D: Doors, R: Wait>(
     ensures accepted { IfSome result.counts (λ counts. D.accepted result.doors ≡ raised counts.sessions N.accepted) }
     ensures sound { IfSome result.counts (λ counts. counts.failed ≡ false → D.faults result.doors ≡ N.door_count) }
     ensures failed { IfSome result.counts (λ counts. counts.failed ≡ true → Rose N.door_count (D.faults result.doors)) }
+    ensures doors_later { N.door_count ≤ D.faults result.doors }
 {
     let workers = passes.len() as u8;
     let failed = desk.failed();
@@ -112,7 +144,7 @@ fn close_served<N: HallName, F: Folders, D: Doors, R: Wait>(
     }
 }
 
-// Gives the passes seats, serves what comes to the desk, and takes them back into `left`. There is room for them.
+// Gives the passes seats, serves what comes to the desk, and takes the passes back.
 fn run_seats<
     'a,
     N: HallName + Send + Sync,
@@ -123,26 +155,29 @@ fn run_seats<
     rt: &'a R,
     alloc: Global,
     office: &'a Mutex<Office<N, F>>,
-    passes: Vec<Pass<N>>,
-    seats: Vec<Seat<'a, N, F, R>>,
-    left: &mut Vec<Pass<N>>,
+    sitting: Sitting<'a, N, F, R>,
     desk: DoorDesk<N, D>,
     front: &Front,
-) -> DoorDesk<N, D>
-    requires some { 0 < length passes.items }
-    requires seats { HasRoom seats (length passes.items) }
-    requires empty { length seats.items ≡ 0 }
-    requires left { HasRoom left.old (length passes.items) }
-    requires none { length left.old.items ≡ 0 }
-    ensures count { length left.new.items ≡ length passes.items }
-    ensures parts { parts_of left.new.items ≡ parts_of passes.items }
-    ensures ended { (result.left ≡ 0) ⊎ (result.failed ≡ true) }
+) -> Served<N, D>
+    requires some { 0 < length sitting.passes.items }
+    requires seats { HasRoom sitting.seats (length sitting.passes.items) }
+    requires empty { length sitting.seats.items ≡ 0 }
+    requires left { HasRoom sitting.left (length sitting.passes.items) }
+    requires none { length sitting.left.items ≡ 0 }
+    requires keys { front.now ≡ N.keys }
+    ensures count { length result.passes.items ≡ length sitting.passes.items }
+    ensures parts { parts_of result.passes.items ≡ parts_of sitting.passes.items }
+    ensures ended { (result.desk.left ≡ 0) ⊎ (result.desk.failed ≡ true) }
 {
-    let mut seats = seats;
+    let Sitting {
+        passes,
+        mut seats,
+        mut left,
+    } = sitting;
     sit_all(rt, alloc, office, passes, &mut seats);
     let desk = work_all(rt, alloc, seats.as_mut_slice(), Mutex::new(desk), front);
-    leave_all(seats, left);
-    desk
+    leave_all(seats, &mut left);
+    Served { desk, passes: left }
 }
 
 // Serves at a hall that is opened, and closes it.
@@ -162,13 +197,14 @@ fn serve_opened<
     requires some { 0 < length opened.passes.items }
     requires range { length opened.passes.items ≤ 16 }
     requires parts { parts_of opened.passes.items ≡ N.parts }
+    requires keys { front.now ≡ N.keys }
     requires ready { D.ready doors ≡ true }
     requires binds { D.binds doors ≡ N.binds }
     requires bound { D.bound doors ≡ N.bound }
     requires connections { connections ≡ N.connections }
     requires accepted { D.accepted doors ≡ N.accepted }
     requires faults { D.faults doors ≡ N.door_count }
-    ensures counts { IfSome result.counts (AreCounts (length opened.passes.items) connections N.start) }
+    ensures counts { IfSome result.counts (AreCounts (length opened.passes.items) connections N.opening) }
     ensures shelf { HasShelf (F.files result.folders) N.folder_files }
     ensures later { N.folder_count ≤ F.faults result.folders }
     ensures ready { D.ready result.doors ≡ true }
@@ -178,6 +214,7 @@ fn serve_opened<
     ensures sound { IfSome result.counts (λ counts. counts.failed ≡ false → D.faults result.doors ≡ N.door_count) }
     ensures failed { IfSome result.counts (λ counts. counts.failed ≡ true → Rose N.door_count (D.faults result.doors)) }
     ensures unserved { IfNone result.counts (result.doors ≡ doors) }
+    ensures doors_later { D.faults doors ≤ D.faults result.doors }
 {
     let Opened { office, passes } = opened;
     let mut seats = Vec::new(alloc);
@@ -186,47 +223,44 @@ fn serve_opened<
         return close_unserved(rt, office, passes, doors);
     }
     let desk = DoorDesk::new(doors, connections);
-    let desk = run_seats(rt, alloc, &office, passes, seats, &mut left, desk, front);
-    close_served(rt, office, left, desk, connections)
+    let sitting = Sitting {
+        passes,
+        seats,
+        left,
+    };
+    let Served { desk, passes } = run_seats(rt, alloc, &office, sitting, desk, front);
+    close_served(rt, office, passes, desk, connections)
 }
 
-/// Serves so many connections at a hall under a name, over folders below a base, by one to `workers` workers. It ends when all were
-/// accepted and served, or an accept failed and what had been accepted was served.
+/// Serves so many connections at a hall under a name, opened with the entries of the copies, over folders below a base, by one to
+/// `workers` workers, who know the keys of its staff. It ends when all were accepted and served, or an accept failed and what had been
+/// accepted was served.
 pub fn serve_hall<
     N: HallName + Send + Sync,
     F: Folders + Send,
     D: Doors + Send,
     R: Threads + Wait + Sync,
->(
-    rt: &R,
-    alloc: Global,
-    blank: Blank,
-    copies: Copies,
-    folders: F,
-    base: Text,
-    doors: D,
-    front: &Front,
-    workers: u8,
-    connections: u32,
-) -> Service<F, D>
-    requires some { 1 ≤ workers }
-    requires range { workers ≤ 16 }
+>(rt: &R, alloc: Global, blank: Blank, plan: Plan, folders: F, doors: D) -> Service<F, D>
+    requires some { 1 ≤ plan.workers }
+    requires range { plan.workers ≤ 16 }
     requires name { blank.name ≡ N.name }
     requires parts { blank.parts ≡ N.parts }
-    requires share { blank.parts ≡ workers }
-    requires book { book_in copies ≡ N.book }
-    requires start { length (entries_in copies) ≡ N.start }
+    requires share { blank.parts ≡ plan.workers }
+    requires book { book_in plan.copies ≡ N.book }
+    requires opening { entries_in plan.copies ≡ N.opening }
+    requires keys { plan.front ≡ N.keys }
     requires count { N.folder_count ≡ F.faults folders }
-    requires files { shelf_of (F.files folders) base ≡ N.folder_files }
+    requires files { shelf_of (F.files folders) plan.base ≡ N.folder_files }
     requires ready { D.ready doors ≡ true }
     requires binds { D.binds doors ≡ N.binds }
     requires bound { D.bound doors ≡ N.bound }
-    requires connections { connections ≡ N.connections }
+    requires connections { plan.connections ≡ N.connections }
     requires accepted { D.accepted doors ≡ N.accepted }
     requires faults { D.faults doors ≡ N.door_count }
-    ensures counts { IfSome result.counts (AreCounts workers connections N.start) }
+    ensures counts { IfSome result.counts (AreCounts plan.workers plan.connections N.opening) }
     ensures folders { F.files result.folders ≡ F.files folders }
     ensures folders_later { F.faults folders ≤ F.faults result.folders }
+    ensures doors_later { D.faults doors ≤ D.faults result.doors }
     ensures ready { D.ready result.doors ≡ true }
     ensures binds { D.binds result.doors ≡ N.binds }
     ensures bound { D.bound result.doors ≡ N.bound }
@@ -235,8 +269,15 @@ pub fn serve_hall<
     ensures failed { IfSome result.counts (λ counts. counts.failed ≡ true → Rose N.door_count (D.faults result.doors)) }
     ensures unserved { IfNone result.counts (result.doors ≡ doors) }
 {
+    let Plan {
+        copies,
+        base,
+        front,
+        workers,
+        connections,
+    } = plan;
     match open_hall::<N, F>(alloc, blank, copies, folders, base, workers) {
-        Ok(opened) => serve_opened(rt, alloc, opened, doors, front, connections),
+        Ok(opened) => serve_opened(rt, alloc, opened, doors, &front, connections),
         Err(Unopened { folders }) => Service {
             folders,
             doors,

@@ -30,6 +30,7 @@ pub fn work<N: HallName, F: Folders, D: Doors, R: Wait>(
     desk: &Mutex<DoorDesk<N, D>>,
     front: &Front,
 )
+    requires keys { front.now ≡ N.keys }
     ensures { IsSameHall seat.old seat.new }
 {
     for _ in 0..=MOST_CONNECTIONS {

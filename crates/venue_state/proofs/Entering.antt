@@ -13,7 +13,7 @@ use Rattle.venue_history.specs.Changes.{IsActOf, TellsOf, IsAccepted, Changes}
 use Rattle.venue_history.specs.Closed.{Version}
 use Rattle.venue_history.specs.Histories.{Replays}
 use Rattle.venue_history.specs.Versions.{after}
-use Rattle.venue_state.specs.Preparing.{Ready}
+use Rattle.venue_state.specs.declared.prepared.NextBoard.{NextBoard}
 use Rattle.venue_state.specs.Making.{Brings, IsMade, Leaves, CountsFault}
 
 -- the files that were read show which act comes of the change
@@ -36,7 +36,7 @@ told_changes shelf v worker asked h k (act.Published venue) (reply.Published num
 told_changes shelf v worker asked h k _ _ tells is = absurd tells
 
 -- what is ready changes the history by its entry
-pub enters : (shelf : Option Shelf) (v : Version) (worker : ℕ) (asked : Change) (h k : List Entry) (ready : Ready) (r : Reply) (files : Option Files)
+pub enters : (shelf : Option Shelf) (v : Version) (worker : ℕ) (asked : Change) (h k : List Entry) (ready : NextBoard) (r : Reply) (files : Option Files)
     → Replays h v → IsMade shelf v worker asked ready r files → k ≡ h ++ ready.entry ∷ [] → Changes shelf worker asked h r k
 enters shelf v worker asked h k ready r files stands made grown =
     told_changes shelf v worker asked h k ready.entry.act r made.tells record {

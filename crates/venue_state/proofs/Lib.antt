@@ -7,3 +7,5 @@ pub mod Routes
 pub mod Replying
 pub mod Readying
 pub mod Entering
+pub mod FirstEntries
+pub mod NextEntries

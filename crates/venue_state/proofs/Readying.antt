@@ -14,7 +14,8 @@ use Rattle.venue_history.specs.declared.entry.Act.{Act}
 use Rattle.venue_history.specs.Changes.{AreRead, StandsOtherwise, TellsOf}
 use Rattle.venue_history.specs.Closed.{Version, is_closed, closed_ids}
 use Rattle.venue_history.specs.Versions.{Fits, after}
-use Rattle.venue_state.specs.Preparing.{Ready, IsReady, IsUnready, LacksFeature, IsDone}
+use Rattle.venue_state.specs.declared.prepared.NextBoard.{NextBoard}
+use Rattle.venue_state.specs.Preparing.{IsReady, IsUnready, LacksFeature, IsDone}
 use Rattle.venue_state.specs.declared.unready.Unready.TheVariants as unready
 use Rattle.venue_state.specs.Making.{closure_act, Brings, IsMade, Leaves}
 
@@ -56,7 +57,7 @@ tells : (v : Version) (feature : FeatureId) (closed : Bool) (number : ℕ) → n
 tells v feature true number next = (next, refl, refl, refl)
 tells v feature false number next = (next, refl, refl, refl)
 
-pub made_closure : ClosedIds → (shelf : Option Shelf) (v : Version) (worker : ℕ) (feature : FeatureId) (closed : Bool) (ready : Ready) (number : ℕ)
+pub made_closure : ClosedIds → (shelf : Option Shelf) (v : Version) (worker : ℕ) (feature : FeatureId) (closed : Bool) (ready : NextBoard) (number : ℕ)
     → All (Contains (closables v.features)) v.closed → IsReady v (closure_act feature closed) worker ready → number ≡ v.number + 1
     → IsMade shelf v worker (Closure feature closed) ready (reply.ClosureDone number feature closed true) None
 made_closure ids shelf v worker feature closed ready number all is next =
@@ -65,7 +66,6 @@ made_closure ids shelf v worker feature closed ready number all is next =
       by_worker = is.worker_is;
       may = is.may;
       next_is = is.next_is ∙ ap (after v) (sym is.act_is);
-      twice = is.twice;
       brings = subst (λ (a : Act). Brings shelf v (Closure feature closed) a None) (sym is.act_is) (brought shelf v feature closed (stands_otherwise ids v feature closed all fits));
       tells = subst (λ (a : Act). TellsOf v a (reply.ClosureDone number feature closed true)) (sym is.act_is) (tells v feature closed number next);
     }

@@ -17,9 +17,9 @@ use Rattle.venue_history.specs.declared.entry.Act.TheVariants as act
 use Rattle.venue_history.specs.Changes.{AreRead, IsActOf, TellsOf, Refuses}
 use Rattle.venue_history.specs.Closed.{Version}
 use Rattle.venue_history.specs.Versions.{MayFollow, after}
-use Rattle.venue_state.specs.Preparing.{Ready}
 use Rattle.venue_state.specs.declared.changes.Outcome.{Outcome}
 use Rattle.venue_state.specs.declared.changes.Outcome.TheVariants as outcome
+use Rattle.venue_state.specs.declared.prepared.NextBoard.{NextBoard}
 
 -- the folders below a base as a shelf, where they are told
 abbrev pub shelf_of : Option (List StoredFile) → List ℕ → Option Shelf
@@ -45,18 +45,17 @@ Brings shelf v (change.Publish folder) (act.Published venue) (Some files) = AreR
 Brings shelf v _ _ _ = ⊥
 
 -- what is ready is the worker's change at the version, with the board after it, the reply that tells it, and the files that were read
-pub record IsMade (shelf : Option Shelf) (v : Version) (worker : ℕ) (asked : Change) (ready : Ready) (r : Reply) (files : Option Files) : Type 0 where
+pub record IsMade (shelf : Option Shelf) (v : Version) (worker : ℕ) (asked : Change) (ready : NextBoard) (r : Reply) (files : Option Files) : Type 0 where
   pub by_worker : ready.entry.worker ≡ worker
   pub may : MayFollow v ready.entry
-  pub next_is : ready.next ≡ after v ready.entry.act
-  pub twice : ready.left ≡ 2
+  pub next_is : ready.board ≡ after v ready.entry.act
   pub brings : Brings shelf v asked ready.entry.act files
   pub tells : TellsOf v ready.entry.act r
 
 -- what becomes of the change, asked by the worker at the version
 abbrev pub IsOutcome : Option Shelf → Version → ℕ → Change → Outcome → Type 0
 IsOutcome shelf v worker asked (outcome.Stays r) = Leaves shelf v asked r
-IsOutcome shelf v worker asked (outcome.Made prepared r files) = IsMade shelf v worker asked prepared r files
+IsOutcome shelf v worker asked (outcome.Made ready r files) = IsMade shelf v worker asked ready r files
 
 -- the folders' counts of faults before and now: they differ only where the reply tells a fault, and then they rose and it tells both
 abbrev pub CountsFault : ℕ → ℕ → Reply → Type 0
@@ -66,7 +65,7 @@ CountsFault before now _ = now ≡ before
 -- the same of what becomes of a change: one that is ready comes without a fault
 abbrev pub CountsOutcome : ℕ → ℕ → Outcome → Type 0
 CountsOutcome before now (outcome.Stays r) = CountsFault before now r
-CountsOutcome before now (outcome.Made prepared r files) = now ≡ before
+CountsOutcome before now (outcome.Made ready r files) = now ≡ before
 
 -- why a folder's files weren't read: a fault, with the folders' counts before and now, or want of memory, and no fault
 abbrev pub IsUnread : ℕ → ℕ → Reply → Type 0

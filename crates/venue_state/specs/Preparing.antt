@@ -5,18 +5,16 @@ use Rattle.venue_types.specs.declared.feature_id.FeatureId.{FeatureId}
 use Rattle.route_search.specs.Nodes.{closables}
 use Rattle.venue_history.specs.declared.entry.Act.{Act}
 use Rattle.venue_history.specs.declared.entry.Act.TheVariants.{Published, Closed, Reopened}
-use Rattle.venue_history.specs.declared.entry.Entry.{Entry}
 use Rattle.venue_history.specs.Changes.{dropped_ids}
 use Rattle.venue_history.specs.Closed.{Version, is_closed}
 use Rattle.venue_history.specs.Versions.{MayFollow, after}
+use Rattle.venue_state.specs.declared.prepared.NextBoard.{NextBoard}
 use Rattle.venue_state.specs.declared.unready.Unready.{Unready}
 use Rattle.venue_state.specs.declared.unready.Unready.TheVariants as unready
 
--- what is seen of a change that is ready: its entry, the closures that it drops, the version after it, and how often its board is still to be had
-pub record Ready : Type 0 where
-  pub entry : Entry
-  pub dropped : List FeatureId
-  pub next : Version
+-- what is seen of a change that was made ready for two boards: what it brings, and how often its board is still to be had
+pub record Given : Type 0 where
+  pub ready : NextBoard
   pub left : ℕ
 
 -- 1 where a board is still to be had
@@ -35,14 +33,18 @@ dropped_by v (Published venue) = dropped_ids v (arc_value venue).features
 dropped_by v (Closed id) = []
 dropped_by v (Reopened id) = []
 
--- the act is ready: its entry may follow the version, and the next version is that after it
-pub record IsReady (v : Version) (act : Act) (worker : ℕ) (ready : Ready) : Type 0 where
+-- the act is ready: its entry may follow the version, and the board is that of the version after it
+pub record IsReady (v : Version) (act : Act) (worker : ℕ) (ready : NextBoard) : Type 0 where
   pub act_is : ready.entry.act ≡ act
   pub worker_is : ready.entry.worker ≡ worker
   pub may : MayFollow v ready.entry
-  pub next_is : ready.next ≡ after v act
+  pub next_is : ready.board ≡ after v act
   pub dropped_are : ready.dropped ≡ dropped_by v act
-  pub twice : ready.left ≡ 2
+
+-- it is ready, and its board is to be had twice
+pub record IsPrepared (v : Version) (act : Act) (worker : ℕ) (prepared : Given) : Type 0 where
+  pub ready : IsReady v act worker prepared.ready
+  pub twice : prepared.left ≡ 2
 
 -- the act is a publication under the version's settings, or none
 abbrev pub HasSettings : Version → Act → Type 0
@@ -74,13 +76,13 @@ IsUnready v act unready.Full = (¬ LacksFeature v act) × (¬ IsDone v act) × (
 IsUnready v act unready.OutOfMemory = Unit {0}
 
 -- of a change that is ready the board was given away, where it was still to be had; else nothing changes
-abbrev pub IsGiven : Ready → Ready → Option Version → Type 0
-IsGiven ready used given =
-    (used.entry ≡ ready.entry) × (used.dropped ≡ ready.dropped) × (used.next ≡ ready.next) × (used.left ≡ ready.left - 1)
-    × (((ready.left ≡ 0) × (given ≡ None)) ⊎ ((¬ (ready.left ≡ 0)) × (given ≡ Some ready.next)))
+abbrev pub IsGiven : Given → Given → Option Version → Type 0
+IsGiven prepared used given =
+    (used.ready ≡ prepared.ready) × (used.left ≡ prepared.left - 1)
+    × (((prepared.left ≡ 0) × (given ≡ None)) ⊎ ((¬ (prepared.left ≡ 0)) × (given ≡ Some prepared.ready.board)))
 
 -- the board becomes the one that is ready, where it is still to be had; else nothing changes
-abbrev pub IsApplied : Version → Ready → Version → Ready → Type 0
-IsApplied old ready new used =
-    (used.entry ≡ ready.entry) × (used.dropped ≡ ready.dropped) × (used.next ≡ ready.next) × (used.left ≡ ready.left - 1)
-    × (((ready.left ≡ 0) × (new ≡ old)) ⊎ ((¬ (ready.left ≡ 0)) × (new ≡ ready.next)))
+abbrev pub IsApplied : Version → Given → Version → Given → Type 0
+IsApplied old prepared new used =
+    (used.ready ≡ prepared.ready) × (used.left ≡ prepared.left - 1)
+    × (((prepared.left ≡ 0) × (new ≡ old)) ⊎ ((¬ (prepared.left ≡ 0)) × (new ≡ prepared.ready.board)))

@@ -11,7 +11,7 @@ ghost use Rattle.venue_state.specs.Making.{shelf_of, closure_act, IsOutcome, Cou
 
 use crate::base_folders::BaseFolders;
 use crate::board::Board;
-use crate::prepared::Prepared;
+use crate::prepared::NextBoard;
 use crate::unready::Unready;
 use std::alloc::Global;
 use std::sync::Arc;
@@ -25,7 +25,7 @@ pub enum Outcome {
     /// The history stays, and this is the reply.
     Stays(Reply),
     /// The change is ready. The reply tells it once it is in the history; the files are those that were read for it.
-    Made(Prepared, Reply, Option<Files>),
+    Made(NextBoard, Reply, Option<Files>),
 }
 
 // The number of the version after that of a board that isn't at the last one.
@@ -66,8 +66,8 @@ fn ready_closure(
 {
     closed_law();
     let act = closure_act(feature, closed);
-    match board.prepare(alloc, act, worker) {
-        Ok(prepared) => {
+    match board.ready(alloc, act, worker) {
+        Ok(ready) => {
             let number = next_number(board, settings);
             let reply = Reply::ClosureDone {
                 number,
@@ -75,7 +75,7 @@ fn ready_closure(
                 closed,
                 changed: true,
             };
-            Outcome::Made(prepared, reply, None)
+            Outcome::Made(ready, reply, None)
         }
         Err(Unready::NoFeature) => Outcome::Stays(Reply::NoFeature),
         Err(Unready::Unchanged) => Outcome::Stays(Reply::ClosureDone {
@@ -154,12 +154,12 @@ fn ready_venue(
     ensures outcome { (shelf : AnOption Shelf) (folder : AList ℕ) → AreRead shelf folder files → IsOutcome shelf board.now worker (Publish folder) result }
     ensures counts { (n : ℕ) → CountsOutcome n n result }
 {
-    match board.prepare(alloc, Act::Published(venue), worker) {
-        Ok(prepared) => match copied(alloc, prepared.dropped()) {
+    match board.ready(alloc, Act::Published(venue), worker) {
+        Ok(ready) => match copied(alloc, &ready.dropped) {
             Ok(dropped) => {
                 let number = next_number(board, settings);
                 let reply = Reply::Published { number, dropped };
-                Outcome::Made(prepared, reply, Some(files))
+                Outcome::Made(ready, reply, Some(files))
             }
             Err(OutOfMemory) => Outcome::Stays(Reply::OutOfMemory),
         },

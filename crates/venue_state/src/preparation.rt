@@ -1,12 +1,12 @@
 //! From an act to a change that is ready.
 
-ghost use Rattle.std.specs.Prelude.{◌≤◌, IfOk, IfErr};
-ghost use Rattle.venue_state.specs.Preparing.{HasSettings, IsReady, IsUnready};
+ghost use Rattle.std.specs.Prelude.{◌≡◌, ◌≤◌, IfOk, IfErr};
+ghost use Rattle.venue_state.specs.Preparing.{HasSettings, IsReady, IsPrepared, IsUnready};
 
 use crate::act_checks::judge;
 use crate::board::Board;
 use crate::board_after::{After, following};
-use crate::prepared::Prepared;
+use crate::prepared::{NextBoard, Prepared};
 use crate::unready::Unready;
 use std::alloc::Global;
 use venue_history::{Act, Entry};
@@ -14,7 +14,7 @@ use venue_history::{Act, Entry};
 impl Board {
     /// Makes an act of a worker ready, with all memory that it needs, or tells why it can't be done. Changes nothing. A closure takes
     /// the time of copying the marks, a publication besides that of finding each closed feature in the new venue.
-    pub fn prepare(&self, alloc: Global, act: Act, worker: u8) -> Result<Prepared, Unready>
+    pub fn ready(&self, alloc: Global, act: Act, worker: u8) -> Result<NextBoard, Unready>
         requires some { 1 ≤ worker }
         requires range { worker ≤ 16 }
         requires settings { HasSettings self.now act }
@@ -23,7 +23,23 @@ impl Board {
     {
         let number = judge(self, &act)?;
         let After { board, dropped } = following(alloc, self, number, &act)?;
-        let prepared = Prepared::of(Entry { worker, act }, dropped, board)?;
+        Ok(NextBoard {
+            entry: Entry { worker, act },
+            dropped,
+            board,
+        })
+    }
+
+    /// Makes an act ready as `ready` does, for two boards that it is applied to.
+    pub fn prepare(&self, alloc: Global, act: Act, worker: u8) -> Result<Prepared, Unready>
+        requires some { 1 ≤ worker }
+        requires range { worker ≤ 16 }
+        requires settings { HasSettings self.now act }
+        ensures ready { IfOk result (λ prepared. IsPrepared self.now act worker prepared) }
+        ensures unready { IfErr result (λ unready. IsUnready self.now act unready) }
+    {
+        let ready = self.ready(alloc, act, worker)?;
+        let prepared = Prepared::of(ready)?;
         Ok(prepared)
     }
 }

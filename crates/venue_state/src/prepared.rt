@@ -8,68 +8,55 @@ use std::marker::Model;
 use venue_history::Entry;
 use venue_types::{FeatureId, List, OutOfMemory};
 
-/// A change that was made ready: its entry, the closed features that it drops, and the board after it, which it gives away twice.
+/// What a change that is ready brings: its entry, the closed features that it drops, in their order, and the board after it.
+#[derive(Drop)]
+pub struct NextBoard {
+    pub entry: Entry,
+    pub dropped: List<FeatureId>,
+    pub board: Board,
+}
+
+/// A change that was made ready, and two handles to the board after it, which it gives away.
 #[derive(Drop)]
 pub struct Prepared {
-    entry: Entry,
-    dropped: List<FeatureId>,
+    ready: NextBoard,
     one: Option<Board>,
     other: Option<Board>,
-    next: Board,
 }
 
 impl Model for Prepared {
     ghost use Rattle.std.specs.Prelude.{◌+◌};
-    ghost use Rattle.venue_state.specs.Preparing.{Ready, AreHandles, left_of};
+    ghost use Rattle.venue_state.specs.Preparing.{Given, AreHandles, left_of};
 
-    ghost Value = { Ready };
+    ghost Value = { Given };
 
-    ghost view = { λ a. record { entry = a.entry; dropped = a.dropped; next = a.next; left = left_of a.one + left_of a.other } };
+    ghost view = { λ a. record { ready = a.ready; left = left_of a.one + left_of a.other } };
 
-    ghost invariant = { λ a. AreHandles a.one a.other a.next };
+    ghost invariant = { λ a. AreHandles a.one a.other a.ready.board };
 }
 
 impl Prepared {
     /// A change whose board is to be had twice.
-    pub(crate) fn of(
-        entry: Entry,
-        dropped: List<FeatureId>,
-        next: Board,
-    ) -> Result<Prepared, OutOfMemory>
-        ensures { IfOk result (λ ready. ready ≡ record { entry = entry; dropped = dropped; next = next; left = 2 }) }
+    pub(crate) fn of(ready: NextBoard) -> Result<Prepared, OutOfMemory>
+        ensures { IfOk result (λ prepared. prepared ≡ record { ready = ready; left = 2 }) }
     {
-        let one = Some(next.handle()?);
-        let other = Some(next.handle()?);
-        Ok(Prepared {
-            entry,
-            dropped,
-            one,
-            other,
-            next,
-        })
+        let one = Some(ready.board.handle()?);
+        let other = Some(ready.board.handle()?);
+        Ok(Prepared { ready, one, other })
     }
 
     /// The entry of the change.
     pub fn entry(&self) -> &Entry
-        ensures { result.now ≡ self.now.entry }
+        ensures { result.now ≡ self.now.ready.entry }
     {
-        &self.entry
+        &self.ready.entry
     }
 
     /// The closed features that can't be closed any more after it, in their order.
     pub fn dropped(&self) -> &List<FeatureId>
-        ensures { result.now ≡ self.now.dropped }
+        ensures { result.now ≡ self.now.ready.dropped }
     {
-        &self.dropped
-    }
-
-    /// The entry, and the board after it, however often that was given away. Takes no memory.
-    pub fn into_parts(self) -> (Entry, Board)
-        ensures entry { result.0 ≡ self.entry }
-        ensures next { result.1 ≡ self.next }
-    {
-        let Prepared { entry, next, .. } = self;
-        (entry, next)
+        &self.ready.dropped
     }
 
     // The board after it, if it is still to be had.

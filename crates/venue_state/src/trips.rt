@@ -6,7 +6,7 @@ ghost use Rattle.venue_types.specs.declared.link.Link.{Link};
 ghost use Rattle.venue_types.specs.declared.query.Ask.TheVariants as ask;
 ghost use Rattle.venue_types.specs.declared.settings.Profile.{Profile as AProfile};
 ghost use Rattle.route_search.specs.Nodes.{nodes, place_of};
-ghost use Rattle.route_search.specs.Answers.{IsAnswer};
+ghost use Rattle.route_search.specs.Answers.{IsAnswer, IsSmall};
 ghost use Rattle.venue_history.specs.Answers.{AnswersAsk, IfAsked, IsTrip};
 ghost use Rattle.venue_history.specs.Ways.{Usable, profile_of, name_of, mark_of};
 
@@ -82,7 +82,8 @@ impl Board {
     fn found(&self, alloc: Global, profile: &Profile, a: u32, b: u32) -> Result<Found, OutOfMemory>
         requires a_node { a < length (nodes self.now.features) }
         requires b_node { b < length (nodes self.now.features) }
-        ensures { IfOk result (IsAnswer (Usable self.now profile.now) a b) }
+        ensures answer { IfOk result (IsAnswer (Usable self.now profile.now) a b) }
+        ensures small { IfOk result (IsSmall (length (nodes self.now.features))) }
     {
         searched::<Brand>(alloc, Blank::new(1), self, profile, a, b)
     }
@@ -97,7 +98,7 @@ impl Board {
         found: Found,
     ) -> Result<Reply, OutOfMemory>
         ensures { IfOk result (λ reply. (profile : AProfile) (b : ℕ) → IsTrip self.now trip.from trip.to trip.profile profile a b
-            → IsAnswer (Usable self.now profile) a b found → AnswersAsk self.now (ask.Route trip.from trip.to trip.profile certificate) reply) }
+            → IsAnswer (Usable self.now profile) a b found → IsSmall (length (nodes self.now.features)) found → AnswersAsk self.now (ask.Route trip.from trip.to trip.profile certificate) reply) }
     {
         let Trip { from, to, profile } = trip;
         match found {
@@ -174,7 +175,8 @@ fn searched<L: Ledger>(
     requires some { 0 < L.parts }
     requires a_node { a < length (nodes board.now.features) }
     requires b_node { b < length (nodes board.now.features) }
-    ensures { IfOk result (IsAnswer (Usable board.now profile.now) a b) }
+    ensures answer { IfOk result (IsAnswer (Usable board.now profile.now) a b) }
+    ensures small { IfOk result (IsSmall (length (nodes board.now.features))) }
 {
     passable_law();
     let mut steps = Steps::<L>::begin(blank);

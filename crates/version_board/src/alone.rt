@@ -14,7 +14,7 @@ ghost use Rattle.version_board.specs.OneThread.{one_thread};
 ghost use Rattle.venue_hall.specs.Openings.{opening_history};
 ghost use Rattle.board_copies.specs.Making.{shelf_of, CountsFault};
 
-use board_copies::{BaseFolders, Held, Outcome, Prepared, Roll, ready_change};
+use board_copies::{BaseFolders, Held, NextBoard, Outcome, Roll, ready_change};
 use std::alloc::Global;
 use std::sync::Arc;
 use venue_hall::{Asks, Hall, Unopened, Venue, change_law, number_law, version_law};
@@ -89,9 +89,9 @@ impl<F: Folders> Alone<F> {
     }
 
     // Enters what is ready: its entry, and the board after it. Takes no memory, and lets go of the board before.
-    fn enter(&mut self, ready: Prepared) -> Result<(), OutOfMemory>
+    fn enter(&mut self, ready: NextBoard) -> Result<(), OutOfMemory>
         requires may { MayFollow self.old.held.board ready.entry }
-        requires next { ready.next ≡ after self.old.held.board ready.entry.act }
+        requires next { ready.board ≡ after self.old.held.board ready.entry.act }
         ensures ok { OnOk result (entries_of self.new.held.stamp ≡ entries_of self.old.held.stamp ++ ready.entry ∷ []) }
         ensures err { OnErr result (entries_of self.new.held.stamp ≡ entries_of self.old.held.stamp) }
         ensures reader { self.new.reader ≡ self.old.reader }

@@ -1,6 +1,7 @@
 //! A hall closed.
 
 ghost use Rattle.std.specs.Prelude.{◌≡◌, ◌+◌, ◌<◌, ◌≤◌, length, All};
+ghost use mathlib.Core.List.{IsPrefix};
 ghost use Rattle.venue_hall.specs.Histories.{IsLegal};
 ghost use Rattle.shared_hall.specs.Offices.{parts_of, made_of, Begins, HasShelf, IsOneHistory};
 
@@ -42,7 +43,8 @@ impl<N: HallName, F: Folders> OfficeOf<N, F, Keeper> {
         ensures number { result.number ≡ length self.entries }
         ensures legal { IsLegal self.entries }
         ensures told { result.changes ≡ all.amount }
-        ensures counted { result.number ≡ N.start + result.changes }
+        ensures opened { IsPrefix N.opening self.entries }
+        ensures counted { result.number ≡ length N.opening + result.changes }
         ensures folders { F.faults result.folders ≡ self.faults }
         ensures files { HasShelf (F.files result.folders) N.folder_files }
         ensures count { N.folder_count ≤ self.faults }
@@ -97,7 +99,7 @@ pub fn close_hall<N: HallName, F: Folders, R: Wait>(
 ) -> Closed<F>
     requires some { 0 < length passes.items }
     requires parts { parts_of passes.items ≡ N.parts }
-    ensures history { IsOneHistory N.start passes.items result.number result.changes }
+    ensures history { IsOneHistory N.opening passes.items result.number result.changes }
     ensures folders { N.folder_count ≤ F.faults result.folders }
     ensures files { HasShelf (F.files result.folders) N.folder_files }
 {

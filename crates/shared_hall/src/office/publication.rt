@@ -7,7 +7,7 @@ ghost use Rattle.board_copies.specs.Queues.{EndsWith};
 ghost use Rattle.board_copies.specs.Rules.{list_of, book_of, IsOneLonger};
 ghost use Rattle.board_copies.specs.Stamps.{entries_of};
 
-use board_copies::{Held, Keeper, Prepared, Ready, Roll, SideWriter, queue, show};
+use board_copies::{Held, Keeper, NextBoard, Ready, Roll, SideWriter, queue, show};
 use core::mem::replace_with;
 use std::alloc::Global;
 use std::sync::{Arc, Wait};
@@ -41,11 +41,11 @@ pub fn publish_entry<R: Wait>(
     alloc: Global,
     keeper: &mut Keeper,
     roll: &mut Roll,
-    ready: Prepared,
+    ready: NextBoard,
 ) -> Result<(), OutOfMemory>
     requires book { roll.old.seen.book ≡ book_of keeper.old.writer.desk.shown.value }
     requires may { MayFollow (arc_value keeper.old.writer.desk.shown.value.held).board ready.entry }
-    requires next { ready.next ≡ after (arc_value keeper.old.writer.desk.shown.value.held).board ready.entry.act }
+    requires next { ready.board ≡ after (arc_value keeper.old.writer.desk.shown.value.held).board ready.entry.act }
     ensures ok { OnOk result (list_of keeper.new.writer.desk.shown.value ≡ list_of keeper.old.writer.desk.shown.value ++ ready.entry ∷ []) }
     ensures err { OnErr result (keeper.new.writer.desk.shown.value ≡ keeper.old.writer.desk.shown.value) }
     ensures book { book_of keeper.new.writer.desk.shown.value ≡ book_of keeper.old.writer.desk.shown.value }

@@ -53,6 +53,7 @@ fn make_readers(
 // A pass of a reader that has seen this board's entries, which told no change.
 fn pass_of<N: HallName>(reader: SideReader, held: &Held, worker: u8, share: Share<N>) -> Pass<N>
     requires reader { view reader.place ≡ whole (entries_of held.now.stamp) N.book }
+    requires opening { entries_of held.now.stamp ≡ N.opening }
     requires some { 1 ≤ worker }
     requires range { worker ≤ 16 }
     requires part { 0 < share.parts }
@@ -80,6 +81,7 @@ fn passes_of<N: HallName>(
     rest: Share<N>,
 ) -> Result<Vec<Pass<N>>, OutOfMemory>
     requires readers { All (λ reader. view reader.place ≡ whole (entries_of held.now.stamp) N.book) readers.items }
+    requires opening { entries_of held.now.stamp ≡ N.opening }
     requires some { 0 < length readers.items }
     requires range { length readers.items ≤ 16 }
     requires parts { length readers.items ≤ rest.parts }
@@ -114,6 +116,7 @@ fn open_passes<N: HallName>(
 ) -> Result<Vec<Pass<N>>, OutOfMemory>
     requires known { Knows (view writer.old.desk.place) writer.old.desk.shown.value }
     requires book { book_of writer.old.desk.shown.value ≡ N.book }
+    requires opening { list_of writer.old.desk.shown.value ≡ N.opening }
     requires some { 1 ≤ workers }
     requires range { workers ≤ 16 }
     requires parts { rest.parts ≡ workers }
@@ -129,8 +132,8 @@ fn open_passes<N: HallName>(
     passes_of(alloc, &writer.published().held, readers, rest)
 }
 
-/// A hall under a name, over folders below a base, with one to `workers` passes. Each has seen the entries of the copies, and has a
-/// part of the changes. Where memory runs out the folders come back.
+/// A hall under a name, opened with the entries of the copies, over folders below a base, with one to `workers` passes. Each has seen
+/// these entries, and has a part of the changes. Where memory runs out the folders come back.
 pub fn open_hall<N: HallName, F: Folders>(
     alloc: Global,
     blank: Blank,
@@ -145,7 +148,7 @@ pub fn open_hall<N: HallName, F: Folders>(
     requires parts { blank.parts ≡ N.parts }
     requires share { blank.parts ≡ workers }
     requires book { book_in copies ≡ N.book }
-    requires start { length (entries_in copies) ≡ N.start }
+    requires opening { entries_in copies ≡ N.opening }
     requires count { N.folder_count ≤ F.faults folders }
     requires files { shelf_of (F.files folders) base ≡ N.folder_files }
     ensures new { IfOk result (λ opened. All (IsNew (entries_in copies)) opened.passes.items) }

@@ -190,7 +190,7 @@ fn judge_under<N: HallName, F: Folders + Drop, R: Abort + Wait>(
     requires parts { blank.parts ≡ N.parts }
     requires two { blank.parts ≡ 2 }
     requires book { book_in copies ≡ N.book }
-    requires start { length (entries_in copies) ≡ N.start }
+    requires opening { entries_in copies ≡ N.opening }
     requires count { N.folder_count ≤ F.faults folders }
     requires files { shelf_of (F.files folders) base ≡ N.folder_files }
 {

@@ -12,10 +12,10 @@ returns-clause-stands c =
     let e = c.in-Ok.ready.entry in
     let ready = c.in-Ok.ensures.ready in
     let grown : c.push.new.self.items ≡ h ++ e ∷ [] = search rules in
-    let at : c.into_parts-entry.result.1 ≡ after v e.act = c.into_parts-entry.ensures.next ∙ (ready.next_is ∙ ap (after v) (sym ready.act_is)) in
-    replays_so (h ++ e ∷ []) c.push.new.self.items (after v e.act) c.into_parts-entry.result.1 (c.entry_law.ensures h v e c.requires.stands ready.may) grown at
+    let at : c.in-Ok.ready.board ≡ after v e.act = ready.next_is ∙ ap (after v) (sym ready.act_is) in
+    replays_so (h ++ e ∷ []) c.push.new.self.items (after v e.act) c.in-Ok.ready.board (c.entry_law.ensures h v e c.requires.stands ready.may) grown at
 
 pub returns-clause-settings : goal.returns-clause-settings
 returns-clause-settings c =
     let v : Version = c.args.board in
-    ap (λ (w : Version). w.settings) (c.into_parts-entry.ensures.next ∙ c.in-Ok.ensures.ready.next_is) ∙ same_settings v c.args.act
+    ap (λ (w : Version). w.settings) c.in-Ok.ensures.ready.next_is ∙ same_settings v c.args.act

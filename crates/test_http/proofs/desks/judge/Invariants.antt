@@ -1,4 +1,3 @@
-use Rattle.std.proofs.Common.{length}
 use Rattle.venue_ports.specs.Doors.{doors_accepted, doors_binds, doors_bound, doors_faults}
 use Rattle.venue_ports.specs.InMemory.{memory_files, memory_faults}
 use Rattle.shared_hall.specs.Making.{shelf_of}
@@ -8,7 +7,8 @@ use Rattle.test_http.proofs.desks.judge.Given as goal
 abbrev pub ghosts-judge_under-N-HallName : goal.ghosts-judge_under-N-HallName
 ghosts-judge_under-N-HallName g a = record {
   book = book_in a.copies;
-  start = length (entries_in a.copies);
+  opening = entries_in a.copies;
+  keys = a.front;
   folder_count = memory_faults a.folders;
   folder_files = shelf_of (memory_files a.folders) a.base;
   connections = a.connections;

@@ -7,8 +7,8 @@ use Rattle.venue_state.proofs.changes.ready_closure.Goals as goal
 
 pub returns-in-Ok-clause-outcome : goal.returns-in-Ok-clause-outcome
 returns-in-Ok-clause-outcome c shelf =
-    let is = subst (λ (a : Act). IsReady c.args.board.now a c.args.worker c.in-Ok.prepared) c.closure_act-act.ensures c.in-Ok.ensures.ready in
-    made_closure c.closed_law.ensures.ids shelf c.args.board.now c.args.worker c.args.feature c.args.closed c.in-Ok.prepared c.next_number-number.result c.requires.closable is
+    let is = subst (λ (a : Act). IsReady c.args.board.now a c.args.worker c.in-Ok.ready) c.closure_act-act.ensures c.in-Ok.ensures.ready in
+    made_closure c.closed_law.ensures.ids shelf c.args.board.now c.args.worker c.args.feature c.args.closed c.in-Ok.ready c.next_number-number.result c.requires.closable is
     c.next_number-number.ensures
 
 pub returns-in-Err-Full-clause-outcome : goal.returns-in-Err-Full-clause-outcome

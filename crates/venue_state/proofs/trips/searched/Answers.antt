@@ -8,8 +8,8 @@ use Rattle.venue_history.specs.Ways.{Usable}
 use Rattle.venue_state.proofs.Routes.{version_answer}
 use Rattle.venue_state.proofs.trips.searched.Goals as goal
 
-pub returns : goal.returns
-returns g c =
+pub returns-clause-answer : goal.returns-clause-answer
+returns-clause-answer g c =
     let given = network c.graph.result.now in
     let marks = c.marks.result.now in
     let profile = c.args.profile.now in

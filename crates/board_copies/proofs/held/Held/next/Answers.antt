@@ -1,4 +1,4 @@
-use Rattle.std.proofs.Common.{rules, ◌≡◌, ◌++◌, ◌∷◌, [], ◌∙◌}
+use Rattle.std.proofs.Common.{rules, ◌≡◌, ◌++◌, ◌∷◌, []}
 use Rattle.venue_state.specs.Versions.{after}
 use Rattle.board_copies.specs.Stamps.{entries_of}
 use Rattle.board_copies.proofs.Standing.{replays_so}
@@ -10,5 +10,5 @@ new-requires c =
     let v = c.args.self.now.board in
     let e = c.args.ready.entry in
     let list : entries_of c.in_ok-stamp.stamp ≡ h ++ e ∷ [] = search rules in
-    replays_so (h ++ e ∷ []) (entries_of c.in_ok-stamp.stamp) (after v e.act) c.into_parts-entry.result.1
-    (c.entry_law.ensures h v e c.args.self.now.stands c.requires.may) list (c.into_parts-entry.ensures.next ∙ c.requires.next)
+    replays_so (h ++ e ∷ []) (entries_of c.in_ok-stamp.stamp) (after v e.act) c.args.ready.board
+    (c.entry_law.ensures h v e c.args.self.now.stands c.requires.may) list c.requires.next

@@ -1,4 +1,5 @@
 use Rattle.std.proofs.Common.{rules, arith, ◌≡◌, ◌+◌, List, [], ◌∷◌, ◌++◌, All, sym, ap, ◌∙◌, subst, length}
+use mathlib.Core.List.{IsPrefix}
 use Rattle.venue_hall.specs.Histories.{IsLegal}
 use Rattle.venue_hall.specs.Facts.{Facts}
 use Rattle.shared_hall.specs.Offices.{OfficeFacts, made_of, Begins}
@@ -19,6 +20,7 @@ returns-clause-history g c =
     record {
       entries = h;
       legal = subst (λ (z : OfficeFacts). IsLegal z.entries) last c.end.ensures.legal;
+      opened = subst (λ (z : OfficeFacts). IsPrefix g.N.HallName.opening z.entries) last c.end.ensures.opened;
       number_is = c.end.ensures.number ∙ ap (λ (z : OfficeFacts). length z.entries) last;
       begun = subst (All (Begins h)) (sym e) (begins_push h xs p c.take_in-first.ensures.begins rest);
       told = told;

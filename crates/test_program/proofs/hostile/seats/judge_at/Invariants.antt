@@ -1,4 +1,4 @@
-use Rattle.std.proofs.Common.{length, None}
+use Rattle.std.proofs.Common.{[], None}
 use Rattle.venue_state.specs.Making.{shelf_of}
 use Rattle.shared_hall.specs.Copied.{entries_in, book_in}
 use Rattle.test_program.proofs.hostile.seats.judge_at.Given as goal
@@ -6,7 +6,8 @@ use Rattle.test_program.proofs.hostile.seats.judge_at.Given as goal
 abbrev pub ghosts-judge_under-N-HallName : goal.ghosts-judge_under-N-HallName
 ghosts-judge_under-N-HallName g a = record {
   book = book_in a.copies;
-  start = length (entries_in a.copies);
+  opening = entries_in a.copies;
+  keys = [];
   folder_count = g.F.Folders.faults a.folders;
   folder_files = shelf_of (g.F.Folders.files a.folders) a.base;
   connections = 0;

@@ -10,7 +10,7 @@ pub returns-in_ok-reached-in-Cut : goal.returns-in_ok-reached-in-Cut
 returns-in_ok-reached-in-Cut c =
     let v = c.args.self.now in
     let trip = c.args.trip in
-    λ profile b is r. (
+    λ profile b is r small. (
       c.number-in-Cut.ensures,
       record { from_same = refl; to_same = refl; name_same = refl },
       cut_told v trip.from trip.to trip.profile c.args.certificate c.args.a c.in-Cut.reached c.in_ok-reached-in-Cut.field-0

@@ -1,5 +1,6 @@
-use Rattle.std.proofs.Common.{rules, arith, ◌≡◌, ◌+◌, length, ap, ◌∙◌}
+use Rattle.std.proofs.Common.{rules, arith, ◌≡◌, ◌+◌, length, ap, subst, ◌∙◌}
 use Rattle.std.specs.Arc.{arc_value}
+use mathlib.Core.List.{IsPrefix}
 use Rattle.board_copies.specs.Rules.{list_of}
 use Rattle.board_copies.specs.declared.held.Held.{Held}
 use Rattle.board_copies.specs.declared.held.Side.{Side}
@@ -34,3 +35,6 @@ returns-clause-counted g c =
     let read : c.deref.result.now ≡ arc_value side.held = c.deref.ensures ∙ ap (λ (s : Side). arc_value s.held) c.published.ensures in
     let number : c.number-number.result ≡ length (list_of side) = c.number-number.ensures ∙ (ap (λ (h : Held). h.board.number) read ∙ c.number_law.ensures _ _ (arc_value side.held).stands) in
     omega (arith, number, c.self.invariant.3, c.self.invariant.4)
+
+pub returns-clause-opened : goal.returns-clause-opened
+returns-clause-opened g c = subst (λ (o : OfficeFacts). IsPrefix g.N.HallName.opening o.entries) c.self.view_is c.self.invariant.5

@@ -1,5 +1,5 @@
-use Rattle.shared_hall.proofs.FirstEntries.{legal_some, first_worker, first_published, first_valid}
-use Rattle.shared_hall.proofs.entry_laws.first_law.Goals as goal
+use Rattle.venue_state.proofs.FirstEntries.{legal_some, first_worker, first_published, first_valid}
+use Rattle.venue_state.proofs.entry_laws.first_law.Goals as goal
 
 pub returns-clause-some : goal.returns-clause-some
 returns-clause-some c = legal_some

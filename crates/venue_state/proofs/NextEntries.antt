@@ -7,16 +7,16 @@ use Rattle.std.proofs.lemmas.List.Elements.{All-contains}
 use Rattle.std.specs.Prelude.{All, Contains, IsTrue, ◌↔◌}
 use mathlib.Core.HLevel.{⊥_prop}
 use Rattle.venue_types.specs.declared.feature_id.FeatureId.{FeatureId}
-use Rattle.venue_hall.specs.Nodes.{closables}
-use Rattle.venue_hall.specs.Act.{Act}
-use Rattle.venue_hall.specs.Act.TheVariants.{Published, Closed, Reopened}
-use Rattle.venue_hall.specs.Entry.{Entry}
-use Rattle.venue_hall.specs.Closed.{Version, is_closed, closed_ids}
-use Rattle.venue_hall.specs.Histories.{after_all, MayAllFollow, replay_from, IsLegalFrom, KeepsTheRules, IsLegal, Replays}
-use Rattle.venue_hall.specs.Versions.{Fits, MayFollow, after}
-use Rattle.board_copies.specs.Preparing.{HasSettings, LacksFeature, IsDone, IsUnready}
-use Rattle.board_copies.specs.Unready.{Unready}
-use Rattle.board_copies.specs.Unready.TheVariants as unready
+use Rattle.route_search.specs.Nodes.{closables}
+use Rattle.venue_history.specs.declared.entry.Act.{Act}
+use Rattle.venue_history.specs.declared.entry.Act.TheVariants.{Published, Closed, Reopened}
+use Rattle.venue_history.specs.declared.entry.Entry.{Entry}
+use Rattle.venue_history.specs.Closed.{Version, is_closed, closed_ids}
+use Rattle.venue_history.specs.Histories.{after_all, MayAllFollow, replay_from, IsLegalFrom, KeepsTheRules, IsLegal, Replays}
+use Rattle.venue_history.specs.Versions.{Fits, MayFollow, after}
+use Rattle.venue_state.specs.Preparing.{HasSettings, LacksFeature, IsDone, IsUnready}
+use Rattle.venue_state.specs.declared.unready.Unready.{Unready}
+use Rattle.venue_state.specs.declared.unready.Unready.TheVariants as unready
 
 all_may : (v : Version) (es k : List Entry) (e : Entry) → MayAllFollow v (es ++ e ∷ k) → MayFollow (after_all v es) e
 all_may v [] k e all = all.0

@@ -1,17 +1,17 @@
 //! What a legal history says of its first entry, and of those after it.
 
 ghost use Rattle.std.specs.Prelude.{◌≡◌, ◌≢◌, ◌≤◌, List, [], ◌∷◌, ◌++◌};
-ghost use Rattle.venue_hall.specs.Venues.{SeenVenue as AVenue};
-ghost use Rattle.venue_hall.specs.Report.{AreValid};
-ghost use Rattle.venue_hall.specs.Entry.{Entry as AnEntry};
-ghost use Rattle.venue_hall.specs.Closed.{Version};
-ghost use Rattle.venue_hall.specs.Histories.{IsPublished, IsLegal, Replays};
-ghost use Rattle.venue_hall.specs.Versions.{MayFollow};
-ghost use Rattle.board_copies.specs.Preparing.{HasSettings, IsUnready};
-ghost use Rattle.board_copies.specs.Unready.{Unready as AnUnready};
-ghost use Rattle.board_copies.specs.Unready.TheVariants as unready;
+ghost use Rattle.venue_history.specs.Venues.{SeenVenue as AVenue};
+ghost use Rattle.venue_history.specs.Report.{AreValid};
+ghost use Rattle.venue_history.specs.declared.entry.Entry.{Entry as AnEntry};
+ghost use Rattle.venue_history.specs.Closed.{Version};
+ghost use Rattle.venue_history.specs.Histories.{IsPublished, IsLegal, Replays};
+ghost use Rattle.venue_history.specs.Versions.{MayFollow};
+ghost use Rattle.venue_state.specs.Preparing.{HasSettings, IsUnready};
+ghost use Rattle.venue_state.specs.declared.unready.Unready.{Unready as AnUnready};
+ghost use Rattle.venue_state.specs.declared.unready.Unready.TheVariants as unready;
 
-use venue_hall::{closed_law, version_law};
+use venue_history::{closed_law, version_law};
 
 /// A legal history has an entry, and the first is a publication by worker 0 of a venue whose rows every phase accepts.
 pub fn first_law()

@@ -1,11 +1,11 @@
 use Rattle.std.proofs.Common.{rules, ◌≡◌, sym, subst}
 use Rattle.std.specs.Arc.{arc_value}
-use Rattle.venue_hall.specs.Report.{AreValid}
-use Rattle.venue_hall.specs.Venues.{SeenVenue as Venue}
-use Rattle.venue_hall.specs.Histories.{IsLegal}
-use Rattle.venue_hall.specs.Openings.{opening_history}
-use Rattle.shared_hall.proofs.FirstEntries.{opening_legal}
-use Rattle.shared_hall.proofs.entries.opening_entries.Goals as goal
+use Rattle.venue_build.specs.Report.{AreValid}
+use Rattle.venue_build.specs.Venues.{SeenVenue as Venue}
+use Rattle.venue_history.specs.Histories.{IsLegal}
+use Rattle.venue_history.specs.Openings.{opening_history}
+use Rattle.venue_history.proofs.Publishing.{opening_legal}
+use Rattle.venue_history.proofs.opening.opening_entries.Goals as goal
 
 pub returns-clause-legal : goal.returns-clause-legal
 returns-clause-legal c =

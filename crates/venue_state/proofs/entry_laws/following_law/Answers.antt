@@ -1,5 +1,5 @@
-use Rattle.shared_hall.proofs.NextEntries.{next_may, next_worker_some, next_worker_range, next_settings, next_unready}
-use Rattle.shared_hall.proofs.entry_laws.following_law.Goals as goal
+use Rattle.venue_state.proofs.NextEntries.{next_may, next_worker_some, next_worker_range, next_settings, next_unready}
+use Rattle.venue_state.proofs.entry_laws.following_law.Goals as goal
 
 pub returns-clause-may : goal.returns-clause-may
 returns-clause-may c = next_may
