@@ -25,6 +25,7 @@ pub mod AskingLinks
 pub mod AskingRanges
 pub mod AskingDoors
 pub mod AreaLinks
+pub mod RowLinks
 pub mod Detouring
 pub use Rattle.venue_nodes.proofs.Places
 pub use Rattle.venue_nodes.proofs.Finding

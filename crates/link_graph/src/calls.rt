@@ -28,13 +28,15 @@ use walk_laws::Steps;
 
 impl Graph {
     ghost use Rattle.std.specs.Prelude.{IfOk, Some, slice_get};
+    ghost use Rattle.venue_types.specs.declared.features.Features.{Features as AFeatures};
     ghost use Rattle.venue_types.specs.declared.link.Link.{Link as ALink};
+    ghost use Rattle.venue_types.specs.declared.settings.Settings.{Settings as ASettings};
     ghost use Rattle.link_graph.specs.Networks.{IsFree, IsNetworkOf, link_facts, links_out};
 
     /// The graph of the features of a folder, over the nodes and the rows of members that were made of them, where units are roomy.
     /// Takes n log n time, and memory in proportion to them and to the passages, whatever the number of links.
     #[tactic(auto, unfolding(crate::specs::Graphs::network))]
-    pub fn of(
+    pub(crate) fn of(
         alloc: Global,
         features: &Features,
         nodes: Nodes,
@@ -77,6 +79,14 @@ impl Graph {
         ensures { result ≡ (network self.now).place id }
     {
         self.core.nodes.node_of(id)
+    }
+
+    /// The table of its nodes and of what can be closed.
+    #[tactic(auto, unfolding(crate::specs::Graphs::network, crate::specs::Cores::network_in))]
+    pub fn node_table(&self) -> &Nodes
+        ensures { (features : AFeatures) (settings : ASettings) → IsNetworkOf features settings (network self.now) → AreNodes features result.now }
+    {
+        &self.core.nodes
     }
 
     /// How many features can be closed.
@@ -154,6 +164,14 @@ impl Graph {
         ensures { IfOk result (λ links. links ≡ (network self.now).links) }
     {
         link_list::listed(alloc, &self.core)
+    }
+
+    /// How many links there are. Computes no lengths, and looks at each unit once.
+    #[tactic(auto, unfolding(crate::specs::Graphs::network, crate::specs::Cores::network_in))]
+    pub fn link_count(&self) -> usize
+        ensures { result ≡ length (network self.now).links }
+    {
+        link_list::link_count(&self.core)
     }
 
     /// Into how many stretches the links out of a node fall: one for each unit across which it has links, in file order, then one for

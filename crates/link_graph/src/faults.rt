@@ -1,10 +1,13 @@
 //! Why there is no graph.
 
-ghost use Rattle.std.specs.Prelude.{◌≡◌};
+ghost use Rattle.std.specs.Prelude.{◌≡◌, ◌≢◌, [], IfOk};
+ghost use Rattle.venue_nodes.specs.FeatureRows.{HaveOwnIds};
+ghost use Rattle.venue_nodes.specs.Sound.{AreSound};
 ghost use Rattle.link_graph.specs.declared.faults.GraphFault.TheVariants.{OutOfMemory as NoMemory};
 
-use venue_nodes::Crowding;
-use venue_types::OutOfMemory;
+use std::alloc::Global;
+use venue_nodes::{Crowding, crowding_by, limit_findings};
+use venue_types::{Features, Finding, List, OutOfMemory};
 
 /// Why there is no graph of a venue.
 #[derive(Clone, Copy, Debug, PartialEq, Eq)]
@@ -18,18 +21,59 @@ pub enum GraphFault {
 }
 
 impl GraphFault {
-    ghost use Rattle.std.specs.Prelude.{ℕ, Some};
-    ghost use Rattle.venue_types.specs.declared.features.Features.{Features};
+    ghost use Rattle.std.specs.Prelude.{ℕ, IfSome, Some};
+    ghost use Rattle.venue_types.specs.declared.features.Features.{Features as AFeatures};
+    ghost use Rattle.rule_reports.specs.Reports.{IsReport};
     ghost use Rattle.venue_nodes.specs.Crowds.{Crowds};
+    ghost use Rattle.venue_nodes.specs.Limits.{BreaksLimit};
+    ghost use Rattle.opening_match.specs.Kept.{TouchMany};
     ghost use Rattle.link_graph.specs.Faults.{IsFault};
 
     /// That a limit on members is passed.
     pub(crate) fn of(crowding: Crowding) -> GraphFault
-        ensures { (features : Features) (border_tol : ℕ) → Crowds features border_tol (Some crowding) → IsFault features border_tol result }
+        ensures { (features : AFeatures) (border_tol : ℕ) → Crowds features border_tol (Some crowding) → IsFault features border_tol result }
     {
         match crowding {
             Crowding::Members(k) => GraphFault::Members(k),
             Crowding::Squares => GraphFault::Links,
+        }
+    }
+
+    /// That a limit is passed in a folder in which the phases before find nothing, where more openings touch its first units than any
+    /// venue may have: so many as are counted.
+    pub fn of_counts(alloc: Global, features: &Features, counts: &[usize]) -> GraphFault
+        requires sound { AreSound features.now }
+        requires own_ids { HaveOwnIds features.now }
+        ensures { (border_tol : ℕ) → TouchMany border_tol features.now.openings features.now.units counts.now → IsFault features.now border_tol result }
+    {
+        match crowding_by(alloc, features, counts) {
+            Ok(crowding) => GraphFault::of(crowding),
+            Err(OutOfMemory) => GraphFault::OutOfMemory,
+        }
+    }
+
+    /// What is found in the folder: the limit that is passed.
+    pub fn findings(self, alloc: Global) -> Result<List<Finding>, OutOfMemory>
+        ensures some { IfOk result (λ findings. findings ≢ []) }
+        ensures all { IfOk result (λ findings. (features : AFeatures) (border_tol : ℕ) → IsFault features border_tol self → IsReport (BreaksLimit features border_tol) findings) }
+    {
+        match self.crowding() {
+            Some(crowding) => {
+                let findings = limit_findings(alloc, crowding)?;
+                Ok(findings)
+            }
+            None => Err(OutOfMemory),
+        }
+    }
+
+    // The limit that is passed, if one is.
+    fn crowding(self) -> Option<Crowding>
+        ensures { IfSome result (λ crowding. (features : AFeatures) (border_tol : ℕ) → IsFault features border_tol self → Crowds features border_tol (Some crowding)) }
+    {
+        match self {
+            GraphFault::Members(k) => Some(Crowding::Members(k)),
+            GraphFault::Links => Some(Crowding::Squares),
+            GraphFault::OutOfMemory => None,
         }
     }
 }

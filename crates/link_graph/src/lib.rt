@@ -31,4 +31,4 @@ pub use laws::{detour_law, inside_law, length_between_law, range_law, whole_law}
 pub use marks::{Marks, marked_law};
 pub use network_laws::{network_parts_law, passable_law};
 pub use stretches::{Stretch, Way};
-pub use venue_nodes::{Nodes, Rows, first_crowding, limit_findings, place_notes};
+pub use venue_nodes::{limit_law, place_notes};

@@ -1,6 +1,6 @@
 //! All links, in their order.
 
-ghost use Rattle.std.specs.Prelude.{◌≡◌, ◌<◌, ◌++◌, IfOk, OnOk, All, filter, length, map, slice_index_or};
+ghost use Rattle.std.specs.Prelude.{◌≡◌, ◌<◌, ◌≤◌, ◌*◌, ◌-◌, ◌++◌, if◌then◌else◌, IfOk, OnOk, All, filter, length, map, slice_index_or};
 ghost use Rattle.venue_nodes.specs.Rows.{row_list};
 ghost use Rattle.venue_nodes.specs.Views.{node_list};
 ghost use Rattle.link_graph.specs.Cores.{IsSoundCore, link_across, links_across, links_across_from, links_in};
@@ -66,4 +66,28 @@ fn add_from(
         }
     }
     Ok(())
+}
+
+/// How many links there are.
+pub(crate) fn link_count(core: &Core) -> usize
+    requires { IsSoundCore core.now }
+    ensures { result ≡ length (links_in core.now) }
+{
+    let mut count = 0;
+    for w in 0..core.rows.len() {
+        count += across_count(core.crossings[w as usize], core.rows.row(w).len());
+    }
+    count + core.passages.len()
+}
+
+// How many links there are across a unit of so many members: one for each pair of them, in either order.
+fn across_count(crossing: Crossing, members: usize) -> usize
+    requires { members ≤ 4096 }
+    ensures { result ≡ (if crossing.walked then members * (members - 1) else 0) }
+{
+    if crossing.walked {
+        members * members.saturating_sub(1)
+    } else {
+        0
+    }
 }

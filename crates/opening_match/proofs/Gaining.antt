@@ -12,6 +12,9 @@ use Rattle.venue_types.specs.declared.features.OpeningRow.{OpeningRow}
 use Rattle.venue_types.specs.declared.features.UnitRow.{UnitRow}
 use Rattle.venue_types.specs.declared.link.Touches as touching
 use Rattle.plane_exact.specs.Opening.{AreTouches}
+use Rattle.opening_match.specs.declared.matches.Matches.{Matches}
+use Rattle.opening_match.specs.declared.matches.Matches.TheVariants.{Each, Many}
+use Rattle.opening_match.specs.Kept.{AreKept, AreKeptOf, TouchFew, TouchMany}
 use Rattle.opening_match.specs.Places.{AreDistinct}
 use Rattle.opening_match.specs.Matches.{TouchesAt, AreMatches}
 use Rattle.opening_match.specs.Rows.{GainsAt, GainsUnit, HaveMatch, AreRowsBelow}
@@ -159,3 +162,11 @@ folder_rows t features openings units rows touches same file is below = whole t 
           (λ have. (below.exact o u row there).1 (slice_get_within features.units u have.unit have.has_unit, record { unit = have.unit; there = have.has_unit; touch = record { opening = have.opening; there = have.has_opening; touch = have.touch } })),
         );
       }
+
+pub folder_kept : (t : ℕ) (features : Features) (openings : List OpeningRow) (units : List UnitRow) (matches : Matches) → openings ≡ features.openings → units ≡ features.units → AreKeptOf t openings units matches → AreKept t features matches
+folder_kept t features openings units (Each touches) same file (below, few) = (
+  folder_rows t features openings units touches.rows touches same file refl below,
+  subst (λ (us : List UnitRow). TouchFew t features.openings us) file (subst (λ (os : List OpeningRow). TouchFew t os units) same few),
+)
+folder_kept t features openings units (Many counts) same file many =
+    subst (λ (us : List UnitRow). TouchMany t features.openings us counts) file (subst (λ (os : List OpeningRow). TouchMany t os units counts) same many)

@@ -4,4 +4,5 @@ mod Placing
 mod Ordering
 mod Stretching
 mod Touching
+mod Counting
 mod Gaining

@@ -3,4 +3,6 @@ pub mod Frames
 pub mod Stretches
 pub mod Places
 pub mod Matches
+pub mod Counts
+pub mod Kept
 pub mod Rows

@@ -2,10 +2,13 @@
 #![tactic(auto)]
 
 mod candidates;
+mod counts;
 mod entries;
 mod frame;
+mod matches;
 mod rows;
 mod stretches;
 mod touch_rows;
 
+pub use matches::Matches;
 pub use touch_rows::touches;

@@ -1,6 +1,6 @@
 //! From what a search found to a claim.
 
-ghost use Rattle.std.specs.Prelude.{◌≤◌, IfOk, length, map};
+ghost use Rattle.std.specs.Prelude.{◌≡◌, IfOk, length, map};
 ghost use Rattle.venue_types.specs.declared.features.Features.{Features};
 ghost use Rattle.venue_types.specs.declared.settings.Settings.{Settings};
 ghost use Rattle.link_graph.specs.Graphs.{network};
@@ -28,10 +28,9 @@ fn steps_of(
     requires { AreAllowed (network graph.now) profile.now walk.now }
     ensures numbered { IfOk result (λ steps. (features : Features) (settings : Settings) → IsNetworkOf features settings (network graph.now)
         → AreFirstPlaces (table_of features settings profile.now).links (map (row_of features) walk.now) steps) }
-    ensures many { IfOk result (λ steps. length steps ≤ length walk.now) }
+    ensures many { IfOk result (λ steps. length steps ≡ length walk.now) }
 {
-    let mut places = row_places(alloc, graph, profile, walk)?;
-    places.truncate(walk.len());
+    let places = row_places(alloc, graph, profile, walk)?;
     Ok(List::from_vec(places))
 }
 

@@ -1,6 +1,6 @@
 //! The places of links in a table, without the table.
 
-ghost use Rattle.std.specs.Prelude.{◌≡◌, IfOk, All, Contains, map};
+ghost use Rattle.std.specs.Prelude.{◌≡◌, IfOk, All, Contains, length, map};
 ghost use Rattle.venue_types.specs.declared.features.Features.{Features};
 ghost use Rattle.venue_types.specs.declared.settings.Settings.{Settings};
 ghost use Rattle.imdf_access.specs.Access.{IsAllowed};
@@ -30,8 +30,9 @@ pub fn row_places(
 ) -> Result<Vec<u32>, OutOfMemory>
     requires there { All (Contains (network graph.now).links) links.now }
     requires allowed { All (λ link. IsAllowed profile.now (link_facts (network graph.now) link)) links.now }
-    ensures { IfOk result (λ places. (features : Features) (settings : Settings) → IsNetworkOf features settings (network graph.now)
+    ensures numbered { IfOk result (λ places. (features : Features) (settings : Settings) → IsNetworkOf features settings (network graph.now)
         → AreFirstPlaces (table_of features settings profile.now).links (map (row_of features) links.now) places.items) }
+    ensures many { IfOk result (λ places. length places.items ≡ length links.now) }
 {
     graph.range_law();
     let starts = row_starts(alloc, graph, profile)?;

@@ -27,7 +27,7 @@ use Rattle.venue_nodes.proofs.Places.{places-zip, places_count, places_few, kept
 
 -- ---- tests that agree, node by node
 
-zip_maps : {R X Y : Type 0} (t : X → Bool) (s : Y → Bool) (f : R → X) (g : R → Y) (rows : List R) → ((r : R) → t (f r) ≡ s (g r)) → AllZip (λ x y. t x ≡ s y) (map f rows) (map g rows)
+pub zip_maps : {R X Y : Type 0} (t : X → Bool) (s : Y → Bool) (f : R → X) (g : R → Y) (rows : List R) → ((r : R) → t (f r) ≡ s (g r)) → AllZip (λ x y. t x ≡ s y) (map f rows) (map g rows)
 zip_maps t s f g [] same = tt
 zip_maps t s f g (r ∷ rows) same = (same r, zip_maps t s f g rows same)
 
@@ -44,7 +44,7 @@ zip_append R [] xs' (y ∷ ys) ys' zip zip' = absurd zip
 zip_append R (x ∷ xs) xs' [] ys' zip zip' = absurd zip
 zip_append R (x ∷ xs) xs' (y ∷ ys) ys' zip zip' = (zip.0, zip_append R xs xs' ys ys' zip.1 zip')
 
-or_false : (b : Bool) → ◌||◌ b false ≡ b
+pub or_false : (b : Bool) → ◌||◌ b false ≡ b
 or_false true = refl
 or_false false = refl
 

@@ -1,5 +1,5 @@
 -- The limits, from rows to units and back.
-use Rattle.std.proofs.Common.{◌≡◌, ℕ, Bool, true, false, ◌+◌, ◌*◌, ◌≤◌, ◌<◌, zero, suc, List, [], ◌∷◌, Option, Some, None, length, map, take, get_or, refl, sym, ap, subst, ◌∙◌, arith, inl, inr}
+use Rattle.std.proofs.Common.{◌≡◌, ℕ, Bool, true, false, ◌+◌, ◌*◌, ◌≤◌, ◌<◌, zero, suc, List, [], ◌∷◌, ◌++◌, Option, Some, None, length, map, take, get_or, refl, sym, ap, subst, ◌∙◌, arith, inl, inr}
 use Rattle.std.specs.Prelude.{Contains, All, IsTrue, slice_get, sum_by}
 use Rattle.std.specs.Option.{option_map, option_to_list}
 use Rattle.std.specs.List.Sorted.{IsStrictlySortedBy}
@@ -197,3 +197,9 @@ pub report : (features : Features) (border_tol : ℕ) (limit : Option Crowding) 
 report features border_tol None crowds = listed_none (λ y b. told_nothing features border_tol y crowds.0 crowds.1 b.rule b.breaks)
 report features border_tol (Some (Members k)) crowds = listed_one (limit_finding (Members k)) (breaks_members features border_tol k crowds) (λ y b. told_members features border_tol k y crowds b.rule b.number b.breaks b.first b.in_file b.at_member)
 report features border_tol (Some Squares) crowds = listed_one (limit_finding Squares) (breaks_squares features border_tol crowds.0 crowds.1) (λ y b. told_squares features border_tol y crowds.0 b.rule b.number b.breaks b.in_file b.at_member)
+
+pub told_one : (none found : List Finding) (x y : Finding) → none ≡ [] → x ≡ y → found ≡ none ++ x ∷ [] → found ≡ y ∷ []
+told_one none found x y empty is pushed = pushed ∙ ap (λ (xs : List Finding). xs ++ x ∷ []) empty ∙ ap (λ (z : Finding). z ∷ []) is
+
+pub limits_told : (features : Features) (border_tol : ℕ) (x : Finding) → Crowds features border_tol None → ¬ BreaksLimit features border_tol x
+limits_told features border_tol x crowds breaks = told_nothing features border_tol x crowds.0 crowds.1 breaks.rule breaks.breaks

@@ -1,5 +1,5 @@
 -- Which limit the rows pass first.
-use Rattle.std.specs.Prelude.{◌≡◌, ℕ, ◌*◌, ◌≤◌, ◌<◌, List, length, slice_get, Option, Some, None}
+use Rattle.std.specs.Prelude.{◌≡◌, ℕ, ◌+◌, ◌*◌, ◌≤◌, ◌<◌, List, length, slice_get, slice_index_or, Option, Some, None}
 use Rattle.venue_types.specs.declared.features.Features.{Features}
 use Rattle.venue_nodes.specs.declared.limits.Crowding.{Crowding}
 use Rattle.venue_nodes.specs.declared.limits.Crowding.TheVariants.{Members, Squares}
@@ -7,7 +7,9 @@ use Rattle.venue_types.specs.declared.finding.Finding.{Finding}
 use Rattle.venue_types.specs.declared.folder_file.File.TheVariants as file
 use Rattle.imdf_schema.specs.Places.{finding_at}
 use Rattle.venue_nodes.specs.declared.rules.LimitRule.TheVariants.{S5, S6}
+use Rattle.venue_nodes.specs.declared.members.Rows.{Rows}
 use Rattle.venue_nodes.specs.Limits.{IsCrowded, square_sum, rule_of}
+use Rattle.venue_nodes.specs.Rows.{row_list, unit_indexes}
 
 -- no unit is crowded
 abbrev pub NoneCrowded : Features → ℕ → Type 0
@@ -34,6 +36,19 @@ pub record IsFirstFull (rows : List (List ℕ)) (w : ℕ) : Type 0 where
   pub there : slice_get rows w ≡ Some row
   pub full : 4096 < length row
   pub before : (v : ℕ) (other : List ℕ) → v < w → slice_get rows v ≡ Some other → IsRoomy other
+
+-- the unit of this index has the row of this number, and with so many openings as are counted for it too many members
+pub record IsOver (rows : Rows) (counts : List ℕ) (w k : ℕ) : Type 0 where
+  pub row : List ℕ
+  pub there : slice_get (row_list rows) w ≡ Some row
+  pub unit_is : slice_get (unit_indexes rows) w ≡ Some k
+  pub over : 4096 < length row + slice_index_or counts k 0
+
+-- it is the first of them
+pub record IsFirstOver (rows : Rows) (counts : List ℕ) (k : ℕ) : Type 0 where
+  pub w : ℕ
+  pub is : IsOver rows counts w k
+  pub before : (v j : ℕ) → v < w → ¬ IsOver rows counts v j
 
 -- the square of the number of members in a row
 abbrev pub square_of : List ℕ → ℕ

@@ -19,7 +19,7 @@ mod touch_laws;
 mod unit_rows;
 mod walkables;
 
-pub use limits::{Crowding, first_crowding, limit_findings};
+pub use limits::{Crowding, crowding_by, first_crowding, limit_findings, limit_law};
 pub use members::{Membership, Rows};
 pub use node_laws::{few_law, number_law, spot_law};
 pub use nodes::Nodes;

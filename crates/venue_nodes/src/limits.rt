@@ -1,18 +1,23 @@
 //! Which limit on members a folder passes.
 
-ghost use Rattle.std.specs.Prelude.{◌≡◌, ◌↔◌, ◌<◌, ◌≤◌, ◌*◌, ℕ, List, All, IfOk, IsTrue, MatchOption, sum_by, length};
-ghost use Rattle.std.specs.Option.{option_map, option_to_list};
+ghost use Rattle.std.specs.Prelude.{◌≡◌, ◌≢◌, ◌↔◌, ◌+◌, ◌<◌, ◌≤◌, ◌*◌, ℕ, List, [], All, IfOk, IsTrue, MatchOption, Some, None, slice_index_or, sum_by, length};
 ghost use Rattle.venue_types.specs.declared.features.Features.{Features};
+ghost use Rattle.venue_types.specs.declared.finding.Finding.{Finding};
+ghost use Rattle.feature_rows.specs.Rows.{HaveOwnIds};
+ghost use Rattle.feature_rows.specs.Sound.{AreSound};
 ghost use Rattle.rule_reports.specs.Reports.{IsReport};
-ghost use Rattle.venue_nodes.specs.Crowds.{Crowds, IsFirstFull, IsRoomy, limit_finding, square_of};
+ghost use Rattle.opening_match.specs.Kept.{TouchMany};
+ghost use Rattle.venue_nodes.specs.Crowds.{Crowds, IsFirstFull, IsFirstOver, IsOver, IsRoomy, limit_finding, square_of};
 ghost use Rattle.venue_nodes.specs.Limits.{BreaksLimit};
 ghost use Rattle.venue_nodes.specs.Rows.{AreRowsOf, row_list};
 
 use crate::members::Rows;
 use crate::rules::LimitRule;
+use crate::touch_laws::touch_law;
+use feature_rows::once_law;
 use imdf_schema::{FeatureAt, File};
 use std::alloc::Global;
-use venue_types::{Finding, List, OutOfMemory};
+use venue_types::{Features, Finding, List, OutOfMemory, Touches};
 
 const MOST_MEMBERS: usize = 4_096;
 
@@ -55,24 +60,70 @@ pub fn first_crowding(rows: &Rows) -> Option<Crowding>
     }
 }
 
-/// The finding that a limit is passed, if one is.
-pub fn limit_findings(alloc: Global, rows: &Rows) -> Result<List<Finding>, OutOfMemory>
-    ensures { IfOk result (λ findings. (features : Features) (border_tol : ℕ) → AreRowsOf features border_tol rows.now → IsReport (BreaksLimit features border_tol) findings) }
+/// The limit that is passed where more openings touch the first units than any venue may have.
+pub fn crowding_by(
+    alloc: Global,
+    features: &Features,
+    counts: &[usize],
+) -> Result<Crowding, OutOfMemory>
+    requires sound { AreSound features.now }
+    requires own_ids { HaveOwnIds features.now }
+    ensures { IfOk result (λ crowding. (border_tol : ℕ) → TouchMany border_tol features.now.openings features.now.units counts.now → Crowds features.now border_tol (Some crowding)) }
 {
-    let findings = listed(alloc, first_crowding(rows))?;
+    once_law();
+    touch_law();
+    let none = Touches {
+        rows: List::new(alloc),
+    };
+    let rows = Rows::of_named(alloc, features, &none)?;
+    match first_over(&rows, counts) {
+        Some(k) => Ok(Crowding::Members(k)),
+        None => Ok(Crowding::Squares),
+    }
+}
+
+// The first unit of too many members, by rows without openings and how many of these touch each of the first units.
+fn first_over(rows: &Rows, counts: &[usize]) -> Option<u32>
+    ensures { MatchOption result ((w k : ℕ) → ¬ IsOver rows.now counts.now w k) (IsFirstOver rows.now counts.now) }
+{
+    for w in 0..rows.len() {
+        let k = rows.unit_index(w);
+        if is_over(rows.row(w).len(), count_at(counts, k)) {
+            return Some(k);
+        }
+    }
+    None
+}
+
+// The count at an index, or 0.
+fn count_at(counts: &[usize], k: u32) -> usize
+    ensures { result ≡ slice_index_or counts.now k 0 }
+{
+    let k = k as usize;
+    if k < counts.len() { counts[k] } else { 0 }
+}
+
+// Whether the two are together more than a unit may have.
+fn is_over(others: usize, openings: usize) -> bool
+    ensures { IsTrue result ↔ (4096 < others + openings) }
+{
+    others > MOST_MEMBERS || openings > MOST_MEMBERS - others
+}
+
+/// What is found where a limit is passed.
+pub fn limit_findings(alloc: Global, crowding: Crowding) -> Result<List<Finding>, OutOfMemory>
+    ensures some { IfOk result (λ findings. findings ≢ []) }
+    ensures all { IfOk result (λ findings. (features : Features) (border_tol : ℕ) → Crowds features border_tol (Some crowding) → IsReport (BreaksLimit features border_tol) findings) }
+{
+    let mut findings = List::new(alloc);
+    findings.push(crowding.finding())?;
     Ok(findings)
 }
 
-// The finding of the limit, if there is one.
-fn listed(alloc: Global, limit: Option<Crowding>) -> Result<List<Finding>, OutOfMemory>
-    ensures { IfOk result (λ findings. findings ≡ option_to_list (option_map limit_finding limit)) }
-{
-    let mut findings = List::new(alloc);
-    if let Some(crowding) = limit {
-        findings.push(crowding.finding())?;
-    }
-    Ok(findings)
-}
+/// Where no limit is passed, none is told.
+pub fn limit_law()
+    ensures { (features : Features) (border_tol : ℕ) (x : Finding) → Crowds features border_tol None → ¬ BreaksLimit features border_tol x }
+{}
 
 // The first row of too many members.
 fn crowded(rows: &Rows) -> Option<u32>

@@ -7,15 +7,8 @@ use Rattle.venue_nodes.specs.Rows.{row_list}
 use Rattle.link_graph.specs.declared.parts.Core.{Core}
 use Rattle.link_graph.specs.declared.parts.Crossing.{Crossing}
 use Rattle.link_graph.specs.Cores.{IsSoundCore, links_across, links_across_all, links_in}
+use Rattle.link_graph.proofs.RowLinks.{next_row}
 use Rattle.link_graph.proofs.link_list.listed.Goals as goal
-
--- the links across the units of what is left, from a row on
-next_row : (core : Core) (w : ℕ) (crossings : List Crossing) (rows : List (List ℕ)) (crossing : Crossing) (row : List ℕ) → w < length crossings → crossing ≡ get_or crossings w crossing → slice_get rows w ≡ Some row
-    → links_across_all core (drop w crossings) (drop w rows) ≡ links_across core crossing row ++ links_across_all core (drop (w + 1) crossings) (drop (w + 1) rows)
-next_row core w crossings rows crossing row within read there =
-    let one : drop w crossings ≡ crossing ∷ drop (w + 1) crossings = drop_more crossings w crossing within ∙ ap (λ (x : Crossing). x ∷ drop (w + 1) crossings) (sym read) in
-    let two : drop w rows ≡ row ∷ drop (w + 1) rows = drop_more rows w row (slice_get_within rows w row there) ∙ ap (λ (r : List ℕ). r ∷ drop (w + 1) rows) (get_or_from_slice_get rows w row row there) in
-    ap (λ (xs : List Crossing). links_across_all core xs (drop w rows)) one ∙ ap (λ (rs : List (List ℕ)). links_across_all core (crossing ∷ drop (w + 1) crossings) rs) two
 
 pub loop-w-preserved : goal.loop-w-preserved
 loop-w-preserved c =

@@ -1,5 +1,5 @@
-use Rattle.std.proofs.Common.{ℕ, ◌+◌, List, [], ◌∷◌, ◌++◌, get_or, take, map, refl, sym, subst, arith}
-use Rattle.std.proofs.lemmas.List.{map_more, take_all}
+use Rattle.std.proofs.Common.{ℕ, ◌+◌, List, [], ◌∷◌, ◌++◌, get_or, take, map, refl, sym, subst, ◌∙◌, arith}
+use Rattle.std.proofs.lemmas.List.{length-map, map_more, take_all}
 use Rattle.venue_types.specs.declared.kind.Kind.TheVariants.{Floor}
 use Rattle.venue_types.specs.declared.link.Link.{Link}
 use Rattle.link_graph.specs.Graphs.{network}
@@ -8,6 +8,7 @@ use Rattle.route_answers.specs.Passing.{link_row, rows_of}
 use Rattle.route_answers.specs.Places.{AreFirstPlaces, IsFirstPlace}
 use Rattle.route_answers.specs.Tables.{row_of}
 use Rattle.route_answers.proofs.AllPlaces.{place_few}
+use Rattle.route_answers.proofs.Ranges.{as_many}
 use Rattle.route_answers.proofs.Venues.{mapped_same, row_same, rows_are}
 use Rattle.route_answers.proofs.places.row_places.Goals as goal
 
@@ -43,11 +44,20 @@ loop-link-preserved c =
     subst (AreFirstPlaces rows (map (link_row given) (take (i + 1) links))) (sym c.in_ok-push.ensures.items)
     (subst (λ (wanted : List TableLink). AreFirstPlaces rows wanted (old ++ c.place.result ∷ [])) (sym (map_more (link_row given) links i nothing c.loop-link-test.true)) more)
 
-pub returns : goal.returns
-returns c = λ features settings is.
+pub returns-clause-numbered : goal.returns-clause-numbered
+returns-clause-numbered c = λ features settings is.
     let given = network c.args.graph.now in
     let links = c.args.links.now in
     let places = c.loop-link.places.items in
     let whole = subst (λ (xs : List Link). AreFirstPlaces (rows_of given c.args.profile.now given.links) (map (link_row given) xs) places) (take_all c.loop-link.link-index links c.loop-link-test.false) c.loop-link.invariant in
     subst (λ (rows : List TableLink). AreFirstPlaces rows (map (row_of features) links) places) (rows_are features settings given c.args.profile.now is)
     (subst (λ (wanted : List TableLink). AreFirstPlaces (rows_of given c.args.profile.now given.links) wanted places) (mapped_same (link_row given) (row_of features) links (λ link. row_same features settings given link is)) whole)
+
+pub returns-clause-many : goal.returns-clause-many
+returns-clause-many c =
+    let given = network c.args.graph.now in
+    let rows = rows_of given c.args.profile.now given.links in
+    let links = c.args.links.now in
+    let places = c.loop-link.places.items in
+    let whole = subst (λ (xs : List Link). AreFirstPlaces rows (map (link_row given) xs) places) (take_all c.loop-link.link-index links c.loop-link-test.false) c.loop-link.invariant in
+    as_many rows (map (link_row given) links) places whole ∙ length-map links (link_row given)

@@ -1,11 +1,12 @@
-use Rattle.std.proofs.Common.{List, sym, subst}
+use Rattle.std.proofs.Common.{List, Some, sym, subst}
 use Rattle.venue_types.specs.declared.finding.Finding.{Finding}
 use Rattle.rule_reports.specs.Reports.{IsReport}
+use Rattle.venue_nodes.specs.Crowds.{limit_finding}
 use Rattle.venue_nodes.specs.Limits.{BreaksLimit}
-use Rattle.venue_nodes.proofs.Limiting.{report}
+use Rattle.venue_nodes.proofs.Limiting.{report, told_one}
 use Rattle.venue_nodes.proofs.limits.limit_findings.Goals as goal
 
-pub returns : goal.returns
-returns c = λ features border_tol are.
-    subst (λ (xs : List Finding). IsReport (BreaksLimit features border_tol) xs) (sym c.in_ok-findings.ensures)
-    (report features border_tol c.first_crowding.result (c.first_crowding.ensures features border_tol are))
+pub returns-clause-all : goal.returns-clause-all
+returns-clause-all c = λ features border_tol crowds.
+    let told = told_one c.new-findings.result c.push.new.self c.finding.result (limit_finding c.args.crowding) c.new-findings.ensures c.finding.ensures c.in_ok-push.ensures.ok in
+    subst (λ (xs : List Finding). IsReport (BreaksLimit features border_tol) xs) (sym told) (report features border_tol (Some c.args.crowding) crowds)
