@@ -1,17 +1,19 @@
 -- From the answer and what was written to how the run ends.
 use Rattle.std.proofs.Common.{◌≡◌, ℕ, ◌≤◌, List, [], ◌++◌, Option, Some, None, Result, Ok, Err, refl, sym, subst, ◌∙◌, inl, inr, codes, append-nil}
-use Rattle.std.specs.Prelude.{IfSome, IfOk, OnOk, OnErr}
-use Rattle.venue_ports.specs.Files.{StoredFile}
+use Rattle.std.specs.Prelude.{IfSome, IfOk, IfErr, OnOk, OnErr}
+use Rattle.venue_ports.specs.Files.{StoredFile, HasReadCause}
 use Rattle.venue_ports.specs.Causes.{Rose}
 use Rattle.venue_ports.specs.declared.folders.ReadFault.{ReadFault}
+use Rattle.venue_ports.specs.declared.folders.ReadFault.TheVariants as fault
 use Rattle.venue_ports.specs.declared.stream.Failed.{Failed}
 use Rattle.line_forms.specs.Lines.{line}
 use Rattle.venue_commands.specs.declared.printout.Printout.{Printout}
 use Rattle.venue_commands.specs.declared.status.Status.{Status}
 use Rattle.venue_commands.specs.declared.status.Status.TheVariants.{Done, Negative, Wrong, Fault, Memory}
-use Rattle.venue_commands.specs.Steps.{IsPrinted, AsksRoute}
-use Rattle.venue_types.specs.declared.feature_id.FeatureId.{FeatureId}
-use Rattle.venue_commands.specs.Commands.{Asked, Price, Verify, Check, Links, Route, Session, Serve, Gen, IsBase, IsFolder, IsIdentifier, IsAsked, AskFor, IsNoSession, IsNoService, words_of}
+use Rattle.venue_commands.specs.Steps.{IsPrinted, IsUnknown, IsAnswer}
+use Rattle.venue_commands.specs.declared.command.RouteOf.{RouteOf}
+use Rattle.venue_commands.specs.ReadCommands.{AskWay}
+use Rattle.venue_commands.specs.Commands.{Asked, Price, Verify, Check, Links, Route, Session, Serve, Gen, IsBase, IsFolder, IsIdentifier, IsAsked, AskFor, AskForNothing, words_of}
 use Rattle.venue_commands.specs.Output.{PriceOutput, Output, other_words, answers_price, answers_verify, answers_check, answers_links, answers_route, answers_gen}
 use Rattle.venue_commands.specs.Verified.{VerifyOutput}
 use Rattle.venue_commands.specs.Checked.{CheckOutput}
@@ -47,18 +49,13 @@ links_told words files base folder profile (Err e) is-base is-folder is told = t
 links_told words None base folder profile (Ok a) is-base is-folder is told = tt
 links_told words (Some fs) base folder profile (Ok a) is-base is-folder is told = answers_links base folder profile (is-base, is-folder) is told
 
-pub route_told : (words : List (List ℕ)) (files : Option (List StoredFile)) (base folder profile : List ℕ) (a b : FeatureId) (r : Result Printout ReadFault)
-    → AsksRoute words base folder profile a b → IfOk r (λ x. IfSome files (λ fs. RouteOutput fs base folder profile a b x.text x.status))
+pub route_told : (words : List (List ℕ)) (files : Option (List StoredFile)) (route : RouteOf) (r : Result Printout ReadFault) → AskWay words route
+    → IfOk r (λ x. IfSome files (λ fs. RouteOutput fs route.of.base.now route.of.folder.now route.profile.now route.from route.to x.text x.status))
     → IfOk r (λ x. IfSome files (λ fs. Output words fs x.text x.status))
-route_told words files base folder profile a b (Err e) asks told = tt
-route_told words None base folder profile a b (Ok x) asks told = tt
-route_told words (Some fs) base folder profile a b (Ok x) asks told =
-    answers_route base folder profile asks.from asks.to a b (asks.base_is, asks.folder_is, (a, asks.from_is), (b, asks.to_is)) asks.spelled asks.from_is asks.to_is told
-
--- the words ask for a way
-pub route_asked : (words : List (List ℕ)) (base folder profile : List ℕ) (a b : FeatureId) → AsksRoute words base folder profile a b → AskFor words
-route_asked words base folder profile a b asks =
-    record { asked = Route base folder profile asks.from asks.to; form = (asks.base_is, asks.folder_is, (a, asks.from_is), (b, asks.to_is)); spelled = asks.spelled }
+route_told words files route (Err e) way told = tt
+route_told words None route (Ok x) way told = tt
+route_told words (Some fs) route (Ok x) way told =
+    answers_route route.of.base.now route.of.folder.now route.profile.now way.from way.to route.from route.to way.asks.form way.asks.spelled way.from_is way.to_is told
 
 pub gen_told : (words : List (List ℕ)) (files : Option (List StoredFile)) (levels : ℕ) (r : Result Printout ReadFault) → 1 ≤ levels → levels ≤ 200 → words ≡ words_of (Gen levels)
     → IfOk r (λ a. GenOutput levels a.text a.status) → IfOk r (λ a. IfSome files (λ fs. Output words fs a.text a.status))
@@ -69,22 +66,51 @@ gen_told words (Some fs) levels (Ok a) some few is told = answers_gen levels (so
 -- the words ask for nothing
 pub asks_nothing : (words : List (List ℕ)) → ((base : List ℕ) → IsBase base → words ≡ words_of (Price base) → ⊥) → ((base : List ℕ) → IsBase base → words ≡ words_of (Verify base) → ⊥)
     → ((base folder : List ℕ) → IsBase base → IsFolder folder → words ≡ words_of (Check base folder) → ⊥)
+    → ((base folder : List ℕ) → IsBase base → IsFolder folder → words ≡ words_of (Session base folder) → ⊥)
     → ((base folder profile : List ℕ) → IsBase base → IsFolder folder → words ≡ words_of (Links base folder profile) → ⊥)
     → ((base folder profile from to : List ℕ) → IsBase base → IsFolder folder → IsIdentifier from → IsIdentifier to → words ≡ words_of (Route base folder profile from to) → ⊥)
-    → ((levels : ℕ) → 1 ≤ levels → levels ≤ 200 → words ≡ words_of (Gen levels) → ⊥) → IsNoSession words → IsNoService words → (asked : Asked) → IsAsked asked → words ≡ words_of asked → ⊥
-asks_nothing words no_price no_verify no_check no_links no_route no_gen no_session no_service (Price base) is-asked is = no_price base is-asked is
-asks_nothing words no_price no_verify no_check no_links no_route no_gen no_session no_service (Verify base) is-asked is = no_verify base is-asked is
-asks_nothing words no_price no_verify no_check no_links no_route no_gen no_session no_service (Check base folder) is-asked is = no_check base folder is-asked.0 is-asked.1 is
-asks_nothing words no_price no_verify no_check no_links no_route no_gen no_session no_service (Links base folder profile) is-asked is = no_links base folder profile is-asked.0 is-asked.1 is
-asks_nothing words no_price no_verify no_check no_links no_route no_gen no_session no_service (Route base folder profile from to) is-asked is = no_route base folder profile from to is-asked.0 is-asked.1 is-asked.2 is-asked.3 is
-asks_nothing words no_price no_verify no_check no_links no_route no_gen no_session no_service (Session base folder) is-asked is = no_session base folder is-asked is
-asks_nothing words no_price no_verify no_check no_links no_route no_gen no_session no_service (Serve base folder address workers connections) is-asked is = no_service base folder address workers connections is-asked is
-asks_nothing words no_price no_verify no_check no_links no_route no_gen no_session no_service (Gen levels) is-asked is = no_gen levels is-asked.0 is-asked.1 is
+    → ((levels : ℕ) → 1 ≤ levels → levels ≤ 200 → words ≡ words_of (Gen levels) → ⊥)
+    → ((base folder address : List ℕ) (workers connections : ℕ) → IsAsked (Serve base folder address workers connections) → words ≡ words_of (Serve base folder address workers connections) → ⊥)
+    → AskForNothing words
+asks_nothing words no_price no_verify no_check no_session no_links no_route no_gen no_service (Price base) form is = no_price base form is
+asks_nothing words no_price no_verify no_check no_session no_links no_route no_gen no_service (Verify base) form is = no_verify base form is
+asks_nothing words no_price no_verify no_check no_session no_links no_route no_gen no_service (Check base folder) form is = no_check base folder form.0 form.1 is
+asks_nothing words no_price no_verify no_check no_session no_links no_route no_gen no_service (Links base folder profile) form is = no_links base folder profile form.0 form.1 is
+asks_nothing words no_price no_verify no_check no_session no_links no_route no_gen no_service (Route base folder profile from to) form is = no_route base folder profile from to form.0 form.1 form.2 form.3 is
+asks_nothing words no_price no_verify no_check no_session no_links no_route no_gen no_service (Session base folder) form is = no_session base folder form.0 form.1 is
+asks_nothing words no_price no_verify no_check no_session no_links no_route no_gen no_service (Serve base folder address workers connections) form is = no_service base folder address workers connections form is
+asks_nothing words no_price no_verify no_check no_session no_links no_route no_gen no_service (Gen levels) form is = no_gen levels form.0 form.1 is
 
-pub other_told : (words : List (List ℕ)) (files : Option (List StoredFile)) (answer : Printout) → ((asked : Asked) → IsAsked asked → words ≡ words_of asked → ⊥) → answer.text ≡ line (codes "words")
-    → answer.status ≡ Wrong → IfSome files (λ fs. Output words fs answer.text answer.status)
-other_told words None answer none is wrong = tt
-other_told words (Some fs) answer none is wrong = printed_as (Output words fs) (line (codes "words")) Wrong answer is wrong (other_words none)
+pub unknown_told : (words : List (List ℕ)) (files : Option (List StoredFile)) (r : Result Printout ReadFault) → AskForNothing words → IfOk r IsUnknown
+    → IfOk r (λ a. IfSome files (λ fs. Output words fs a.text a.status))
+unknown_told words files (Err e) none told = tt
+unknown_told words None (Ok a) none told = tt
+unknown_told words (Some fs) (Ok a) none told = printed_as (Output words fs) (line (codes "words")) Wrong a told.0 told.1 (other_words none)
+
+-- the line of unknown words comes with a status of a printed line
+pub unknown_plain : (r : Result Printout ReadFault) → IfOk r IsUnknown → IfOk r (λ a. IsPrinted a.status)
+unknown_plain (Err e) told = tt
+unknown_plain (Ok a) told = subst IsPrinted (sym told.1) tt
+
+-- what was answered to the words of a command
+pub is_answer : (words : List (List ℕ)) (files : Option (List StoredFile)) (before now : ℕ) (r : Result Printout ReadFault) → IfOk r (λ a. IsPrinted a.status)
+    → IfOk r (λ a. IfSome files (λ fs. Output words fs a.text a.status)) → AskFor words → HasReadCause before now r → IsAnswer words files before now r
+is_answer words files before now (Ok a) plain output asks cause = (plain, output, cause.kept)
+is_answer words files before now (Err fault.Failed) plain output asks cause = (asks, cause.failed refl)
+is_answer words files before now (Err fault.OutOfMemory) plain output asks cause = cause.kept_without_memory refl
+
+-- the same, where there is none
+pub no_answer : {T : Type 0} (words : List (List ℕ)) (files : Option (List StoredFile)) (before now : ℕ) (why : ReadFault) → AskFor words → HasReadCause {T = T} before now (Err why)
+    → IsAnswer words files before now (Err why)
+no_answer words files before now fault.Failed asks cause = (asks, cause.failed refl)
+no_answer words files before now fault.OutOfMemory asks cause = cause.kept_without_memory refl
+
+-- the same, over folders that nothing was asked of
+pub is_answer_alone : (words : List (List ℕ)) (files : Option (List StoredFile)) (count : ℕ) (r : Result Printout ReadFault) → IfOk r (λ a. IsPrinted a.status)
+    → IfOk r (λ a. IfSome files (λ fs. Output words fs a.text a.status)) → IfErr r (λ why. why ≡ fault.OutOfMemory) → IsAnswer words files count count r
+is_answer_alone words files count (Ok a) plain output memory = (plain, output, refl)
+is_answer_alone words files count (Err fault.Failed) plain output memory = absurd cc
+is_answer_alone words files count (Err fault.OutOfMemory) plain output memory = refl
 
 pub ends_printed : (words : List (List ℕ)) (files : Option (List StoredFile)) (run : Run) (status : Status) (text : List ℕ) → IsPrinted status → Wrote run.written run.written_now text
     → NoFault run → IsUnread run → IfSome files (λ fs. Output words fs text status) → Ends words files run status

@@ -1,5 +1,5 @@
 -- From a session over the console to how the run ends.
-use Rattle.std.proofs.Common.{◌≡◌, ◌≤◌, ℕ, List, Option, Some, None, refl, sym, subst, ap, ◌∙◌, inl, inr}
+use Rattle.std.proofs.Common.{◌≡◌, ◌≤◌, ℕ, List, Option, Some, None, refl, sym, subst, ap, ◌∙◌, inl, inr, true, false}
 use Rattle.std.specs.Arc.{arc_value}
 use Rattle.venue_folder.specs.Shelves.{Shelf}
 use Rattle.venue_ports.specs.Files.{StoredFile}
@@ -15,7 +15,7 @@ use Rattle.venue_commands.specs.declared.status.Status.{Status}
 use Rattle.venue_commands.specs.declared.status.Status.TheVariants.{Done, Negative, Wrong, Fault, Memory}
 use Rattle.venue_commands.specs.Ends.{Ends}
 use Rattle.venue_commands.specs.Openings.{IsOpening}
-use Rattle.venue_commands.specs.Commands.{IsNoSession}
+use Rattle.venue_commands.specs.Commands.{Session, Asks, AskNoConsole}
 use Rattle.venue_commands.specs.Runs.{Run, NoFault, IsUnread}
 use Rattle.venue_commands.specs.Served.{end_status, console_of, Served}
 
@@ -57,8 +57,8 @@ ends_served words files run status opening front old new end opens keys facts se
     ends_as words files run status (record {
       base = opens.base;
       folder = opens.folder;
-      form = opens.form;
-      spelled = opens.spelled;
+      form = opens.asks.form;
+      spelled = opens.asks.spelled;
       venue = venue;
       made = told.made;
       opening = old;
@@ -90,9 +90,9 @@ serves words files held run failed status opening front old new end opens same k
 pub ends_nothing : (words : List (List ℕ)) (files : Option (List StoredFile)) (run : Run) → run.written_now ≡ run.written → NoFault run → IsUnread run → Ends words files run Memory
 ends_nothing words files run written faultless unread = inl (record { written = written; faultless = faultless; unread = unread })
 
--- words that open a hall ask for a session
-pub opens_session : (words : List (List ℕ)) (files : Option (List StoredFile)) (opening : Start) → IsOpening words files opening → IsNoSession words → ⊥
-opens_session words files opening opens none = none opens.base opens.folder opens.form opens.spelled
+-- who asks for a session asks for the console
+pub asks_console : (words : List (List ℕ)) (base folder : List ℕ) → Asks words (Session base folder) → AskNoConsole words → ⊥
+asks_console words base folder asks none = let same : true ≡ false = none (Session base folder) asks in absurd cc
 
 -- what was no more is no more where both are told otherwise
 pub later_as : (a b a' b' : ℕ) → a' ≡ a → b' ≡ b → a ≤ b → a' ≤ b'

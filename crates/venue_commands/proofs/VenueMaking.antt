@@ -33,7 +33,7 @@ stops_at_settings (Some fs) base folder settled text answer told is printed wron
     printed_as (NoVenue fs base folder) (string_bytes text) Wrong answer printed wrong (no_settings (subst (IsSettled (file_at fs base settings_name)) is told))
 
 -- a folder that is rejected, or makes a venue, under the settings of its base
-made_under : (fs : List StoredFile) (base folder : List ℕ) (settings : Settings) (m : Made) → Reads SettingsForm settings_limit (file_at fs base settings_name) settings
+pub made_under : (fs : List StoredFile) (base folder : List ℕ) (settings : Settings) (m : Made) → Reads SettingsForm settings_limit (file_at fs base settings_name) settings
     → IsMadeOf (folder_files fs (folder_path base folder)) settings m → IsMade fs base folder m
 made_under fs base folder settings (made.Stopped answer) reads of =
     printed_as (NoVenue fs base folder) (rejected_text of.0) Negative answer of.2 of.3 (rejected settings of.0 reads of.1)
@@ -44,23 +44,22 @@ made_under fs base folder settings (made.Venue venue) reads of =
       made = subst (λ (s : Settings). IsVenueOf (folder_files fs (folder_path base folder)) s venue) given of;
     }
 
-is_made_as : (files files' : Option (List StoredFile)) (base folder path : List ℕ) (settled : Result Settings (String Global)) (settings : Settings) (held : Files) (m : Made)
+is_made_as : (files files' : Option (List StoredFile)) (base folder : List ℕ) (settled : Result Settings (String Global)) (settings : Settings) (held : Files) (m : Made)
     → files' ≡ files → IfSome files (λ fs. IsSettled (file_at fs base settings_name) settled) → settled ≡ Ok settings
-    → path ≡ folder_path base folder → IfSome files' (λ fs. held ≡ folder_files fs path) → IsMadeOf held settings m → IfSome files (λ fs. IsMade fs base folder m)
-is_made_as None files' base folder path settled settings held m same told is joined read of = tt
-is_made_as (Some fs) files' base folder path settled settings held m same told is joined read of =
+    → IfSome files' (λ fs. held ≡ folder_files fs (folder_path base folder)) → IsMadeOf held settings m → IfSome files (λ fs. IsMade fs base folder m)
+is_made_as None files' base folder settled settings held m same told is read of = tt
+is_made_as (Some fs) files' base folder settled settings held m same told is read of =
     let reads = subst (IsSettled (file_at fs base settings_name)) is told in
-    let here : held ≡ folder_files fs path = told_before (λ gs. held ≡ folder_files gs path) fs files' same read in
-    let named : held ≡ folder_files fs (folder_path base folder) = subst (λ (p : List ℕ). held ≡ folder_files fs p) joined here in
+    let named : held ≡ folder_files fs (folder_path base folder) = told_before (λ gs. held ≡ folder_files gs (folder_path base folder)) fs files' same read in
     made_under fs base folder settings m reads (subst (λ (h : Files). IsMadeOf h settings m) named of)
 
-pub is_made : (files files' : Option (List StoredFile)) (base folder path : List ℕ) (settled : Result Settings (String Global)) (settings : Settings) (held : Files) (r : Result Made ReadFault)
+pub is_made : (files files' : Option (List StoredFile)) (base folder : List ℕ) (settled : Result Settings (String Global)) (settings : Settings) (held : Files) (r : Result Made ReadFault)
     → files' ≡ files → IfSome files (λ fs. IsSettled (file_at fs base settings_name) settled) → settled ≡ Ok settings
-    → path ≡ folder_path base folder → IfSome files' (λ fs. held ≡ folder_files fs path) → IfOk r (IsMadeOf held settings)
+    → IfSome files' (λ fs. held ≡ folder_files fs (folder_path base folder)) → IfOk r (IsMadeOf held settings)
     → IfOk r (λ m. IfSome files (λ fs. IsMade fs base folder m))
-is_made files files' base folder path settled settings held (Err e) same told is joined read of = tt
-is_made files files' base folder path settled settings held (Ok m) same told is joined read of =
-    is_made_as files files' base folder path settled settings held m same told is joined read of
+is_made files files' base folder settled settings held (Err e) same told is read of = tt
+is_made files files' base folder settled settings held (Ok m) same told is read of =
+    is_made_as files files' base folder settled settings held m same told is read of
 
 -- what came after a read that did not fail lacked memory at most
 pub memory_cause : {Y : Type 0} (before now : ℕ) (r : Result Y ReadFault) → before ≤ now → now ≡ before → IfErr r (λ why. why ≡ OutOfMemory) → HasReadCause before now r

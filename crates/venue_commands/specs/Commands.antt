@@ -1,5 +1,5 @@
 -- What the words of the command line can ask for.
-use Rattle.std.specs.Prelude.{◌≡◌, ℕ, ◌<◌, ◌≤◌, Bool, true, List, [], ◌∷◌, length, Some, codes, nat_le, ◌==◌, ◌&&◌, ◌||◌}
+use Rattle.std.specs.Prelude.{◌≡◌, ℕ, ◌<◌, ◌≤◌, Bool, true, false, List, [], ◌∷◌, length, Some, codes, nat_le, ◌==◌, ◌&&◌, ◌||◌}
 use Rattle.std.specs.Fmt.{decimal}
 use Rattle.std.specs.List.{Contains, list_all}
 use Rattle.venue_types.specs.declared.feature_id.FeatureId.{FeatureId}
@@ -63,17 +63,34 @@ IsAsked (Serve base folder address workers connections) =
     IsBase base × IsFolder folder × IsAddress address × (1 ≤ workers) × (workers ≤ 16) × (1 ≤ connections) × (connections ≤ 1000000)
 IsAsked (Gen levels) = (1 ≤ levels) × (levels ≤ 200)
 
--- the words ask for a command
-pub record AskFor (words : List (List ℕ)) : Type 0 where
-  pub asked : Asked
+-- whether a command reads the console
+abbrev pub reads_console : Asked → Bool
+reads_console (Session base folder) = true
+reads_console _ = false
+
+-- whether a command opens the doors
+abbrev pub opens_doors : Asked → Bool
+opens_doors (Serve base folder address workers connections) = true
+opens_doors _ = false
+
+-- the words ask for this
+pub record Asks (words : List (List ℕ)) (asked : Asked) : Type 0 where
   pub form : IsAsked asked
   pub spelled : words ≡ words_of asked
 
--- the words don't ask for a session
-abbrev pub IsNoSession : List (List ℕ) → Type 0
-IsNoSession words = (base folder : List ℕ) → IsAsked (Session base folder) → words ≡ words_of (Session base folder) → ⊥
+-- the words ask for a command
+pub record AskFor (words : List (List ℕ)) : Type 0 where
+  pub asked : Asked
+  pub asks : Asks words asked
 
--- the words don't ask for a service
-abbrev pub IsNoService : List (List ℕ) → Type 0
-IsNoService words = (base folder address : List ℕ) (workers connections : ℕ) → IsAsked (Serve base folder address workers connections)
-    → words ≡ words_of (Serve base folder address workers connections) → ⊥
+-- the words ask for nothing
+abbrev pub AskForNothing : List (List ℕ) → Type 0
+AskForNothing words = (asked : Asked) → IsAsked asked → words ≡ words_of asked → ⊥
+
+-- the words ask for nothing that reads the console
+abbrev pub AskNoConsole : List (List ℕ) → Type 0
+AskNoConsole words = (asked : Asked) → Asks words asked → reads_console asked ≡ false
+
+-- the words ask for nothing that opens the doors
+abbrev pub AskNoDoors : List (List ℕ) → Type 0
+AskNoDoors words = (asked : Asked) → Asks words asked → opens_doors asked ≡ false

@@ -1,6 +1,7 @@
 pub mod Files
 pub mod Generated
 pub mod Commands
+pub mod ReadCommands
 pub mod Verified
 pub mod Checked
 pub mod Linked

@@ -1,5 +1,5 @@
 -- What the parts of the program answer.
-use Rattle.std.specs.Prelude.{◌≡◌, ℕ, ◌<◌, ◌≤◌, List, length, Option, Some, None, Result, Err, MatchResult, String, string_bytes, codes}
+use Rattle.std.specs.Prelude.{◌≡◌, ℕ, ◌<◌, ◌≤◌, List, length, Option, Some, None, IfSome, Result, Ok, Err, MatchResult, String, string_bytes, codes}
 use Rattle.std.specs.declared.alloc.Global.{Global}
 use Rattle.venue_types.specs.declared.files.Files.{Files}
 use Rattle.venue_types.specs.Identifier.{identifier_read}
@@ -7,7 +7,10 @@ use Rattle.venue_types.specs.declared.feature_id.FeatureId.{FeatureId}
 use Rattle.venue_types.specs.declared.finding.Report.{Report}
 use Rattle.venue_types.specs.declared.settings.Profile.{Profile}
 use Rattle.venue_types.specs.declared.settings.Settings.{Settings}
+use Rattle.venue_ports.specs.Causes.{Rose}
 use Rattle.venue_ports.specs.Files.{StoredFile}
+use Rattle.venue_ports.specs.declared.folders.ReadFault.{ReadFault}
+use Rattle.venue_ports.specs.declared.folders.ReadFault.TheVariants.{Failed, OutOfMemory}
 use Rattle.line_forms.specs.Lines.{line}
 use Rattle.route_answers.specs.Nodes.{place_of}
 use Rattle.route_certificate.specs.declared.answer.AnswerIn.{AnswerIn}
@@ -26,7 +29,8 @@ use Rattle.venue_commands.specs.declared.base_venue.Made.TheVariants as made
 use Rattle.venue_commands.specs.declared.status.Status.{Status}
 use Rattle.venue_commands.specs.declared.status.Status.TheVariants.{Done, Negative, Wrong, Fault, Memory}
 use Rattle.venue_commands.specs.declared.load.Cause.{Cause}
-use Rattle.venue_commands.specs.Commands.{Route, Serve, IsBase, IsFolder, IsAsked, words_of}
+use Rattle.venue_commands.specs.Commands.{AskFor}
+use Rattle.venue_commands.specs.Output.{Output}
 use Rattle.venue_commands.specs.Files.{Reads, StopsBy}
 use Rattle.venue_commands.specs.Checked.{SettingsForm, settings_limit, IsFaultText, NoSettings, NoVenue, HasVenue}
 use Rattle.venue_commands.specs.Linked.{profile_named}
@@ -92,21 +96,6 @@ IsLinkedFor venue answer (Some profile) =
 abbrev pub IsLinked : Venue → List ℕ → Printout → Type 0
 IsLinked venue name answer = IsLinkedFor venue answer (profile_named venue.settings name)
 
--- the words ask for a way between these two
-pub record AsksRoute (words : List (List ℕ)) (base folder profile : List ℕ) (a b : FeatureId) : Type 0 where
-  pub from : List ℕ
-  pub to : List ℕ
-  pub base_is : IsBase base
-  pub folder_is : IsFolder folder
-  pub from_is : identifier_read from ≡ Some a
-  pub to_is : identifier_read to ≡ Some b
-  pub spelled : words ≡ words_of (Route base folder profile from to)
-
--- the words ask for a service of so many workers and connections
-pub record AsksService (words : List (List ℕ)) (base folder address : List ℕ) (workers connections : ℕ) : Type 0 where
-  pub form : IsAsked (Serve base folder address workers connections)
-  pub spelled : words ≡ words_of (Serve base folder address workers connections)
-
 -- what is printed of a venue for somebody with the profile between two nodes: the text of a right answer
 pub record IsAnswered (venue : Venue) (profile : Profile) (a b : ℕ) (printed : Printout) : Type 0 where
   pub answer : AnswerIn
@@ -132,3 +121,14 @@ IsRoutedFor venue from to printed (Some profile) = IsRoutedFrom venue profile to
 -- what is printed of a venue for the name of a profile and two places
 abbrev pub IsRouted : Venue → List ℕ → FeatureId → FeatureId → Printout → Type 0
 IsRouted venue name from to printed = IsRoutedFor venue from to printed (profile_named venue.settings name)
+
+-- the answer to words that no command has
+abbrev pub IsUnknown : Printout → Type 0
+IsUnknown answer = (answer.text ≡ line (codes "words")) × (answer.status ≡ Wrong)
+
+-- what was answered to the words, over folders whose count was this before and is this now: what is printed then; that they failed; or
+-- that memory ran out
+abbrev pub IsAnswer : List (List ℕ) → Option (List StoredFile) → ℕ → ℕ → Result Printout ReadFault → Type 0
+IsAnswer words files before now (Ok answer) = IsPrinted answer.status × IfSome files (λ fs. Output words fs answer.text answer.status) × (now ≡ before)
+IsAnswer words files before now (Err Failed) = AskFor words × Rose before now
+IsAnswer words files before now (Err OutOfMemory) = now ≡ before

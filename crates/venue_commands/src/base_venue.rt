@@ -3,8 +3,10 @@
 ghost use Rattle.std.specs.Prelude.{◌≡◌, IfOk, IfErr, IfSome, length};
 ghost use Rattle.venue_ports.specs.Files.{HasReadCause};
 ghost use Rattle.venue_ports.specs.declared.folders.ReadFault.TheVariants.{OutOfMemory as NoMemory};
+ghost use Rattle.venue_folder.specs.Shelves.{folder_files, folder_path};
 ghost use Rattle.venue_commands.specs.Steps.{IsMade, IsMadeOf, IsPlain};
 
+use crate::command::FolderOf;
 use crate::printout::{Printout, printed};
 use crate::settings::settings_of;
 use crate::status::Status;
@@ -23,8 +25,8 @@ pub(crate) enum Made {
     Venue(Venue),
 }
 
-// What becomes of a folder under settings.
-fn made_of(alloc: Global, files: &Files, settings: &Settings) -> Result<Made, ReadFault>
+/// What becomes of a folder under settings.
+pub(crate) fn made_of(alloc: Global, files: &Files, settings: &Settings) -> Result<Made, ReadFault>
     requires { length files.now.slots ≡ 17 }
     ensures told { IfOk result (IsMadeOf files.now settings.now) }
     ensures plain { IfOk result IsPlain }
@@ -40,23 +42,38 @@ fn made_of(alloc: Global, files: &Files, settings: &Settings) -> Result<Made, Re
     }
 }
 
+/// The files of a folder of the base.
+pub(crate) fn files_at<F: Folders>(
+    alloc: Global,
+    of: FolderOf<'_>,
+    folders: &mut F,
+) -> Result<Files, ReadFault>
+    ensures told { IfOk result (λ held. IfSome (F.files folders.old) (λ files. held ≡ folder_files files (folder_path of.entry.base.now of.entry.folder.now))) }
+    ensures seventeen { IfOk result (λ held. length held.slots ≡ 17) }
+    ensures same { F.files folders.new ≡ F.files folders.old }
+    ensures cause { HasReadCause (F.faults folders.old) (F.faults folders.new) result }
+{
+    let base = of.base;
+    let folder = of.folder;
+    let path = format!(in alloc; "{base}/{folder}")?;
+    files_of(alloc, path.as_str(), folders)
+}
+
 /// The venue of a folder of the base, under the base's settings, or the answer where there is none.
 pub(crate) fn venue_of<F: Folders>(
     alloc: Global,
-    base: &str,
-    folder: &str,
+    of: FolderOf<'_>,
     folders: &mut F,
 ) -> Result<Made, ReadFault>
-    ensures told { IfOk result (λ made. IfSome (F.files folders.old) (λ files. IsMade files base.now folder.now made)) }
+    ensures told { IfOk result (λ made. IfSome (F.files folders.old) (λ files. IsMade files of.entry.base.now of.entry.folder.now made)) }
     ensures plain { IfOk result IsPlain }
     ensures same { F.files folders.new ≡ F.files folders.old }
     ensures cause { HasReadCause (F.faults folders.old) (F.faults folders.new) result }
 {
-    let settings = match settings_of(alloc, base, folders)? {
+    let settings = match settings_of(alloc, of.base, folders)? {
         Ok(settings) => settings,
         Err(text) => return Ok(Made::Stopped(printed(Status::Wrong, text))),
     };
-    let path = format!(in alloc; "{base}/{folder}")?;
-    let files = files_of(alloc, path.as_str(), folders)?;
+    let files = files_at(alloc, of, folders)?;
     made_of(alloc, &files, &settings)
 }

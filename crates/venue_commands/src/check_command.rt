@@ -9,6 +9,7 @@ ghost use Rattle.venue_commands.specs.Checked.{CheckOutput};
 ghost use Rattle.venue_commands.specs.Steps.{IsPrinted};
 
 use crate::base_venue::{Made, venue_of};
+use crate::command::FolderOf;
 use crate::printout::{Printout, printed};
 use crate::status::Status;
 use check_text::accepted_text;
@@ -32,16 +33,15 @@ fn accepted(alloc: Global, venue: &Venue) -> Result<Printout, ReadFault>
 /// The answer to `check BASE FOLDER`.
 pub(crate) fn check_answer<F: Folders>(
     alloc: Global,
-    base: &str,
-    folder: &str,
+    of: FolderOf<'_>,
     folders: &mut F,
 ) -> Result<Printout, ReadFault>
-    ensures told { IfOk result (λ answer. IfSome (F.files folders.old) (λ files. CheckOutput files base.now folder.now answer.text answer.status)) }
+    ensures told { IfOk result (λ answer. IfSome (F.files folders.old) (λ files. CheckOutput files of.entry.base.now of.entry.folder.now answer.text answer.status)) }
     ensures plain { IfOk result (λ answer. IsPrinted answer.status) }
     ensures same { F.files folders.new ≡ F.files folders.old }
     ensures cause { HasReadCause (F.faults folders.old) (F.faults folders.new) result }
 {
-    let made = venue_of(alloc, base, folder, folders)?;
+    let made = venue_of(alloc, of, folders)?;
     match made {
         Made::Stopped(answer) => Ok(answer),
         Made::Venue(venue) => accepted(alloc, &venue),

@@ -1,9 +1,10 @@
 //! The answer to `gen LEVELS`.
 
-ghost use Rattle.std.specs.Prelude.{◌≡◌, ◌≤◌, IfOk, IfErr};
+ghost use Rattle.std.specs.Prelude.{◌≡◌, IfOk, IfErr};
 ghost use Rattle.venue_commands.specs.Generated.{told_status, GenOutput};
 ghost use Rattle.venue_commands.specs.Steps.{IsPrinted};
 
+use crate::command::Levels;
 use crate::printout::{Printout, printed};
 use crate::status::Status;
 use building_report::tell_building;
@@ -23,14 +24,12 @@ fn status_of(accepted: bool) -> Status
 }
 
 /// The answer that tells of a building of 1 to 200 levels.
-pub(crate) fn building_answer(alloc: Global, levels: u8) -> Result<Printout, ReadFault>
-    requires some { 1 ≤ levels }
-    requires few { levels ≤ 200 }
-    ensures told { IfOk result (λ answer. GenOutput levels answer.text answer.status) }
+pub(crate) fn building_answer(alloc: Global, levels: Levels) -> Result<Printout, ReadFault>
+    ensures told { IfOk result (λ answer. GenOutput levels.count answer.text answer.status) }
     ensures plain { IfOk result (λ answer. IsPrinted answer.status) }
     ensures memory { IfErr result (λ why. why ≡ ReadFault.OutOfMemory) }
 {
-    match tell_building(alloc, levels) {
+    match tell_building(alloc, levels.count) {
         Ok(told) => Ok(printed(status_of(told.accepted), told.text)),
         Err(OutOfMemory) => Err(ReadFault::OutOfMemory),
     }

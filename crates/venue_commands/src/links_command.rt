@@ -12,6 +12,7 @@ ghost use Rattle.venue_commands.specs.Linked.{LinksOutput};
 ghost use Rattle.venue_commands.specs.Steps.{IsLinked, IsPrinted};
 
 use crate::base_venue::{Made, venue_of};
+use crate::command::LinksOf;
 use crate::printout::{Printout, printed};
 use crate::status::Status;
 use route_answers::allowed_table;
@@ -62,19 +63,17 @@ fn linked(alloc: Global, venue: &Venue, name: &str) -> Result<Printout, ReadFaul
 /// The answer to `links BASE FOLDER PROFILE`.
 pub(crate) fn links_answer<F: Folders>(
     alloc: Global,
-    base: &str,
-    folder: &str,
-    profile: &str,
+    links: LinksOf<'_>,
     folders: &mut F,
 ) -> Result<Printout, ReadFault>
-    ensures told { IfOk result (λ answer. IfSome (F.files folders.old) (λ files. LinksOutput files base.now folder.now profile.now answer.text answer.status)) }
+    ensures told { IfOk result (λ answer. IfSome (F.files folders.old) (λ files. LinksOutput files links.entry.of.base.now links.entry.of.folder.now links.entry.profile.now answer.text answer.status)) }
     ensures plain { IfOk result (λ answer. IsPrinted answer.status) }
     ensures same { F.files folders.new ≡ F.files folders.old }
     ensures cause { HasReadCause (F.faults folders.old) (F.faults folders.new) result }
 {
-    let made = venue_of(alloc, base, folder, folders)?;
+    let made = venue_of(alloc, links.of, folders)?;
     match made {
         Made::Stopped(answer) => Ok(answer),
-        Made::Venue(venue) => linked(alloc, &venue, profile),
+        Made::Venue(venue) => linked(alloc, &venue, links.profile),
     }
 }

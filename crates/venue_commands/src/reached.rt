@@ -1,19 +1,20 @@
-//! What the words ask for, once the folder is read: a text that is printed, or what a hall is opened with.
+//! What a session or a service of a folder comes to, before anything is served.
 
-ghost use Rattle.std.specs.Prelude.{◌≡◌, IfOk, IsErrOf, string_bytes, map};
+ghost use Rattle.std.specs.Prelude.{◌≡◌, IfOk};
 ghost use Rattle.venue_ports.specs.Files.{HasReadCause};
-ghost use Rattle.venue_commands.specs.Commands.{AskFor, IsNoService};
-ghost use Rattle.venue_commands.specs.Openings.{IsFolderReached, IsReached, IsPlainText};
+ghost use Rattle.venue_commands.specs.Openings.{IsFolderReached, IsOpenedUnder, IsPlainText};
 
-use crate::base_venue::{Made, venue_of};
-use crate::printout::{Printout, answer_to};
+use crate::base_venue::{Made, files_at, made_of};
+use crate::command::FolderOf;
+use crate::printout::{Printout, printed};
+use crate::settings::settings_of;
 use crate::start::{Start, opening_of};
-use crate::words::folder_of;
+use crate::status::Status;
 use std::alloc::Global;
 use venue_ports::{Folders, ReadFault};
-use venue_types::OutOfMemory;
+use venue_types::{OutOfMemory, Settings};
 
-/// What the words come to.
+/// What a folder comes to.
 #[derive(Drop)]
 pub enum Reached {
     /// This is printed.
@@ -22,48 +23,45 @@ pub enum Reached {
     Opened(Start),
 }
 
-/// What a session or a service of a folder of the base comes to.
-///
-/// # Errors
-///
-/// The folders failed, or memory ran out.
-pub fn reach_folder<F: Folders>(
+// What the folder comes to under the settings of its base, which were read before.
+fn open_folder<F: Folders>(
     alloc: Global,
-    base: &str,
-    folder: &str,
+    of: FolderOf<'_>,
+    settings: &Settings,
     folders: &mut F,
 ) -> Result<Reached, ReadFault>
-    ensures told { IfOk result (λ reached. IsFolderReached (F.files folders.old) base.now folder.now reached) }
+    ensures told { IfOk result (IsOpenedUnder (F.files folders.old) of.entry.base.now of.entry.folder.now settings.now) }
     ensures plain { IfOk result IsPlainText }
     ensures same { F.files folders.new ≡ F.files folders.old }
     ensures cause { HasReadCause (F.faults folders.old) (F.faults folders.new) result }
 {
-    let made = venue_of(alloc, base, folder, folders)?;
-    match made {
+    let files = files_at(alloc, of, folders)?;
+    match made_of(alloc, &files, settings)? {
         Made::Stopped(answer) => Ok(Reached::Printed(answer)),
-        Made::Venue(venue) => match opening_of(alloc, base, venue) {
+        Made::Venue(venue) => match opening_of(alloc, of.base, files, venue) {
             Ok(opening) => Ok(Reached::Opened(opening)),
             Err(OutOfMemory) => Err(ReadFault::OutOfMemory),
         },
     }
 }
 
-/// What the words of the command line come to, where they don't ask for a service.
-pub(crate) fn reach<F: Folders>(
+/// What a session or a service of a folder of the base comes to: the settings are read, and then the folder.
+///
+/// # Errors
+///
+/// The folders failed, or memory ran out.
+pub fn reach_folder<F: Folders>(
     alloc: Global,
-    words: &[String],
+    of: FolderOf<'_>,
     folders: &mut F,
 ) -> Result<Reached, ReadFault>
-    requires { IsNoService (map string_bytes words.now) }
-    ensures told { IfOk result (IsReached (map string_bytes words.now) (F.files folders.old)) }
+    ensures told { IfOk result (λ reached. IsFolderReached (F.files folders.old) of.entry.base.now of.entry.folder.now reached) }
     ensures plain { IfOk result IsPlainText }
-    ensures asked { IsErrOf result ReadFault.Failed → AskFor (map string_bytes words.now) }
     ensures same { F.files folders.new ≡ F.files folders.old }
     ensures cause { HasReadCause (F.faults folders.old) (F.faults folders.new) result }
 {
-    if let Some((base, folder)) = folder_of(words, "session") {
-        return reach_folder(alloc, base, folder, folders);
+    match settings_of(alloc, of.base, folders)? {
+        Ok(settings) => open_folder(alloc, of, &settings, folders),
+        Err(text) => Ok(Reached::Printed(printed(Status::Wrong, text))),
     }
-    let answer = answer_to(alloc, words, folders)?;
-    Ok(Reached::Printed(answer))
 }

@@ -8,6 +8,7 @@ ghost use Rattle.venue_commands.specs.Routed.{RouteOutput, claim_status};
 ghost use Rattle.venue_commands.specs.Steps.{IsAnswered, IsPrinted, IsRouted, IsRoutedFrom};
 
 use crate::base_venue::{Made, venue_of};
+use crate::command::RouteOf;
 use crate::links_command::profile_named;
 use crate::printout::{Printout, printed};
 use crate::status::Status;
@@ -107,21 +108,17 @@ fn routed(
 /// The answer to `route BASE FOLDER PROFILE FROM TO`.
 pub(crate) fn routing_answer<F: Folders>(
     alloc: Global,
-    base: &str,
-    folder: &str,
-    profile: &str,
-    from: FeatureId,
-    to: FeatureId,
+    route: RouteOf<'_>,
     folders: &mut F,
 ) -> Result<Printout, ReadFault>
-    ensures told { IfOk result (λ answer. IfSome (F.files folders.old) (λ files. RouteOutput files base.now folder.now profile.now from to answer.text answer.status)) }
+    ensures told { IfOk result (λ answer. IfSome (F.files folders.old) (λ files. RouteOutput files route.entry.of.base.now route.entry.of.folder.now route.entry.profile.now route.entry.from route.entry.to answer.text answer.status)) }
     ensures plain { IfOk result (λ answer. IsPrinted answer.status) }
     ensures same { F.files folders.new ≡ F.files folders.old }
     ensures cause { HasReadCause (F.faults folders.old) (F.faults folders.new) result }
 {
-    let made = venue_of(alloc, base, folder, folders)?;
+    let made = venue_of(alloc, route.of, folders)?;
     match made {
         Made::Stopped(answer) => Ok(answer),
-        Made::Venue(venue) => routed(alloc, &venue, profile, from, to),
+        Made::Venue(venue) => routed(alloc, &venue, route.profile, route.from, route.to),
     }
 }

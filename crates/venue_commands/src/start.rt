@@ -6,13 +6,15 @@ ghost use Rattle.std.specs.Arc.{arc_value};
 use std::alloc::Global;
 use std::sync::Arc;
 use venue_session::Venue;
-use venue_types::{OutOfMemory, Settings, Text};
+use venue_types::{Files, OutOfMemory, Settings, Text};
 use venue_wire::Front;
 
-/// A venue of a base with its settings, and what judges the messages of its sessions.
+/// A venue of a base with its settings and the seventeen files that it was made of, and what judges the messages of its sessions.
+/// The files are kept until a hall is open.
 #[derive(Drop)]
 pub struct Start {
     pub base: Text,
+    pub files: Files,
     pub venue: Arc<Venue>,
     pub settings: Arc<Settings>,
     pub front: Front,
@@ -22,14 +24,22 @@ pub struct Start {
 
 impl Start {
     // What a hall is opened with, of its parts.
-    fn of(base: Text, venue: Arc<Venue>, settings: Arc<Settings>, front: Front) -> Start
+    fn of(
+        base: Text,
+        files: Files,
+        venue: Arc<Venue>,
+        settings: Arc<Settings>,
+        front: Front,
+    ) -> Start
         requires settings { (arc_value venue).settings ≡ arc_value settings }
         requires keys { front ≡ (arc_value venue).settings.staff_keys }
         ensures base { result.base ≡ base }
+        ensures files { result.files ≡ files }
         ensures venue { arc_value result.venue ≡ arc_value venue }
     {
         Start {
             base,
+            files,
             venue,
             settings,
             front,
@@ -75,32 +85,46 @@ fn shared_venue(alloc: Global, venue: Venue) -> Result<Arc<Venue>, OutOfMemory>
 fn opening_with(
     alloc: Global,
     base: Text,
+    files: Files,
     venue: Arc<Venue>,
     settings: Arc<Settings>,
 ) -> Result<Start, OutOfMemory>
     requires { (arc_value venue).settings ≡ arc_value settings }
     ensures base { IfOk result (λ opening. opening.base ≡ base) }
+    ensures files { IfOk result (λ opening. opening.files ≡ files) }
     ensures venue { IfOk result (λ opening. arc_value opening.venue ≡ arc_value venue) }
 {
     let front = front_of(alloc, &settings)?;
-    Ok(Start::of(base, venue, settings, front))
+    Ok(Start::of(base, files, venue, settings, front))
 }
 
 // What a hall is opened with, of a venue that others may share.
-fn opening_at(alloc: Global, base: Text, venue: Arc<Venue>) -> Result<Start, OutOfMemory>
+fn opening_at(
+    alloc: Global,
+    base: Text,
+    files: Files,
+    venue: Arc<Venue>,
+) -> Result<Start, OutOfMemory>
     ensures base { IfOk result (λ opening. opening.base ≡ base) }
+    ensures files { IfOk result (λ opening. opening.files ≡ files) }
     ensures venue { IfOk result (λ opening. arc_value opening.venue ≡ arc_value venue) }
 {
     let settings = settings_of(alloc, &venue)?;
-    opening_with(alloc, base, venue, settings)
+    opening_with(alloc, base, files, venue, settings)
 }
 
-/// What a hall is opened with, of a venue of the base.
-pub(crate) fn opening_of(alloc: Global, base: &str, venue: Venue) -> Result<Start, OutOfMemory>
+/// What a hall is opened with, of a venue of the base, and the files that it was made of.
+pub(crate) fn opening_of(
+    alloc: Global,
+    base: &str,
+    files: Files,
+    venue: Venue,
+) -> Result<Start, OutOfMemory>
     ensures base { IfOk result (λ opening. opening.base ≡ base.now) }
+    ensures files { IfOk result (λ opening. opening.files ≡ files) }
     ensures venue { IfOk result (λ opening. arc_value opening.venue ≡ venue) }
 {
     let venue = shared_venue(alloc, venue)?;
     let base = text_of(alloc, base)?;
-    opening_at(alloc, base, venue)
+    opening_at(alloc, base, files, venue)
 }

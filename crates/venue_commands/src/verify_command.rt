@@ -6,6 +6,7 @@ ghost use Rattle.venue_commands.specs.Verified.{clause_text, verdict_text, verdi
 ghost use Rattle.venue_commands.specs.Steps.{IsPrinted};
 
 use crate::base::{answer_of, table_of};
+use crate::command::Base;
 use crate::printout::{Printout, printed, stopped};
 use crate::status::Status;
 use route_certificate::{FailedClause, Verdict, verify};
@@ -43,19 +44,19 @@ fn judged(alloc: Global, verdict: Verdict) -> Result<Printout, AllocError>
 /// The answer to `verify BASE`.
 pub(crate) fn verify_answer<F: Folders>(
     alloc: Global,
-    base: &str,
+    base: Base<'_>,
     folders: &mut F,
 ) -> Result<Printout, ReadFault>
-    ensures told { IfOk result (λ answer. IfSome (F.files folders.old) (λ files. VerifyOutput files base.now answer.text answer.status)) }
+    ensures told { IfOk result (λ answer. IfSome (F.files folders.old) (λ files. VerifyOutput files base.entry.name.now answer.text answer.status)) }
     ensures plain { IfOk result (λ answer. IsPrinted answer.status) }
     ensures same { F.files folders.new ≡ F.files folders.old }
     ensures cause { HasReadCause (F.faults folders.old) (F.faults folders.new) result }
 {
-    let table = match table_of(alloc, base, folders)? {
+    let table = match table_of(alloc, base.name, folders)? {
         Ok(table) => table,
         Err(cause) => return Ok(stopped(alloc, "links.txt", cause)?),
     };
-    let answer = match answer_of(alloc, base, &table, folders)? {
+    let answer = match answer_of(alloc, base.name, &table, folders)? {
         Ok(answer) => answer,
         Err(cause) => return Ok(stopped(alloc, "answer.txt", cause)?),
     };

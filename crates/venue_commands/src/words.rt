@@ -4,9 +4,10 @@ ghost use Rattle.std.specs.Prelude.{◌≡◌, ◌≤◌, ℕ, List, [], ◌∷�
 ghost use Rattle.std.specs.Bool.{OnTrue, OnFalse};
 ghost use Rattle.std.specs.Fmt.{decimal};
 ghost use Rattle.std.specs.List.{list_all};
-ghost use Rattle.venue_commands.specs.Commands.{IsBase, IsFolder, IsAddress, IsIdentifier, IsNoService, is_folder_byte};
-ghost use Rattle.venue_commands.specs.Steps.{AsksRoute, AsksService};
+ghost use Rattle.venue_commands.specs.Commands.{Links, Serve, IsBase, IsFolder, IsAddress, IsIdentifier, IsAsked, Asks, words_of, is_folder_byte};
+ghost use Rattle.venue_commands.specs.ReadCommands.{AskWay, IsLocal, IsCommand, service_asked};
 
+use crate::command::{Base, Command, FolderOf, Levels, LinksOf, LocalCommand, RouteOf, Service};
 use line_forms::number;
 use venue_types::FeatureId;
 
@@ -44,14 +45,14 @@ fn two_words(words: &[String]) -> Option<(&str, &str)>
     }
 }
 
-/// The base, where the words are this command and a base.
-pub(crate) fn base_of<'a>(words: &'a [String], name: &str) -> Option<&'a str>
-    ensures found { IfSome result (λ base. IsBase base.now × (map string_bytes words.entry.now ≡ name.now ∷ base.now ∷ [])) }
+// The base, where the words are this command and a base.
+fn base_of<'a>(words: &'a [String], name: &str) -> Option<Base<'a>>
+    ensures found { IfSome result (λ base. map string_bytes words.entry.now ≡ name.now ∷ base.name.now ∷ []) }
     ensures none { IfNone result ((base : List ℕ) → IsBase base → map string_bytes words.entry.now ≡ name.now ∷ base ∷ [] → ⊥) }
 {
     let (command, base) = two_words(words)?;
     if command == name && is_base(base) {
-        Some(base)
+        Some(Base { name: base })
     } else {
         None
     }
@@ -68,14 +69,14 @@ fn three_words(words: &[String]) -> Option<(&str, &str, &str)>
     }
 }
 
-/// The base and the folder, where the words are this command, a base and a folder.
-pub(crate) fn folder_of<'a>(words: &'a [String], name: &str) -> Option<(&'a str, &'a str)>
-    ensures found { IfSome result (λ pair. IsBase pair.0.now × IsFolder pair.1.now × (map string_bytes words.entry.now ≡ name.now ∷ pair.0.now ∷ pair.1.now ∷ [])) }
+// The base and the folder, where the words are this command, a base and a folder.
+fn folder_of<'a>(words: &'a [String], name: &str) -> Option<FolderOf<'a>>
+    ensures found { IfSome result (λ of. map string_bytes words.entry.now ≡ name.now ∷ of.base.now ∷ of.folder.now ∷ []) }
     ensures none { IfNone result ((base folder : List ℕ) → IsBase base → IsFolder folder → map string_bytes words.entry.now ≡ name.now ∷ base ∷ folder ∷ [] → ⊥) }
 {
     let (command, base, folder) = three_words(words)?;
     if command == name && is_base(base) && is_folder(folder) {
-        Some((base, folder))
+        Some(FolderOf { base, folder })
     } else {
         None
     }
@@ -99,14 +100,15 @@ fn four_words(words: &[String]) -> Option<(&str, &str, &str, &str)>
     }
 }
 
-/// The base, the folder and the name of a profile, where the words ask for links.
-pub(crate) fn links_of(words: &[String]) -> Option<(&str, &str, &str)>
-    ensures found { IfSome result (λ three. IsBase three.0.now × IsFolder three.1.now × (map string_bytes words.now ≡ codes "links" ∷ three.0.now ∷ three.1.now ∷ three.2.now ∷ [])) }
+// The folder and the name of a profile, where the words ask for links.
+fn links_of(words: &[String]) -> Option<LinksOf<'_>>
+    ensures found { IfSome result (λ links. Asks (map string_bytes words.now) (Links links.of.base.now links.of.folder.now links.profile.now)) }
     ensures none { IfNone result ((base folder profile : List ℕ) → IsBase base → IsFolder folder → map string_bytes words.now ≡ codes "links" ∷ base ∷ folder ∷ profile ∷ [] → ⊥) }
 {
     let (command, base, folder, profile) = four_words(words)?;
     if command == "links" && is_base(base) && is_folder(folder) {
-        Some((base, folder, profile))
+        let of = FolderOf { base, folder };
+        Some(LinksOf { of, profile })
     } else {
         None
     }
@@ -132,9 +134,9 @@ fn six_words(words: &[String]) -> Option<(&str, &str, &str, &str, &str, &str)>
     }
 }
 
-/// The base, the folder, the name of a profile and two identifiers, where the words ask for a way.
-pub(crate) fn route_of(words: &[String]) -> Option<(&str, &str, &str, FeatureId, FeatureId)>
-    ensures found { IfSome result (λ five. AsksRoute (map string_bytes words.now) five.0.now five.1.now five.2.now five.3 five.4) }
+// The folder, the name of a profile and two identifiers, where the words ask for a way.
+fn route_of(words: &[String]) -> Option<RouteOf<'_>>
+    ensures found { IfSome result (AskWay (map string_bytes words.now)) }
     ensures none { IfNone result ((base folder profile from to : List ℕ) → IsBase base → IsFolder folder → IsIdentifier from → IsIdentifier to
         → map string_bytes words.now ≡ codes "route" ∷ base ∷ folder ∷ profile ∷ from ∷ to ∷ [] → ⊥) }
 {
@@ -142,7 +144,13 @@ pub(crate) fn route_of(words: &[String]) -> Option<(&str, &str, &str, FeatureId,
     let from = FeatureId::read(from.as_bytes())?;
     let to = FeatureId::read(to.as_bytes())?;
     if command == "route" && is_base(base) && is_folder(folder) {
-        Some((base, folder, profile, from, to))
+        let of = FolderOf { base, folder };
+        Some(RouteOf {
+            of,
+            profile,
+            from,
+            to,
+        })
     } else {
         None
     }
@@ -178,14 +186,15 @@ fn small_number_in(word: &str, most: u8) -> Option<u8>
     Some(found as u8)
 }
 
-/// How many levels, where the words ask for a building.
-pub(crate) fn levels_of(words: &[String]) -> Option<u8>
-    ensures found { IfSome result (λ levels. (1 ≤ levels) × (levels ≤ 200) × (map string_bytes words.now ≡ codes "gen" ∷ decimal levels ∷ [])) }
+// How many levels, where the words ask for a building.
+fn levels_of(words: &[String]) -> Option<Levels>
+    ensures found { IfSome result (λ levels. map string_bytes words.now ≡ codes "gen" ∷ decimal levels.count ∷ []) }
     ensures none { IfNone result ((levels : ℕ) → 1 ≤ levels → levels ≤ 200 → map string_bytes words.now ≡ codes "gen" ∷ decimal levels ∷ [] → ⊥) }
 {
     let (command, levels) = two_words(words)?;
     if command == "gen" {
-        small_number_in(levels, 200)
+        let count = small_number_in(levels, 200)?;
+        Some(Levels { count })
     } else {
         None
     }
@@ -209,16 +218,63 @@ fn counts_in(workers: &str, connections: &str) -> Option<(u8, u32)>
     Some((workers, connections as u32))
 }
 
-/// The base, the folder, the address, and how many workers and connections, where the words ask for a service.
-pub fn service_of(words: &[String]) -> Option<(&str, &str, &str, u8, u32)>
-    ensures found { IfSome result (λ five. AsksService (map string_bytes words.now) five.0.now five.1.now five.2.now five.3 five.4) }
-    ensures none { IfNone result (IsNoService (map string_bytes words.now)) }
+// The folder, the address, and how many workers and connections, where the words ask for a service.
+fn service_of(words: &[String]) -> Option<Service<'_>>
+    ensures found { IfSome result (λ service. Asks (map string_bytes words.now) (service_asked service)) }
+    ensures none { IfNone result ((base folder address : List ℕ) (workers connections : ℕ) → IsAsked (Serve base folder address workers connections)
+        → map string_bytes words.now ≡ words_of (Serve base folder address workers connections) → ⊥) }
 {
     let (command, base, folder, address, workers, connections) = six_words(words)?;
     let (workers, connections) = counts_in(workers, connections)?;
     if command == "serve" && is_base(base) && is_folder(folder) && is_address(address) {
-        Some((base, folder, address, workers, connections))
+        let of = FolderOf { base, folder };
+        Some(Service {
+            of,
+            address,
+            workers,
+            connections,
+        })
     } else {
         None
+    }
+}
+
+// What the words ask for, where it needs no doors.
+fn local_command(words: &[String]) -> LocalCommand<'_>
+    requires { (base folder address : List ℕ) (workers connections : ℕ) → IsAsked (Serve base folder address workers connections)
+        → map string_bytes words.now ≡ words_of (Serve base folder address workers connections) → ⊥ }
+    ensures { IsLocal (map string_bytes words.now) result }
+{
+    if let Some(base) = base_of(words, "price") {
+        return LocalCommand::Price(base);
+    }
+    if let Some(base) = base_of(words, "verify") {
+        return LocalCommand::Verify(base);
+    }
+    if let Some(of) = folder_of(words, "check") {
+        return LocalCommand::Check(of);
+    }
+    if let Some(of) = folder_of(words, "session") {
+        return LocalCommand::Session(of);
+    }
+    if let Some(links) = links_of(words) {
+        return LocalCommand::Links(links);
+    }
+    if let Some(route) = route_of(words) {
+        return LocalCommand::Route(route);
+    }
+    if let Some(levels) = levels_of(words) {
+        return LocalCommand::Gen(levels);
+    }
+    LocalCommand::Unknown
+}
+
+/// What the words of a command line ask for.
+pub fn read_command(words: &[String]) -> Command<'_>
+    ensures { IsCommand (map string_bytes words.now) result }
+{
+    match service_of(words) {
+        Some(service) => Command::Serve(service),
+        None => Command::Local(local_command(words)),
     }
 }

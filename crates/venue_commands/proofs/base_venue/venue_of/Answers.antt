@@ -4,11 +4,11 @@ use Rattle.venue_commands.proofs.base_venue.venue_of.Goals as goal
 
 pub returns-in-Err-clause-told : goal.returns-in-Err-clause-told
 returns-in-Err-clause-told g c =
-    stops_at_settings (g.F.Folders.files c.args.folders.now) c.args.base.now c.args.folder.now c.in_ok-settings.field-0 c.in-Err.text c.printed.result c.in_ok-settings.ensures.told c.in-Err.is
+    stops_at_settings (g.F.Folders.files c.args.folders.now) c.args.of.base.now c.args.of.folder.now c.in_ok-settings.field-0 c.in-Err.text c.printed.result c.in_ok-settings.ensures.told c.in-Err.is
     c.printed.ensures.text c.printed.ensures.status
 
 pub returns-clause-told : goal.returns-clause-told
 returns-clause-told g c =
-    is_made (g.F.Folders.files c.args.folders.now) (g.F.Folders.files c.settings_of.new.folders) c.args.base.now c.args.folder.now c.as_str.result.now c.in_ok-settings.field-0 c.in-Ok.settings
-    c.in_ok-files.files c.made_of.result c.in_ok-settings.ensures.same c.in_ok-settings.ensures.told c.in-Ok.is (c.as_str.ensures.value ∙ c.in_ok-path.ensures.ok) c.in_ok-files.ensures.told
+    is_made (g.F.Folders.files c.args.folders.now) (g.F.Folders.files c.settings_of.new.folders) c.args.of.base.now c.args.of.folder.now c.in_ok-settings.field-0 c.in-Ok.settings
+    c.in_ok-files.files c.made_of.result c.in_ok-settings.ensures.same c.in_ok-settings.ensures.told c.in-Ok.is c.in_ok-files.ensures.told
     c.made_of.ensures.told

@@ -4,11 +4,11 @@ use Rattle.venue_commands.proofs.check_command.check_answer.Goals as goal
 
 pub returns-in-Stopped-clause-told : goal.returns-in-Stopped-clause-told
 returns-in-Stopped-clause-told g c =
-    check_stopped (g.F.Folders.files c.args.folders.now) c.args.base.now c.args.folder.now c.in_ok-made.made c.in-Stopped.answer c.in_ok-made.ensures.told c.in-Stopped.is
+    check_stopped (g.F.Folders.files c.args.folders.now) c.args.of.base.now c.args.of.folder.now c.in_ok-made.made c.in-Stopped.answer c.in_ok-made.ensures.told c.in-Stopped.is
 
 pub returns-in-Venue-clause-told : goal.returns-in-Venue-clause-told
 returns-in-Venue-clause-told g c =
-    check_accepted (g.F.Folders.files c.args.folders.now) c.args.base.now c.args.folder.now c.in_ok-made.made c.in-Venue.venue c.accepted.result c.in_ok-made.ensures.told c.in-Venue.is
+    check_accepted (g.F.Folders.files c.args.folders.now) c.args.of.base.now c.args.of.folder.now c.in_ok-made.made c.in-Venue.venue c.accepted.result c.in_ok-made.ensures.told c.in-Venue.is
     c.accepted.ensures.text c.accepted.ensures.status
 
 pub returns-in-Venue-clause-cause : goal.returns-in-Venue-clause-cause

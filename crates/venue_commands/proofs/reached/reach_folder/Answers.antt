@@ -1,11 +1,14 @@
-use Rattle.venue_commands.proofs.Openings.{session_stopped, session_opened}
+use Rattle.venue_commands.proofs.Openings.{settings_stopped, folder_reached}
+use Rattle.venue_commands.proofs.VenueMaking.{stops_at_settings}
 use Rattle.venue_commands.proofs.reached.reach_folder.Goals as goal
-
-pub returns-in-Stopped-clause-told : goal.returns-in-Stopped-clause-told
-returns-in-Stopped-clause-told g c =
-    session_stopped (g.F.Folders.files c.args.folders.now) c.args.base.now c.args.folder.now c.in_ok-made.made c.in-Stopped.answer c.in_ok-made.ensures.told c.in-Stopped.is
 
 pub returns-in-Ok-clause-told : goal.returns-in-Ok-clause-told
 returns-in-Ok-clause-told g c =
-    session_opened (g.F.Folders.files c.args.folders.now) c.args.base.now c.args.folder.now c.in_ok-made.made c.in-Venue.venue c.in-Ok.opening c.in_ok-made.ensures.told c.in-Venue.is
-    c.in-Ok.ensures.base c.in-Ok.ensures.venue
+    folder_reached (g.F.Folders.files c.args.folders.now) (g.F.Folders.files c.settings_of.new.folders) c.args.of.base.now c.args.of.folder.now c.in_ok-settings.field-0 c.in-Ok.settings
+    c.open_folder.result c.in_ok-settings.ensures.same c.in_ok-settings.ensures.told c.in-Ok.is c.open_folder.ensures.told
+
+pub returns-in-Err-clause-told : goal.returns-in-Err-clause-told
+returns-in-Err-clause-told g c =
+    settings_stopped (g.F.Folders.files c.args.folders.now) c.args.of.base.now c.args.of.folder.now c.printed.result
+    (stops_at_settings (g.F.Folders.files c.args.folders.now) c.args.of.base.now c.args.of.folder.now c.in_ok-settings.field-0 c.in-Err.text c.printed.result c.in_ok-settings.ensures.told c.in-Err.is
+    c.printed.ensures.text c.printed.ensures.status)

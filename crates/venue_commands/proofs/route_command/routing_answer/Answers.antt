@@ -4,11 +4,11 @@ use Rattle.venue_commands.proofs.route_command.routing_answer.Goals as goal
 
 pub returns-in-Stopped-clause-told : goal.returns-in-Stopped-clause-told
 returns-in-Stopped-clause-told g c =
-    route_stopped (g.F.Folders.files c.args.folders.now) c.args.base.now c.args.folder.now c.args.profile.now c.args.from c.args.to c.in_ok-made.made c.in-Stopped.answer c.in_ok-made.ensures.told c.in-Stopped.is
+    route_stopped (g.F.Folders.files c.args.folders.now) c.args.route.of.base.now c.args.route.of.folder.now c.args.route.profile.now c.args.route.from c.args.route.to c.in_ok-made.made c.in-Stopped.answer c.in_ok-made.ensures.told c.in-Stopped.is
 
 pub returns-in-Venue-clause-told : goal.returns-in-Venue-clause-told
 returns-in-Venue-clause-told g c =
-    is_routed (g.F.Folders.files c.args.folders.now) c.args.base.now c.args.folder.now c.args.profile.now c.args.from c.args.to c.in_ok-made.made c.in-Venue.venue c.routed.result c.in_ok-made.ensures.told c.in-Venue.is
+    is_routed (g.F.Folders.files c.args.folders.now) c.args.route.of.base.now c.args.route.of.folder.now c.args.route.profile.now c.args.route.from c.args.route.to c.in_ok-made.made c.in-Venue.venue c.routed.result c.in_ok-made.ensures.told c.in-Venue.is
     c.routed.ensures.told
 
 pub returns-in-Venue-clause-cause : goal.returns-in-Venue-clause-cause

@@ -10,9 +10,10 @@ returns-then-is_folder-clause-found c =
     record {
       from = six.from.now;
       to = six.to.now;
-      base_is = c.if-is_base.ensures.yes;
-      folder_is = c.if-is_folder.ensures.yes;
       from_is = ap identifier_read (sym c.as_bytes.ensures.value) ∙ sym c.in_ok-from.ensures;
       to_is = ap identifier_read (sym c.as_bytes-2.ensures.value) ∙ sym c.in_ok-to.ensures;
-      spelled = six.ensures.found ∙ ap (λ (word : List ℕ). word ∷ six.base.now ∷ six.folder.now ∷ six.profile.now ∷ six.from.now ∷ six.to.now ∷ []) named;
+      asks = (record {
+        form = (c.if-is_base.ensures.yes, c.if-is_folder.ensures.yes, (c.in_ok-from.from, ap identifier_read (sym c.as_bytes.ensures.value) ∙ sym c.in_ok-from.ensures), (c.in_ok-to.to, ap identifier_read (sym c.as_bytes-2.ensures.value) ∙ sym c.in_ok-to.ensures));
+        spelled = six.ensures.found ∙ ap (λ (word : List ℕ). word ∷ six.base.now ∷ six.folder.now ∷ six.profile.now ∷ six.from.now ∷ six.to.now ∷ []) named;
+      });
     }

@@ -1,6 +1,6 @@
 use Rattle.std.proofs.Common.{refl, sym, ap, ◌∙◌}
 use Rattle.venue_commands.proofs.Serving.{serves, same_files, ends_nothing, later_as}
-use Rattle.venue_commands.proofs.serving_console.serve_console.Goals as goal
+use Rattle.venue_commands.proofs.session_command.serve_console.Goals as goal
 
 pub returns-in-Ok-clause-ends : goal.returns-in-Ok-clause-ends
 returns-in-Ok-clause-ends g c words files faults opens same failed =

@@ -1,5 +1,5 @@
 use Rattle.venue_commands.proofs.Ending.{ends_told, ends_short}
-use Rattle.venue_commands.proofs.commands.print.Goals as goal
+use Rattle.venue_commands.proofs.prints.print.Goals as goal
 
 pub returns-in-Ok-clause-ends : goal.returns-in-Ok-clause-ends
 returns-in-Ok-clause-ends g c words files before now plain output stayed =

@@ -1,5 +1,5 @@
 use Rattle.venue_commands.proofs.Ending.{ends_failed}
-use Rattle.venue_commands.proofs.commands.print_fault.Goals as goal
+use Rattle.venue_commands.proofs.prints.print_fault.Goals as goal
 
 pub returns-clause-ends : goal.returns-clause-ends
 returns-clause-ends g c words files before now asks rose =

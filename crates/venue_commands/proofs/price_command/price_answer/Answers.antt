@@ -1,20 +1,20 @@
 use Rattle.venue_commands.proofs.Judging.{stops_at_links, stops_at_walk, is_priced}
-use Rattle.venue_commands.proofs.printout.price_answer.Goals as goal
+use Rattle.venue_commands.proofs.price_command.price_answer.Goals as goal
 
 pub returns-in-Err-clause-told : goal.returns-in-Err-clause-told
 returns-in-Err-clause-told g c =
     let a = c.in_ok-stopped-in-Err in
-    stops_at_links (g.F.Folders.files c.args.folders.now) c.args.base.now a.field-0.text a.field-0.status c.in_ok-table.field-0 c.in-Err.cause
+    stops_at_links (g.F.Folders.files c.args.folders.now) c.args.base.name.now a.field-0.text a.field-0.status c.in_ok-table.field-0 c.in-Err.cause
     c.in_ok-table.ensures.told c.in-Err.is a.ensures.text a.ensures.status
 
 pub returns-in-Err-2-clause-told : goal.returns-in-Err-2-clause-told
 returns-in-Err-2-clause-told g c =
     let a = c.in_ok-stopped-in-Err-2 in
-    stops_at_walk (g.F.Folders.files c.args.folders.now) (g.F.Folders.files c.table_of.new.folders) c.args.base.now a.field-0.text a.field-0.status c.in_ok-table.field-0 c.in-Ok.table
+    stops_at_walk (g.F.Folders.files c.args.folders.now) (g.F.Folders.files c.table_of.new.folders) c.args.base.name.now a.field-0.text a.field-0.status c.in_ok-table.field-0 c.in-Ok.table
     c.in_ok-walk.field-0 c.in-Err-2.cause c.in_ok-table.ensures.same c.in_ok-table.ensures.told c.in-Ok.is c.in_ok-walk.ensures.told c.in-Err-2.is a.ensures.text a.ensures.status
 
 pub returns-clause-told : goal.returns-clause-told
 returns-clause-told g c =
     let a = c.in_ok-priced in
-    is_priced (g.F.Folders.files c.args.folders.now) (g.F.Folders.files c.table_of.new.folders) c.args.base.now a.field-0.text a.field-0.status c.in_ok-table.field-0 c.in-Ok.table
+    is_priced (g.F.Folders.files c.args.folders.now) (g.F.Folders.files c.table_of.new.folders) c.args.base.name.now a.field-0.text a.field-0.status c.in_ok-table.field-0 c.in-Ok.table
     c.in_ok-walk.field-0 c.in-Ok-2.walk c.price.result c.in_ok-table.ensures.same c.in_ok-table.ensures.told c.in-Ok.is c.in_ok-walk.ensures.told c.in-Ok-2.is c.price.ensures a.ensures.text a.ensures.status

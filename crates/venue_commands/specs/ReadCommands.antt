@@ -1,0 +1,38 @@
+-- What words were read as.
+use Rattle.std.specs.Prelude.{◌≡◌, ℕ, List, Some}
+use Rattle.venue_types.specs.Identifier.{identifier_read}
+use Rattle.venue_commands.specs.declared.command.Command.{Command}
+use Rattle.venue_commands.specs.declared.command.Command.TheVariants as command
+use Rattle.venue_commands.specs.declared.command.LocalCommand.{LocalCommand}
+use Rattle.venue_commands.specs.declared.command.LocalCommand.TheVariants as local
+use Rattle.venue_commands.specs.declared.command.RouteOf.{RouteOf}
+use Rattle.venue_commands.specs.declared.command.Service.{Service}
+use Rattle.venue_commands.specs.Commands.{Asked, Price, Verify, Check, Links, Route, Session, Serve, Gen, Asks, AskForNothing}
+
+-- the words ask for this way, and spell its two places
+pub record AskWay (words : List (List ℕ)) (route : RouteOf) : Type 0 where
+  pub from : List ℕ
+  pub to : List ℕ
+  pub from_is : identifier_read from ≡ Some route.from
+  pub to_is : identifier_read to ≡ Some route.to
+  pub asks : Asks words (Route route.of.base.now route.of.folder.now route.profile.now from to)
+
+-- what a service is asked for by
+abbrev pub service_asked : Service → Asked
+service_asked service = Serve service.of.base.now service.of.folder.now service.address.now service.workers service.connections
+
+-- a command that needs no doors is what the words ask for
+abbrev pub IsLocal : List (List ℕ) → LocalCommand → Type 0
+IsLocal words (local.Price base) = Asks words (Price base.name.now)
+IsLocal words (local.Verify base) = Asks words (Verify base.name.now)
+IsLocal words (local.Check of) = Asks words (Check of.base.now of.folder.now)
+IsLocal words (local.Links links) = Asks words (Links links.of.base.now links.of.folder.now links.profile.now)
+IsLocal words (local.Route route) = AskWay words route
+IsLocal words (local.Gen levels) = Asks words (Gen levels.count)
+IsLocal words (local.Session of) = Asks words (Session of.base.now of.folder.now)
+IsLocal words local.Unknown = AskForNothing words
+
+-- this is what the words ask for
+abbrev pub IsCommand : List (List ℕ) → Command → Type 0
+IsCommand words (command.Local c) = IsLocal words c
+IsCommand words (command.Serve service) = Asks words (service_asked service)
