@@ -1,5 +1,5 @@
 -- What an object in memory is planned to do.
-use Rattle.std.specs.Prelude.{◌≡◌, ℕ, ◌-◌, List, [], Option, Some, None, length, min, max, Contains}
+use Rattle.std.specs.Prelude.{ℕ, ◌-◌, List, Option, Some, None, length, min, max, Contains}
 use Rattle.venue_ports.specs.Causes.{one_more}
 
 -- the numbers of the calls that are to fail, from 1, and how many calls there were
