@@ -1,6 +1,6 @@
 //! A stream in memory.
 
-ghost use Rattle.std.specs.Prelude.{◌≡◌, ℕ, ◌<◌, ◌≤◌, ◌↔◌, ◌⊎◌, List, [], Some, IfOk, IsOk, IsErr, OnErr, length};
+ghost use Rattle.std.specs.Prelude.{◌≡◌, ℕ, ◌<◌, ◌≤◌, ◌↔◌, ◌⊎◌, List, [], None, Some, IfOk, IsOk, IsErr, OnErr, length};
 ghost use Rattle.std.specs.Option.{option_copied};
 ghost use Rattle.venue_ports.specs.Causes.{one_more, HasExactCause};
 ghost use Rattle.venue_ports.specs.Moves.{MovesIn, MovesOut};
@@ -120,6 +120,8 @@ impl Stream for MemoryStream {
     ghost left = { stream_left };
 
     ghost written = { stream_written };
+
+    ghost starts = { λ _. None };
 
     ghost faults = { stream_faults };
 

@@ -109,6 +109,8 @@ impl<R: Input + Print> Stream for Console<R> {
 
     ghost written = { λ _. None };
 
+    ghost starts = { λ _. None };
+
     ghost faults = { λ c. c.faults };
 
     fn fault_count(&self) -> u64 {

@@ -3,6 +3,7 @@
 ghost use Rattle.std.specs.Prelude.{◌≡◌, ℕ, ◌<◌, ◌≤◌, List, Option, IfOk, length};
 ghost use Rattle.venue_ports.specs.Causes.{HasExactCause};
 ghost use Rattle.venue_ports.specs.Moves.{MovesIn, MovesOut};
+ghost use Rattle.venue_ports.specs.Starts.{ReadStart, start_at, TellsStart};
 
 /// The outside failed, and counted it.
 #[derive(Clone, Copy, Debug, PartialEq, Eq)]
@@ -15,6 +16,10 @@ pub trait Stream {
 
     /// The bytes that were written, where they are told.
     ghost written: { Self → Option (List ℕ) };
+
+    /// What stood when each read began, the first one first, where it is told. A read that failed, or found the end, began too. A
+    /// stream may cease to tell it.
+    ghost starts: { Self → Option (List ReadStart) };
 
     /// How often a read or a write has failed.
     ghost faults: { Self → ℕ };
@@ -29,6 +34,7 @@ pub trait Stream {
         ensures bound { IfOk result (λ n. n ≤ length buf.old) }
         ensures bytes { MovesIn (left self.old) (left self.new) result buf.new }
         ensures written { written self.new ≡ written self.old }
+        ensures starts { TellsStart (starts self.old) (starts self.new) (start_at (left self.old) (written self.old)) }
         ensures cause { HasExactCause (faults self.old) (faults self.new) result };
 
     /// Writes some bytes from the front of the piece, at least one. Takes no memory.
@@ -37,5 +43,6 @@ pub trait Stream {
         ensures bound { IfOk result (λ n. (0 < n) × (n ≤ length piece.now)) }
         ensures bytes { MovesOut (written self.old) (written self.new) result piece.now }
         ensures left { left self.new ≡ left self.old }
+        ensures starts { starts self.new ≡ starts self.old }
         ensures cause { HasExactCause (faults self.old) (faults self.new) result };
 }

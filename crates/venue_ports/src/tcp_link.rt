@@ -104,6 +104,8 @@ impl<'a, R: Clock> Stream for TcpLink<'a, R> {
 
     ghost written = { λ _. None };
 
+    ghost starts = { λ _. None };
+
     ghost faults = { λ l. l.faults };
 
     fn fault_count(&self) -> u64 {

@@ -1,14 +1,16 @@
 -- A session under way begins, takes more bytes, and acts on a message.
-use Rattle.std.proofs.Common.{◌≡◌, inl, lit<, ℕ, ◌+◌, ◌<◌, false, List, [], ◌∷◌, ◌++◌, length, drop, refl, sym, ◌∙◌, subst, arith, length-append, append-nil, append_assoc, Option}
+use Rattle.std.proofs.Common.{◌≡◌, inl, lit<, ℕ, ◌+◌, ◌<◌, ◌^◌, false, List, [], ◌∷◌, ◌++◌, length, drop, refl, sym, ◌∙◌, subst, arith, length-append, append-nil, append_assoc, Option}
 use Rattle.std.specs.Io.KnownBytes.{Appends, Consumes}
 use Rattle.std.proofs.KnownBytes.{Appends-nil, Appends-trans, Consumes-nil, Consumes-trans}
 use Rattle.std.proofs.lemmas.List.Elements.{All-nil, All-push}
+use Rattle.venue_ports.specs.Starts.{ReadStart}
 use Rattle.venue_hall.specs.Histories.{IsLegal}
 use Rattle.venue_hall.specs.Facts.{Facts}
 use Rattle.wire_frames.specs.Frames.{IsShort}
 use Rattle.venue_session.specs.Acting.{Acted, text_of, IsActed, Acts}
-use Rattle.venue_session.specs.Going.{Moment, moment, IsGoing, StaysShort, Awaits}
+use Rattle.venue_session.specs.Going.{Moment, moment, IsGoing, WasPrompt, StaysShort, Awaits}
 use Rattle.venue_session.proofs.Joining.{acts_push}
+use Rattle.venue_session.proofs.Prompting.{was_prompt, prompt_kept}
 
 pub going_first : (keys : List (List ℕ)) (first : Moment) → IsLegal first.facts.seen → IsGoing keys first first 0 []
 going_first keys first legal = record {
@@ -22,6 +24,8 @@ going_first keys first legal = record {
   are_open = All-nil (λ (m : Acted). m.close ≡ false);
   wrote = Appends-nil first.written;
   sound = refl;
+  most = lit< tt;
+  prompt = was_prompt keys first;
 }
 
 nothing_is_short : IsShort []
@@ -32,11 +36,11 @@ nothing_awaits = (nothing_is_short, λ behind below. absurd (omega (arith, below
 
 pub going_more : (law : (keys : List (List ℕ)) (old new : Facts) (bytes out rest more : List ℕ) (ms : List Acted)
     → Acts keys old bytes ms out new rest → Acts keys old (bytes ++ more) ms out new (rest ++ more))
-    (keys : List (List ℕ)) (first : Moment) (facts : Facts) (left after written same : Option (List ℕ)) (faults later taken total : ℕ)
-    (waiting more : List ℕ)
-    → IsGoing keys first (moment facts left written faults) taken waiting → Consumes left after more → same ≡ written → later ≡ faults
-    → total ≡ taken + length more → IsGoing keys first (moment facts after same later) total (waiting ++ more)
-going_more law keys first facts left after written same faults later taken total waiting more going took kept sound count = record {
+    (keys : List (List ℕ)) (first : Moment) (facts : Facts) (left after written same : Option (List ℕ)) (starts begun : Option (List ReadStart))
+    (faults later taken total : ℕ) (waiting more : List ℕ)
+    → IsGoing keys first (moment facts left written starts faults) taken waiting → Consumes left after more → same ≡ written → WasPrompt keys first begun → later ≡ faults
+    → total ≡ taken + length more → total < 2 ^ 40 + 81920 → IsGoing keys first (moment facts after same begun later) total (waiting ++ more)
+going_more law keys first facts left after written same starts begun faults later taken total waiting more going took kept prompt sound count most = record {
   legal = going.legal;
   bytes = going.bytes ++ more;
   acted = going.acted;
@@ -47,14 +51,16 @@ going_more law keys first facts left after written same faults later taken total
   are_open = going.are_open;
   wrote = subst (λ (w : Option (List ℕ)). Appends first.written w going.out) (sym kept) going.wrote;
   sound = sound ∙ going.sound;
+  most = most;
+  prompt = prompt;
 }
 
-pub going_acted : (keys : List (List ℕ)) (first : Moment) (mid new : Facts) (left same written after : Option (List ℕ)) (faults later taken : ℕ)
-    (waiting : List ℕ) (m : Acted)
-    → IsGoing keys first (moment mid left written faults) taken waiting → IsActed keys mid waiting m new → m.close ≡ false
-    → same ≡ left → Appends written after (text_of m) → later ≡ faults
-    → IsGoing keys first (moment new same after later) taken (drop m.length waiting)
-going_acted keys first mid new left same written after faults later taken waiting m going acted stays kept wrote sound = record {
+pub going_acted : (keys : List (List ℕ)) (first : Moment) (mid new : Facts) (left same written after : Option (List ℕ)) (starts begun : Option (List ReadStart))
+    (faults later taken : ℕ) (waiting : List ℕ) (m : Acted)
+    → IsGoing keys first (moment mid left written starts faults) taken waiting → IsActed keys mid waiting m new → m.close ≡ false
+    → same ≡ left → begun ≡ starts → Appends written after (text_of m) → later ≡ faults
+    → IsGoing keys first (moment new same after begun later) taken (drop m.length waiting)
+going_acted keys first mid new left same written after starts begun faults later taken waiting m going acted stays kept none wrote sound = record {
   legal = going.legal;
   bytes = going.bytes;
   acted = going.acted ++ m ∷ [];
@@ -65,6 +71,8 @@ going_acted keys first mid new left same written after faults later taken waitin
   are_open = All-push (λ (k : Acted). k.close ≡ false) going.acted m going.are_open stays;
   wrote = Appends-trans first.written written after going.out (text_of m) going.wrote wrote;
   sound = sound ∙ going.sound;
+  most = going.most;
+  prompt = prompt_kept keys first starts begun none going.prompt;
 }
 
 pub going_renamed : (keys : List (List ℕ)) (first now : Moment) (taken : ℕ) (waiting same : List ℕ)

@@ -1,12 +1,14 @@
 pub mod Following
 pub mod Joining
 pub mod Keeping
+pub mod Prompting
 pub mod Goings
 pub mod Endings
 pub mod Served
 pub mod Moving
 pub mod Waiting
 pub mod Wanting
+pub mod Asking
 pub mod Ways
 pub mod Exchanges
 pub mod HeadlineEnds

@@ -34,4 +34,5 @@ step_wants old new message answer untold step = record {
   fault = λ outside. absurd outside;
   looks = step.looks;
   look = λ looked. absurd (look_wants message looked);
+  quiet = step.quiet;
 }

@@ -1,11 +1,13 @@
--- A session under way, between two calls.
-use Rattle.std.specs.Prelude.{◌≡◌, ◌<◌, ◌≤◌, ◌+◌, ℕ, List, ◌++◌, length, Option, Some, None}
+-- A session under way, between two calls. No definition of the public contract.
+use Rattle.std.specs.Prelude.{◌≡◌, ◌<◌, ◌≤◌, ◌+◌, ◌^◌, ℕ, List, ◌++◌, length, Option, Some, None}
 use Rattle.std.specs.Io.KnownBytes.{Appends, Consumes}
+use Rattle.venue_ports.specs.Starts.{ReadStart}
 use Rattle.venue_hall.specs.Histories.{IsLegal}
 use Rattle.venue_hall.specs.Facts.{Facts}
 use Rattle.wire_frames.specs.Frames.{IsShort}
 use Rattle.venue_session.specs.Acting.{Acted, AreOpen, Acts}
 use Rattle.venue_session.specs.Ends.{Measured}
+use Rattle.venue_session.specs.Moments.{ArePrompt}
 use Rattle.venue_session.specs.Sessions.{IsSession}
 use Rattle.venue_session.specs.declared.ends.End.{End}
 use Rattle.venue_session.specs.declared.heard.Heard.{Heard}
@@ -16,10 +18,15 @@ pub record Moment : Type 0 where
   pub facts : Facts
   pub left : Option (List ℕ)
   pub written : Option (List ℕ)
+  pub starts : Option (List ReadStart)
   pub faults : ℕ
 
-abbrev pub moment : Facts → Option (List ℕ) → Option (List ℕ) → ℕ → Moment
-moment facts left written faults = record { facts = facts; left = left; written = written; faults = faults }
+abbrev pub moment : Facts → Option (List ℕ) → Option (List ℕ) → Option (List ReadStart) → ℕ → Moment
+moment facts left written starts faults = record { facts = facts; left = left; written = written; starts = starts; faults = faults }
+
+-- whenever a read began since the first moment all that had come was answered
+abbrev pub WasPrompt : List (List ℕ) → Moment → Option (List ReadStart) → Type 0
+WasPrompt keys first starts = ArePrompt keys first.facts first.left first.written first.starts starts
 
 -- what is measured of the connection from one moment to another
 abbrev pub measured : Moment → Moment → Measured
@@ -33,7 +40,7 @@ measured first now = record {
 }
 
 -- since the first moment so many bytes were taken, and all but those that wait were acted on: each text was written whole, none
--- of the messages closes, and the connection did not fail
+-- of the messages closes, the connection did not fail, and whenever a read began all that had come was answered
 pub record IsGoing (keys : List (List ℕ)) (first now : Moment) (taken : ℕ) (waiting : List ℕ) : Type 0 where
   pub legal : IsLegal first.facts.seen
   pub bytes : List ℕ
@@ -45,11 +52,14 @@ pub record IsGoing (keys : List (List ℕ)) (first now : Moment) (taken : ℕ) (
   pub are_open : AreOpen acted
   pub wrote : Appends first.written now.written out
   pub sound : now.faults ≡ first.faults
+  pub most : taken < 2 ^ 40 + 81920
+  pub prompt : WasPrompt keys first now.starts
 
 -- the session that began at the first moment has ended so
 pub record HasEnded (keys : List (List ℕ)) (first now : Moment) (end : End) : Type 0 where
   pub session : IsSession keys first.facts now.facts (measured first now) end
   pub later : first.faults ≤ now.faults
+  pub prompt : WasPrompt keys first now.starts
 
 -- the session goes on, or has ended so
 abbrev pub GoesOrEnded : List (List ℕ) → Moment → Moment → ℕ → List ℕ → Option End → Type 0

@@ -1,6 +1,7 @@
 pub mod Steps
 pub mod Acting
 pub mod Ends
+pub mod Moments
 pub mod Sessions
 pub mod Texts
 pub mod Going

@@ -1,8 +1,9 @@
 -- One message acted on: what it is answered, and what becomes of the hall.
-use Rattle.std.specs.Prelude.{◌≡◌, ◌≢◌, ◌⊎◌, ℕ, ◌+◌, ◌≤◌}
+use Rattle.std.specs.Prelude.{◌≡◌, ◌≢◌, ◌⊎◌, ℕ, ◌+◌, ◌<◌, ◌≤◌, List, length, Option, Some, None}
 use mathlib.Core.List.{IsPrefix}
 use Rattle.venue_types.specs.declared.reply.Reply.TheVariants as reply
 use Rattle.venue_ports.specs.Causes.{Rose}
+use Rattle.venue_hall.specs.Entry.{Entry}
 use Rattle.venue_hall.specs.Histories.{IsLegal}
 use Rattle.venue_hall.specs.Replies.{told, IsAhead, IsOutsideFault}
 use Rattle.venue_hall.specs.Facts.{Facts, IsSameHall, IsAnswered, IsChanged}
@@ -35,12 +36,23 @@ ComesOfLook (Message.Ask query) (Of r) = IsAhead r
 ComesOfLook (Message.Do change) (Of r) = r ≢ reply.OutOfMemory
 ComesOfLook _ _ = ⊥
 
+-- the version that is asked for comes after so many entries
+abbrev pub IsPast : ℕ → Option ℕ → Type 0
+IsPast count None = ⊥
+IsPast count (Some since) = count < since
+
+-- nothing has to be looked for: the message asks for no version after the entries that were seen, or is refused by itself
+abbrev pub NeedsNoLook : List Entry → Message → Type 0
+NeedsNoLook seen (Message.Ask query) = ¬ IsPast (length seen) query.since
+NeedsNoLook seen (Message.Do change) = ⊥
+NeedsNoLook seen (Message.Refused refusal) = Unit {0}
+
 -- a count stays, or has risen
 abbrev pub StaysOrRose : ℕ → ℕ → Type 0
 StaysOrRose before now = (now ≡ before) ⊎ Rose before now
 
 -- the hall acts on the message: the answer is right, what is seen is legal and at most grows, an accepted change that is told is
--- counted, and no count falls
+-- counted, no count falls, and nothing is looked for where there is no need
 pub record IsStep (old : Facts) (message : Message) (answer : Response) (new : Facts) : Type 0 where
   pub right : IsRight old message answer new
   pub grows : IsPrefix old.seen new.seen
@@ -51,3 +63,4 @@ pub record IsStep (old : Facts) (message : Message) (answer : Response) (new : F
   pub fault : TellsFault answer → Rose old.faults new.faults
   pub looks : StaysOrRose old.looks new.looks
   pub look : ComesOfLook message answer → Rose old.looks new.looks
+  pub quiet : NeedsNoLook old.seen message → new.looks ≡ old.looks

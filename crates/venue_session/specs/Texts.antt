@@ -1,4 +1,4 @@
--- What is to be written for one message.
+-- What is to be written for one message. No definition of the public contract.
 use Rattle.std.specs.Prelude.{◌≡◌, ℕ, Bool, List}
 use Rattle.venue_hall.specs.Facts.{Facts}
 use Rattle.venue_wire.specs.declared.messages.Message.{Message}

@@ -1,7 +1,8 @@
 //! A read after the bytes that wait.
 
-ghost use Rattle.std.specs.Prelude.{ℕ, ◌<◌, List, Option, length};
+ghost use Rattle.std.specs.Prelude.{ℕ, ◌<◌, ◌^◌, List, Option, length};
 ghost use Rattle.std.specs.Io.KnownBytes.{IsAtEnd};
+ghost use Rattle.venue_ports.specs.Starts.{ReadStart};
 ghost use Rattle.venue_hall.specs.Facts.{Facts};
 ghost use Rattle.wire_frames.specs.Frames.{IsShort};
 ghost use Rattle.venue_session.specs.Going.{Moment, moment, Awaits, IsGoing, HasEnded, HeardOrEnded};
@@ -21,9 +22,9 @@ pub(crate) enum Heard {
 
 // How the session ends where the input does, and these bytes wait.
 fn end_of_input(waiting: &[u8]) -> End
-    ensures { (keys : List (List ℕ)) (first : Moment) (facts : Facts) (left written : Option (List ℕ)) (faults taken : ℕ)
-        → IsGoing keys first (moment facts left written faults) taken waiting.now → IsShort waiting.now → IsAtEnd left
-        → HasEnded keys first (moment facts left written faults) result }
+    ensures { (keys : List (List ℕ)) (first : Moment) (facts : Facts) (left written : Option (List ℕ)) (starts : Option (List ReadStart)) (faults taken : ℕ)
+        → IsGoing keys first (moment facts left written starts faults) taken waiting.now → IsShort waiting.now → IsAtEnd left
+        → HasEnded keys first (moment facts left written starts faults) result }
 {
     if waiting.is_empty() {
         End::Done
@@ -36,9 +37,9 @@ fn end_of_input(waiting: &[u8]) -> End
 pub(crate) fn read_on<L: Stream>(connection: &mut L, input: &mut Input) -> Heard
     requires { length input.old < 81920 }
     ensures { (keys : List (List ℕ)) (first : Moment) (facts : Facts) (taken least : ℕ)
-        → IsGoing keys first (moment facts (L.left connection.old) (L.written connection.old) (L.faults connection.old)) taken input.old
-        → Awaits input.old least
-        → HeardOrEnded keys first (moment facts (L.left connection.new) (L.written connection.new) (L.faults connection.new)) taken
+        → IsGoing keys first (moment facts (L.left connection.old) (L.written connection.old) (L.starts connection.old) (L.faults connection.old)) taken input.old
+        → Awaits input.old least → taken < 2 ^ 40
+        → HeardOrEnded keys first (moment facts (L.left connection.new) (L.written connection.new) (L.starts connection.new) (L.faults connection.new)) taken
         input.new least result }
 {
     acts_more_law();

@@ -4,6 +4,7 @@ ghost use Rattle.std.specs.Prelude.{◌≡◌, ◌+◌, ◌-◌, ◌≤◌, ◌<
 ghost use Rattle.std.specs.Io.KnownBytes.{Consumes, IsAtEnd};
 ghost use Rattle.venue_ports.specs.Causes.{HasExactCause};
 ghost use Rattle.venue_ports.specs.Moves.{MovesIn};
+ghost use Rattle.venue_ports.specs.Starts.{start_at, TellsStart};
 
 use std::alloc::Global;
 use std::marker::Model;
@@ -55,6 +56,7 @@ fn read_behind<L: Stream>(
     ensures bound { IfOk result (λ count. end + count ≤ length bytes.old.items) }
     ensures bytes { MovesIn (L.left connection.old) (L.left connection.new) result (drop end bytes.new.items) }
     ensures written { L.written connection.new ≡ L.written connection.old }
+    ensures starts { TellsStart (L.starts connection.old) (L.starts connection.new) (start_at (L.left connection.old) (L.written connection.old)) }
     ensures cause { HasExactCause (L.faults connection.old) (L.faults connection.new) result }
 {
     connection.read(&mut bytes[end..])
@@ -97,6 +99,7 @@ impl Input {
         ensures room { length self.new ≤ 81920 }
         ensures err { OnErr result ((self.new ≡ self.old) × (L.left connection.new ≡ L.left connection.old)) }
         ensures written { L.written connection.new ≡ L.written connection.old }
+        ensures starts { TellsStart (L.starts connection.old) (L.starts connection.new) (start_at (L.left connection.old) (L.written connection.old)) }
         ensures cause { HasExactCause (L.faults connection.old) (L.faults connection.new) result }
     {
         move_to_front(&mut self.bytes, self.start, self.end);

@@ -41,9 +41,9 @@ fn refusal_text(alloc: Global, refusal: Refusal) -> Result<Bytes, OutOfMemory>
 /// Writes why the head that waits is refused, and tells how the session ends by it.
 pub(crate) fn refuse<L: Stream>(alloc: Global, connection: &mut L, refusal: Refusal) -> End
     ensures { (keys : List (List ℕ)) (first : Moment) (facts : Facts) (taken : ℕ) (waiting : List ℕ)
-        → IsGoing keys first (moment facts (L.left connection.old) (L.written connection.old) (L.faults connection.old)) taken waiting
+        → IsGoing keys first (moment facts (L.left connection.old) (L.written connection.old) (L.starts connection.old) (L.faults connection.old)) taken waiting
         → IsRefused waiting refusal
-        → HasEnded keys first (moment facts (L.left connection.new) (L.written connection.new) (L.faults connection.new)) result }
+        → HasEnded keys first (moment facts (L.left connection.new) (L.written connection.new) (L.starts connection.new) (L.faults connection.new)) result }
 {
     match refusal_text(alloc, refusal) {
         Ok(text) => match write_all(connection, text.as_slice()) {

@@ -29,9 +29,9 @@ pub(crate) enum Stop {
 fn write_step<L: Stream>(connection: &mut L, step: &Step, close: bool) -> Option<End>
     ensures { (keys : List (List ℕ)) (first : Moment) (before after : Facts) (taken : ℕ) (waiting : List ℕ)
         → (message : Message) (size : ℕ)
-        → IsGoing keys first (moment before (L.left connection.old) (L.written connection.old) (L.faults connection.old)) taken waiting
+        → IsGoing keys first (moment before (L.left connection.old) (L.written connection.old) (L.starts connection.old) (L.faults connection.old)) taken waiting
         → At keys waiting (Taken.Message message size close) → Stepped before message close step.now after
-        → GoesOrEnded keys first (moment after (L.left connection.new) (L.written connection.new) (L.faults connection.new)) taken
+        → GoesOrEnded keys first (moment after (L.left connection.new) (L.written connection.new) (L.starts connection.new) (L.faults connection.new)) taken
         (drop size waiting) result }
 {
     match step {
@@ -53,9 +53,9 @@ fn answer_front<H: Hall, L: Stream>(
     close: bool,
 ) -> Option<End>
     ensures { (keys : List (List ℕ)) (first : Moment) (taken : ℕ) (waiting : List ℕ) (size : ℕ)
-        → IsGoing keys first (moment (H.facts hall.old) (L.left connection.old) (L.written connection.old) (L.faults connection.old)) taken waiting
+        → IsGoing keys first (moment (H.facts hall.old) (L.left connection.old) (L.written connection.old) (L.starts connection.old) (L.faults connection.old)) taken waiting
         → At keys waiting (Taken.Message message.now size close)
-        → GoesOrEnded keys first (moment (H.facts hall.new) (L.left connection.new) (L.written connection.new) (L.faults connection.new)) taken
+        → GoesOrEnded keys first (moment (H.facts hall.new) (L.left connection.new) (L.written connection.new) (L.starts connection.new) (L.faults connection.new)) taken
         (drop size waiting) result }
 {
     let step = answer_message(alloc, hall, message, close);
@@ -74,10 +74,10 @@ fn pass_message<H: Hall, L: Stream>(
 ) -> Option<Stop>
     requires { size ≤ length input.old }
     ensures stop { (keys : List (List ℕ)) (first : Moment) (taken : ℕ)
-        → IsGoing keys first (moment (H.facts hall.old) (L.left connection.old) (L.written connection.old) (L.faults connection.old)) taken
+        → IsGoing keys first (moment (H.facts hall.old) (L.left connection.old) (L.written connection.old) (L.starts connection.old) (L.faults connection.old)) taken
         input.old
         → At keys input.old (Taken.Message message.now size close)
-        → GoesOrStops keys first (moment (H.facts hall.new) (L.left connection.new) (L.written connection.new) (L.faults connection.new)) taken
+        → GoesOrStops keys first (moment (H.facts hall.new) (L.left connection.new) (L.written connection.new) (L.starts connection.new) (L.faults connection.new)) taken
         input.new result }
     ensures passed { IsNone result → input.new ≡ drop size input.old }
 {
@@ -99,9 +99,9 @@ fn step<H: Hall, L: Stream>(
     input: &mut Input,
 ) -> Option<Stop>
     ensures stop { (first : Moment) (taken : ℕ)
-        → IsGoing front.now first (moment (H.facts hall.old) (L.left connection.old) (L.written connection.old) (L.faults connection.old)) taken
+        → IsGoing front.now first (moment (H.facts hall.old) (L.left connection.old) (L.written connection.old) (L.starts connection.old) (L.faults connection.old)) taken
         input.old
-        → GoesOrStops front.now first (moment (H.facts hall.new) (L.left connection.new) (L.written connection.new) (L.faults connection.new)) taken
+        → GoesOrStops front.now first (moment (H.facts hall.new) (L.left connection.new) (L.written connection.new) (L.starts connection.new) (L.faults connection.new)) taken
         input.new result }
     ensures shorter { IsNone result → length input.new < length input.old }
 {
@@ -127,9 +127,9 @@ pub(crate) fn run_steps<H: Hall, L: Stream>(
     input: &mut Input,
 ) -> Stop
     ensures { (first : Moment) (taken : ℕ)
-        → IsGoing front.now first (moment (H.facts hall.old) (L.left connection.old) (L.written connection.old) (L.faults connection.old)) taken
+        → IsGoing front.now first (moment (H.facts hall.old) (L.left connection.old) (L.written connection.old) (L.starts connection.old) (L.faults connection.old)) taken
         input.old
-        → WaitsOrEnded front.now first (moment (H.facts hall.new) (L.left connection.new) (L.written connection.new) (L.faults connection.new)) taken
+        → WaitsOrEnded front.now first (moment (H.facts hall.new) (L.left connection.new) (L.written connection.new) (L.starts connection.new) (L.faults connection.new)) taken
         input.new result }
 {
     'steps: loop {

@@ -4,12 +4,12 @@ ghost use Rattle.std.specs.Prelude.{◌≡◌, if◌then◌else◌};
 ghost use Rattle.venue_wire.specs.declared.messages.Message.{Message as AMessage};
 ghost use Rattle.venue_hall.specs.Facts.{Facts};
 ghost use Rattle.wire_replies.specs.declared.response.Response.TheVariants.{Of, No};
-ghost use Rattle.venue_session.specs.Steps.{IsStep, told_by};
+ghost use Rattle.venue_session.specs.Steps.{IsStep, NeedsNoLook, told_by};
 ghost use Rattle.venue_session.specs.Texts.{Stepped};
 
 use crate::texts::Text;
 use std::alloc::Global;
-use venue_hall::Hall;
+use venue_hall::{Hall, number_law};
 use venue_types::{Change, Query, Reply};
 use venue_wire::Message;
 use wire_frames::Refusal;
@@ -24,9 +24,9 @@ pub(crate) enum Step {
     Untold,
 }
 
-// Asks behind a look at what others changed.
+// Asks behind a look at what others changed, which is for a question that has to look.
 fn ask_again<H: Hall>(hall: &mut H, query: &Query) -> Reply
-    ensures { IsStep (H.facts hall.old) (AMessage.Ask query.now) (Of result) (H.facts hall.new) }
+    ensures { (¬ NeedsNoLook (H.facts hall.old).seen (AMessage.Ask query.now)) → IsStep (H.facts hall.old) (AMessage.Ask query.now) (Of result) (H.facts hall.new) }
 {
     hall.catch_up();
     hall.ask(query)
@@ -36,6 +36,7 @@ fn ask_again<H: Hall>(hall: &mut H, query: &Query) -> Reply
 fn ask<H: Hall>(hall: &mut H, query: &Query) -> Reply
     ensures { IsStep (H.facts hall.old) (AMessage.Ask query.now) (Of result) (H.facts hall.new) }
 {
+    number_law();
     match hall.ask(query) {
         Reply::Ahead { .. } => ask_again(hall, query),
         reply => reply,

@@ -4,6 +4,7 @@ ghost use Rattle.std.specs.Prelude.{◌≡◌, ◌≤◌, ℕ, [], List};
 ghost use Rattle.venue_hall.specs.Histories.{IsLegal};
 ghost use Rattle.venue_session.specs.Ends.{connection_between};
 ghost use Rattle.venue_session.specs.Going.{Moment, moment, IsGoing, StaysShort, HasEnded, WaitsOrEnded};
+ghost use Rattle.venue_session.specs.Moments.{IsPrompt, reads_between};
 ghost use Rattle.venue_session.specs.Sessions.{IsSession, HasServed};
 
 use crate::ends::End;
@@ -28,10 +29,10 @@ fn run_where_due<H: Hall, L: Stream>(
     least: usize,
 ) -> Stop
     ensures { (first : Moment) (taken : ℕ)
-        → IsGoing front.now first (moment (H.facts hall.old) (L.left connection.old) (L.written connection.old) (L.faults connection.old)) taken
+        → IsGoing front.now first (moment (H.facts hall.old) (L.left connection.old) (L.written connection.old) (L.starts connection.old) (L.faults connection.old)) taken
         input.old
         → StaysShort input.old least
-        → WaitsOrEnded front.now first (moment (H.facts hall.new) (L.left connection.new) (L.written connection.new) (L.faults connection.new)) taken
+        → WaitsOrEnded front.now first (moment (H.facts hall.new) (L.left connection.new) (L.written connection.new) (L.starts connection.new) (L.faults connection.new)) taken
         input.new result }
 {
     if input.waiting().len() < least {
@@ -51,8 +52,8 @@ fn serve<H: Hall, L: Stream>(
 ) -> End
     requires legal { IsLegal (H.facts hall.old).seen }
     requires empty { input.old ≡ [] }
-    ensures { HasEnded front.now (moment (H.facts hall.old) (L.left connection.old) (L.written connection.old) (L.faults connection.old))
-        (moment (H.facts hall.new) (L.left connection.new) (L.written connection.new) (L.faults connection.new)) result }
+    ensures { HasEnded front.now (moment (H.facts hall.old) (L.left connection.old) (L.written connection.old) (L.starts connection.old) (L.faults connection.old))
+        (moment (H.facts hall.new) (L.left connection.new) (L.written connection.new) (L.starts connection.new) (L.faults connection.new)) result }
 {
     more_is_short_law();
     let mut taken: u64 = 0;
@@ -71,7 +72,8 @@ fn serve<H: Hall, L: Stream>(
 }
 
 /// Serves one session over a connection, and tells how it ended. Messages are acted on in the order in which their bytes come, in
-/// whatever pieces, and the text for each is written whole before the next is acted on.
+/// whatever pieces, and the text for each is written whole before the next is acted on. Whenever it reads, all whole messages that
+/// have come are answered, none of them closes, and no refused head waits.
 ///
 /// It ends `Done` where the input ends between two messages, or behind a message that closes; `Cut` with the number of bytes of
 /// an unfinished message; `Refused` with the status of a refused head, whose text is written and closes; `Worn` behind 2^40 bytes
@@ -89,6 +91,7 @@ pub fn serve_session<H: Hall, L: Stream>(
     connection: &mut L,
 ) -> End
     ensures session { IsSession front.now (H.facts hall.old) (H.facts hall.new) (connection_between L.Stream connection.old connection.new) result }
+    ensures prompt { IsPrompt front.now (H.facts hall.old) (reads_between L.Stream connection.old connection.new) }
     ensures hall { HasServed (H.facts hall.old) (H.facts hall.new) }
     ensures connection { L.faults connection.old ≤ L.faults connection.new }
 {

@@ -12,6 +12,7 @@ pub(crate) fn write_all<L: Stream>(connection: &mut L, text: &[u8]) -> Result<()
     ensures ok { OnOk result (Appends (L.written connection.old) (L.written connection.new) text.now) }
     ensures err { OnErr result ((part : List ℕ) × IsPrefix part text.now × Appends (L.written connection.old) (L.written connection.new) part) }
     ensures left { L.left connection.new ≡ L.left connection.old }
+    ensures starts { L.starts connection.new ≡ L.starts connection.old }
     ensures cause { HasExactCause (L.faults connection.old) (L.faults connection.new) result }
 {
     let mut done = 0;

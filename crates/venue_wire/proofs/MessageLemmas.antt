@@ -1,12 +1,12 @@
 -- A frame asks for one thing.
-use Rattle.std.proofs.Common.{◌≡◌, ℕ, ◌<◌, ◌+◌, Bool, true, false, List, [], ◌∷◌, Option, Some, None, refl, sym, ap, ◌∙◌, arith}
+use Rattle.std.proofs.Common.{◌≡◌, ◌⊎◌, inl, inr, ℕ, ◌<◌, ◌+◌, Bool, true, false, List, [], ◌∷◌, Option, Some, None, refl, sym, ap, ◌∙◌, arith}
 use Rattle.serde_json.specs.Data.{Data}
 use Rattle.venue_types.specs.declared.query.Change.{Change}
 use Rattle.wire_frames.specs.Frames.{PlainFrame}
 use Rattle.wire_frames.specs.Heads.{HeadState, extent_from, ends_head, step}
 use Rattle.wire_frames.specs.declared.heads.Extent.{Extent}
 use Rattle.venue_wire.specs.Bodies.{AsksChange, change_in}
-use Rattle.venue_wire.specs.Messages.{IsChanged, IsCalled, IsMessage, call_of}
+use Rattle.venue_wire.specs.Messages.{IsChanged, IsCalled, IsMessage, IsTaken, call_of}
 use Rattle.venue_wire.specs.declared.calls.Call.{Call}
 use Rattle.venue_wire.specs.declared.messages.Message.{Message}
 use Rattle.venue_wire.specs.declared.paths.Path.{Path}
@@ -27,14 +27,25 @@ one_changed path body (Message.Do c) (Message.Refused r) x y = absurd (y.1 c x)
 one_changed path body (Message.Refused r) (Message.Ask q) x y = absurd y
 one_changed path body (Message.Refused r) (Message.Do c) x y = absurd (x.1 c y)
 one_changed path body (Message.Refused r) (Message.Refused q) x y = ap Message.Refused (x.0 ∙ sym y.0)
+one_changed path body (Message.Bare r) n x y = absurd x
+one_changed path body Message.Unread n x y = absurd x
+one_changed path body m (Message.Bare r) x y = absurd y
+one_changed path body m Message.Unread x y = absurd y
 
 one_called : (call : Call) (frame : PlainFrame) (m n : Message) → IsCalled call frame m → IsCalled call frame n → m ≡ n
 one_called (Call.Refused r) frame m n x y = x ∙ sym y
 one_called (Call.Get path) frame m n x y = x ∙ sym y
 one_called (Call.Post path) frame m n x y = one_changed path frame.body m n x y
 
-pub one_message : (keys : List (List ℕ)) (frame : PlainFrame) (m n : Message) → IsMessage keys frame m → IsMessage keys frame n → m ≡ n
+one_message : (keys : List (List ℕ)) (frame : PlainFrame) (m n : Message) → IsMessage keys frame m → IsMessage keys frame n → m ≡ n
 one_message keys frame m n x y = one_called (call_of keys frame) frame m n x y
+
+-- and is one message, where it is read
+pub one_taken : (keys : List (List ℕ)) (frame : PlainFrame) (m n : Message) → IsTaken keys frame m → IsTaken keys frame n
+    → (m ≡ n) ⊎ (m ≡ Message.Unread) ⊎ (n ≡ Message.Unread)
+one_taken keys frame Message.Unread n x y = inr (inl refl)
+one_taken keys frame m Message.Unread x y = inr (inr refl)
+one_taken keys frame m n x y = inl (one_message keys frame m n x y)
 
 length_or : ℕ → Option Extent → ℕ
 length_or n None = n

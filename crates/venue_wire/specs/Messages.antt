@@ -4,7 +4,9 @@ use Rattle.std.specs.List.{list_any}
 use Rattle.http1.specs.Fields.{values_named}
 use Rattle.venue_types.specs.declared.query.Change.{Change}
 use Rattle.venue_types.specs.declared.query.Query.{Query}
+use Rattle.wire_frames.specs.Fields.{is_head}
 use Rattle.wire_frames.specs.Frames.{IsShort, IsRefused, PlainFrame, HasFrame}
+use Rattle.wire_frames.specs.declared.refusals.Refusal.{Refusal}
 use Rattle.wire_frames.specs.declared.refusals.Refusal.TheVariants.{NoPath, Method, NotStaff, BadBody, BadQuery}
 use Rattle.venue_wire.specs.Bodies.{AsksChange}
 use Rattle.venue_wire.specs.Paths.{route_of, methods_of, has_method, is_get, path_in, query_in}
@@ -41,6 +43,10 @@ call_if keys frame (Some path) = call_at keys frame path
 abbrev pub call_of : List (List ℕ) → PlainFrame → Call
 call_of keys frame = call_if keys frame (route_of (path_in frame.target))
 
+-- a refusal by path, method or key; of a HEAD, which no path has, the bare head of it is wanted
+abbrev pub refused : List ℕ → Refusal → Message
+refused method refusal = if is_head method then Message.Bare refusal else Message.Refused refusal
+
 -- the question, or its refusal; a body is passed over
 abbrev pub asked : Option Query → Message
 asked None = Message.Refused BadQuery
@@ -51,10 +57,12 @@ abbrev pub IsChanged : Path → List ℕ → Message → Type 0
 IsChanged path body (Message.Ask query) = ⊥
 IsChanged path body (Message.Do change) = AsksChange path body change
 IsChanged path body (Message.Refused refusal) = (refusal ≡ BadBody) × ((change : Change) → ¬ AsksChange path body change)
+IsChanged path body (Message.Bare refusal) = ⊥
+IsChanged path body Message.Unread = ⊥
 
 -- what a call comes to with its frame's query or body
 abbrev pub IsCalled : Call → PlainFrame → Message → Type 0
-IsCalled (Call.Refused refusal) frame message = message ≡ Message.Refused refusal
+IsCalled (Call.Refused refusal) frame message = message ≡ refused frame.method refusal
 IsCalled (Call.Get path) frame message = message ≡ asked (query_of path (path_in frame.target) (query_in frame.target))
 IsCalled (Call.Post path) frame message = IsChanged path frame.body message
 
@@ -68,11 +76,14 @@ read_by (Call.Refused refusal) frame = []
 read_by (Call.Get path) frame = query_in frame.target
 read_by (Call.Post path) frame = frame.body
 
--- this stands at the front of the bytes: less than a message, a refused head, or a message with its length and whether it closes.
--- Want of memory only where a whole message stands whose query or body has to be read and has a byte.
+-- the frame is this message; or it wasn't read, for want of memory, and its query or body has to be read and has a byte
+abbrev pub IsTaken : List (List ℕ) → PlainFrame → Message → Type 0
+IsTaken keys frame Message.Unread = 0 < length (read_by (call_of keys frame) frame)
+IsTaken keys frame message = IsMessage keys frame message
+
+-- this stands at the front of the bytes: less than a message, a refused head, or a message with its length and whether it closes
 abbrev pub At : List (List ℕ) → List ℕ → Taken → Type 0
 At keys bytes (Taken.More least) = IsShort bytes
 At keys bytes (Taken.Fault refusal) = IsRefused bytes refusal
 At keys bytes (Taken.Message message length close) =
-    (frame : PlainFrame) × HasFrame bytes frame × IsMessage keys frame message × (length ≡ frame.length) × (close ≡ frame.close)
-At keys bytes Taken.OutOfMemory = (frame : PlainFrame) × HasFrame bytes frame × (0 < length (read_by (call_of keys frame) frame))
+    (frame : PlainFrame) × HasFrame bytes frame × IsTaken keys frame message × (length ≡ frame.length) × (close ≡ frame.close)

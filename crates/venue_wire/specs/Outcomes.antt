@@ -7,4 +7,3 @@ abbrev pub IfMore : Taken → (ℕ → Type 0) → Type 0
 IfMore (Taken.More least) P = P least
 IfMore (Taken.Fault refusal) P = ⊤
 IfMore (Taken.Message message length close) P = ⊤
-IfMore Taken.OutOfMemory P = ⊤

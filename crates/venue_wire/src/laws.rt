@@ -1,6 +1,6 @@
 //! What follows from the definitions alone.
 
-ghost use Rattle.std.specs.Prelude.{◌≡◌, ◌<◌, ◌≤◌, ℕ, Bool, List, ◌++◌, length, Some};
+ghost use Rattle.std.specs.Prelude.{◌≡◌, ◌⊎◌, ◌<◌, ◌≤◌, ℕ, Bool, List, ◌++◌, length, Some};
 ghost use Rattle.venue_wire.specs.Messages.{At};
 ghost use Rattle.venue_wire.specs.Paths.{IsTextOf, route_of};
 ghost use Rattle.venue_wire.specs.declared.messages.Message.{Message};
@@ -10,7 +10,8 @@ ghost use Rattle.wire_frames.specs.declared.refusals.Refusal.{Refusal};
 
 use wire_frames::{front_more_law, one_front_law, short_law};
 
-/// At a front stands one thing alone: less than a message, one refused head, or one message.
+/// At a front stands one thing alone: less than a message, one refused head, or one message, of one length, which closes or doesn't;
+/// for want of memory it may not be read.
 pub fn one_message_law()
     ensures more_or_fault { (keys : List (List ℕ)) (bytes : List ℕ) (least : ℕ) (r : Refusal)
         → At keys bytes (Taken.More least) → ¬ At keys bytes (Taken.Fault r) }
@@ -18,15 +19,11 @@ pub fn one_message_law()
         → At keys bytes (Taken.More least) → ¬ At keys bytes (Taken.Message m length close) }
     ensures fault_or_message { (keys : List (List ℕ)) (bytes : List ℕ) (r : Refusal) (m : Message) (length : ℕ) (close : Bool)
         → At keys bytes (Taken.Fault r) → ¬ At keys bytes (Taken.Message m length close) }
-    ensures more_or_memory { (keys : List (List ℕ)) (bytes : List ℕ) (least : ℕ)
-        → At keys bytes (Taken.More least) → ¬ At keys bytes Taken.OutOfMemory }
-    ensures fault_or_memory { (keys : List (List ℕ)) (bytes : List ℕ) (r : Refusal)
-        → At keys bytes (Taken.Fault r) → ¬ At keys bytes Taken.OutOfMemory }
     ensures one_fault { (keys : List (List ℕ)) (bytes : List ℕ) (r q : Refusal)
         → At keys bytes (Taken.Fault r) → At keys bytes (Taken.Fault q) → r ≡ q }
     ensures one_message { (keys : List (List ℕ)) (bytes : List ℕ) (m n : Message) (length size : ℕ) (close closes : Bool)
         → At keys bytes (Taken.Message m length close) → At keys bytes (Taken.Message n size closes)
-        → (m ≡ n) × (length ≡ size) × (close ≡ closes) }
+        → ((m ≡ n) ⊎ (m ≡ Message.Unread) ⊎ (n ≡ Message.Unread)) × (length ≡ size) × (close ≡ closes) }
 {
     one_front_law();
 }
@@ -37,8 +34,6 @@ pub fn message_more_law()
         → At keys bytes (Taken.Fault r) → At keys (bytes ++ more) (Taken.Fault r) }
     ensures message { (keys : List (List ℕ)) (bytes more : List ℕ) (m : Message) (length : ℕ) (close : Bool)
         → At keys bytes (Taken.Message m length close) → At keys (bytes ++ more) (Taken.Message m length close) }
-    ensures memory { (keys : List (List ℕ)) (bytes more : List ℕ)
-        → At keys bytes Taken.OutOfMemory → At keys (bytes ++ more) Taken.OutOfMemory }
 {
     front_more_law();
 }

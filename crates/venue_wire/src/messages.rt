@@ -12,6 +12,10 @@ pub enum Message {
     Do(Change),
     /// Neither, for a reason that comes from the message alone.
     Refused(Refusal),
+    /// The same of a HEAD, which wants the head of the reply without its body.
+    Bare(Refusal),
+    /// There wasn't enough memory to read its query or its body.
+    Unread,
 }
 
 /// What stands at the front of some bytes.
@@ -29,6 +33,4 @@ pub enum Taken {
         length: usize,
         close: bool,
     },
-    /// A whole message stands there, and there wasn't enough memory to read it.
-    OutOfMemory,
 }

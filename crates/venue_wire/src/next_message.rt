@@ -1,7 +1,7 @@
 //! The message with which some bytes begin.
 
-ghost use Rattle.std.specs.Prelude.{ℕ, ◌<◌, List, IfOk, OnErr, length};
-ghost use Rattle.venue_wire.specs.Messages.{At, IsMessage, call_of, read_by};
+ghost use Rattle.std.specs.Prelude.{◌≡◌, ℕ, ◌<◌, List, IfOk, OnErr, length};
+ghost use Rattle.venue_wire.specs.Messages.{At, IsMessage, IsTaken, call_of, read_by, refused};
 ghost use Rattle.venue_wire.specs.Outcomes.{IfMore};
 ghost use Rattle.wire_frames.specs.Frames.{HasFrame, PlainFrame};
 ghost use Rattle.wire_frames.specs.Outcomes.{ShowsFrame, WaitsFor};
@@ -10,11 +10,22 @@ use crate::bodies::changed;
 use crate::calls::Call;
 use crate::front::Front;
 use crate::messages::{Message, Taken};
-use crate::paths::cut_target;
+use crate::paths::{cut_target, is_head};
 use crate::query_values::asked;
 use std::alloc::Global;
 use venue_types::OutOfMemory;
-use wire_frames::{Framed, Framing, frame};
+use wire_frames::{Framed, Framing, Refusal, frame};
+
+// A refusal by path, method or key.
+fn refused(method: &str, refusal: Refusal) -> Message
+    ensures { result ≡ refused method.now refusal }
+{
+    if is_head(method) {
+        Message::Bare(refusal)
+    } else {
+        Message::Refused(refusal)
+    }
+}
 
 // What a framed message asks for.
 fn message_of(alloc: Global, front: &Front, framed: &Framed<'_>) -> Result<Message, OutOfMemory>
@@ -24,9 +35,19 @@ fn message_of(alloc: Global, front: &Front, framed: &Framed<'_>) -> Result<Messa
 {
     let (text, query) = cut_target(framed.target);
     match front.call_of(framed, text) {
-        Call::Refused(refusal) => Ok(Message::Refused(refusal)),
+        Call::Refused(refusal) => Ok(refused(framed.method, refusal)),
         Call::Get(path) => asked(alloc, path, text, query),
         Call::Post(path) => changed(alloc, path, framed.body),
+    }
+}
+
+// The same, where there is memory for it.
+fn message_or_unread(alloc: Global, front: &Front, framed: &Framed<'_>) -> Message
+    ensures { (frame : PlainFrame) → ShowsFrame framed.now frame → IsTaken front.now frame result }
+{
+    match message_of(alloc, front, framed) {
+        Ok(message) => message,
+        Err(_) => Message::Unread,
     }
 }
 
@@ -35,13 +56,10 @@ fn take_framed(alloc: Global, front: &Front, framed: &Framed<'_>) -> Taken
         → At front.now bytes result }
     ensures there { IfMore result (λ _. ⊥) }
 {
-    match message_of(alloc, front, framed) {
-        Ok(message) => Taken::Message {
-            message,
-            length: framed.length,
-            close: framed.close,
-        },
-        Err(_) => Taken::OutOfMemory,
+    Taken::Message {
+        message: message_or_unread(alloc, front, framed),
+        length: framed.length,
+        close: framed.close,
     }
 }
 

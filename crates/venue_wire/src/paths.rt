@@ -1,6 +1,7 @@
 //! The paths that there are, and their methods.
 
 ghost use Rattle.std.specs.Prelude.{◌≡◌, drop};
+ghost use Rattle.wire_frames.specs.Fields.{is_head};
 ghost use Rattle.venue_wire.specs.Paths.{has_method, is_get, is_post, methods_of, path_in, query_in};
 
 use wire_frames::Methods;
@@ -36,6 +37,13 @@ pub(crate) fn is_get(method: &str) -> bool
     ensures { result ≡ is_get method.now }
 {
     method == "GET"
+}
+
+/// Whether the method is HEAD, which no path has.
+pub(crate) fn is_head(method: &str) -> bool
+    ensures { result ≡ is_head method.now }
+{
+    method == "HEAD"
 }
 
 fn is_post(method: &str) -> bool

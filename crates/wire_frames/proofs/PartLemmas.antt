@@ -1,17 +1,21 @@
 -- From what the parser and the fields say of a whole head to what it comes to.
-use Rattle.std.proofs.Common.{◌≡◌, ℕ, ◌+◌, ◌≤◌, List, [], length, drop, sym, subst, arith, append-nil, Result, Ok, Err, IfOk, IfErr}
+use Rattle.std.proofs.Common.{◌≡◌, ◌∙◌, ℕ, ◌+◌, ◌≤◌, ◌==◌, ◌||◌, List, [], length, drop, map, sym, ap, subst, arith, append-nil, Option, Some, Result, Ok, Err, IfOk, IfErr}
+use Rattle.std.specs.Prelude.{codes, option_copied}
+use Rattle.std.specs.Borrow.{Bor}
+use Rattle.http1.specs.Fields.{values_named}
 use Rattle.httparse.specs.declared.borrowed.Request.{Request}
-use Rattle.httparse.specs.Borrowed.{HoldsSomeRequest}
+use Rattle.httparse.specs.Borrowed.{HoldsSomeRequest, header_parts}
 use Rattle.httparse.specs.Grammar.{RequestHead, ReadsRequest}
 use Rattle.httparse.specs.Spans.{RequestOverflows}
 use Rattle.httparse.proofs.GrammarLemmas.{request_unique}
 use Rattle.wire_frames.specs.declared.refusals.Refusal.{Refusal}
 use Rattle.wire_frames.specs.declared.refusals.Refusal.TheVariants.{HeadTooLarge, BadHead, TransferCoding, BodyTooLarge}
 use Rattle.wire_frames.specs.declared.parts.Parts.{Parts}
-use Rattle.wire_frames.specs.Fields.{fields_of}
+use Rattle.wire_frames.specs.Fields.{fields_of, is_head, lists_close}
 use Rattle.wire_frames.specs.Frames.{IsGoodHead, RefusesHead}
 use Rattle.wire_frames.specs.Heads.{head_extent}
-use Rattle.wire_frames.specs.Reading.{GiveBody, RefuseHead, Holds, ArePartsOf, AreParts}
+use Rattle.wire_frames.specs.Outcomes.{AreValues}
+use Rattle.wire_frames.specs.Reading.{FrameBody, GiveBody, RefuseHead, Holds, ArePartsOf, AreParts}
 use Rattle.wire_frames.proofs.HeadLemmas.{extent_of}
 use Rattle.wire_frames.proofs.EndLemmas.{whole_head}
 
@@ -60,6 +64,34 @@ parts_of head lines h parts few reads x = (
   },
   x,
 )
+
+some_same : {A : Type 0} (x y : A) → Some x ≡ Some y → x ≡ y
+some_same x y is = cc is
+
+copied_is : (found : Option (Bor (List ℕ))) (x : Bor (List ℕ)) (bytes : List ℕ) → found ≡ Some x → option_copied found ≡ Some bytes → x.now ≡ bytes
+copied_is found x bytes is copied = some_same x.now bytes (sym (ap (λ (o : Option (Bor (List ℕ))). option_copied o) is) ∙ copied)
+
+-- parts that were made of what the parser holds are those of the head
+pub judged : (request : Request) (h : RequestHead) (parts : Parts) (minor : ℕ) → Holds request h
+    → request.method ≡ Some parts.method → request.path ≡ Some parts.target → request.version ≡ Some minor
+    → FrameBody minor (map header_parts request.headers.now) parts.body
+    → AreValues parts.staff_key (values_named (codes "x-staff-key") (map header_parts request.headers.now))
+    → parts.close ≡ ((minor == 0) || (is_head parts.method.now || lists_close (map header_parts request.headers.now)))
+    → ArePartsOf h parts
+judged request h parts minor holds has_method has_target has_version frames key close =
+    let method = copied_is request.method parts.method h.method has_method holds.method in
+    let version : minor ≡ h.minor = some_same minor h.minor (sym has_version ∙ holds.version) in
+    record {
+      frames = subst (λ (fields : List (List ℕ × List ℕ)). FrameBody h.minor fields parts.body) holds.fields
+          (subst (λ (n : ℕ). FrameBody n (map header_parts request.headers.now) parts.body) version frames);
+      method = method;
+      target = copied_is request.path parts.target h.target has_target holds.path;
+      staff_key = subst (λ (fields : List (List ℕ × List ℕ)). AreValues parts.staff_key (values_named (codes "x-staff-key") fields)) holds.fields key;
+      close = close
+          ∙ ap (λ (n : ℕ). (n == 0) || (is_head parts.method.now || lists_close (map header_parts request.headers.now))) version
+          ∙ ap (λ (bytes : List ℕ). (h.minor == 0) || (is_head bytes || lists_close (map header_parts request.headers.now))) method
+          ∙ ap (λ (fields : List (List ℕ × List ℕ)). (h.minor == 0) || (is_head h.method || lists_close fields)) holds.fields;
+    }
 
 -- ---- the judgement of what was read, carried over to the head
 

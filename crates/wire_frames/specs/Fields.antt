@@ -1,5 +1,5 @@
 -- What the fields of a head say of the message's frame (RFC 9112, sections 3.2, 6.1, 6.2 and 9.3; RFC 9110, section 5.6.1).
-use Rattle.std.specs.Prelude.{◌≡◌, ℕ, ◌<◌, Bool, ◌&&◌, ◌||◌, List, [], ◌∷◌, length, map, codes, if◌then◌else◌, ◌==◌, nat_lt, nat_le, Option, Some, None}
+use Rattle.std.specs.Prelude.{◌≡◌, ℕ, ◌<◌, Bool, ◌&&◌, ◌||◌, List, [], ◌∷◌, length, map, codes, if◌then◌else◌, ◌==◌, nat_lt, nat_le, Option, Some, None, bytes_eq}
 use Rattle.std.specs.Char.{is_ascii_digit}
 use Rattle.std.specs.List.{list_all}
 use Rattle.std.specs.Str.Parse.{digits_value}
@@ -39,6 +39,10 @@ HasCoding h = 0 < length (values_named (codes "transfer-encoding") (fields_of h)
 abbrev pub lists_close : List (List ℕ × List ℕ) → Bool
 lists_close fields = has_option (codes "close") (elements_named (codes "connection") fields)
 
--- no message may follow: version 1.0, or `close`
+-- the method is HEAD, whose answer has no body (RFC 9110, section 9.3.2)
+abbrev pub is_head : List ℕ → Bool
+is_head method = bytes_eq method (codes "HEAD")
+
+-- no message may follow: version 1.0, HEAD, or `close`
 abbrev pub closes : RequestHead → Bool
-closes h = (h.minor == 0) || lists_close (fields_of h)
+closes h = (h.minor == 0) || (is_head h.method || lists_close (fields_of h))

@@ -1,9 +1,9 @@
 //! A whole head, read and judged.
 
-ghost use Rattle.std.specs.Prelude.{◌≡◌, ◌+◌, ◌≤◌, ℕ, Some, IfErr, IfOk, length, map};
+ghost use Rattle.std.specs.Prelude.{◌≡◌, ◌+◌, ◌≤◌, ◌==◌, ◌||◌, ℕ, Some, IfErr, IfOk, length, map};
 ghost use Rattle.httparse.specs.Borrowed.{header_parts};
 ghost use Rattle.httparse.specs.Grammar.{RequestHead};
-ghost use Rattle.wire_frames.specs.Fields.{fields_of};
+ghost use Rattle.wire_frames.specs.Fields.{fields_of, is_head, lists_close};
 ghost use Rattle.wire_frames.specs.Frames.{RefusesHead};
 ghost use Rattle.wire_frames.specs.Heads.{head_extent};
 ghost use Rattle.wire_frames.specs.Reading.{AreParts, ArePartsOf, FrameBody, Holds, RefuseHead};
@@ -49,6 +49,19 @@ fn body_size(minor: u8, headers: &[Header<'_>]) -> Result<usize, Refusal>
     Ok(body as usize)
 }
 
+fn is_head(method: &str) -> bool
+    ensures { result ≡ is_head method.now }
+{
+    method == "HEAD"
+}
+
+// Whether no message may follow one of this version, method and fields.
+fn closes(minor: u8, method: &str, headers: &[Header<'_>]) -> bool
+    ensures { result ≡ ((minor == 0) || (is_head method.now || lists_close (map header_parts headers.now))) }
+{
+    minor == 0 || is_head(method) || lists_close(headers)
+}
+
 fn judge<'b>(request: &Request<'_, 'b>) -> Result<Parts<'b>, Refusal>
     ensures ok { IfOk result (λ parts. (h : RequestHead) → Holds request.now h → ArePartsOf h parts) }
     ensures err { IfErr result (λ refusal. (h : RequestHead) → Holds request.now h
@@ -65,7 +78,7 @@ fn judge<'b>(request: &Request<'_, 'b>) -> Result<Parts<'b>, Refusal>
     };
     let body = body_size(minor, request.headers)?;
     let staff_key = find_named(request.headers, "x-staff-key");
-    let close = minor == 0 || lists_close(request.headers);
+    let close = closes(minor, method, request.headers);
     Ok(Parts {
         method,
         target,

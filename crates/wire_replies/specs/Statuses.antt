@@ -6,14 +6,8 @@ use Rattle.wire_replies.specs.declared.heads.HttpStatus.TheVariants as status
 -- the code of a status
 abbrev pub status_code : HttpStatus → ℕ
 status_code status.Ok = 200
-status_code status.BadRequest = 400
-status_code status.Forbidden = 403
 status_code status.NotFound = 404
-status_code status.MethodNotAllowed = 405
 status_code status.Conflict = 409
-status_code status.ContentTooLarge = 413
 status_code status.Unprocessable = 422
-status_code status.HeadTooLarge = 431
-status_code status.NotImplemented = 501
 status_code status.BadGateway = 502
 status_code status.Unavailable = 503

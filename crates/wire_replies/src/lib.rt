@@ -4,6 +4,7 @@
 mod bodies;
 mod heads;
 mod labels;
+mod refusals;
 mod replies;
 mod reply;
 mod response;
@@ -12,5 +13,6 @@ mod walks;
 mod words;
 mod written;
 
+pub use refusals::{bare_bytes, refusal_bytes};
 pub use reply::{reply_bytes, want_of_memory};
 pub use response::Response;

@@ -1,8 +1,7 @@
-//! Replies and refusals, each as the JSON of its body.
+//! Replies, each as the JSON of its body.
 
-ghost use Rattle.std.specs.Prelude.{◌≡◌, OnOk};
+ghost use Rattle.std.specs.Prelude.{OnOk};
 ghost use Rattle.wire_replies.specs.Bodies.{body_of};
-ghost use Rattle.wire_replies.specs.Names.{refusal_name};
 ghost use Rattle.wire_replies.specs.Tokens.{Adds, data_tokens};
 
 use crate::bodies::{
@@ -14,7 +13,6 @@ use crate::written::Written;
 use json::Writer;
 use std::alloc::{AllocError, Global};
 use venue_types::Reply;
-use wire_frames::Refusal;
 
 impl Written for Reply {
     ghost use Rattle.wire_replies.specs.Bodies.{body_of};
@@ -84,32 +82,5 @@ impl Written for Reply {
             Reply::HistoryFull { number } => write_full(alloc, out, *number),
             Reply::OutOfMemory => write_error(alloc, out, "want_of_memory"),
         }
-    }
-}
-
-// Why a message is refused by itself.
-fn refusal_name(refusal: Refusal) -> &'static str
-    ensures { result.now ≡ refusal_name refusal }
-{
-    match refusal {
-        Refusal::HeadTooLarge => "head_too_large",
-        Refusal::BadHead => "bad_head",
-        Refusal::TransferCoding => "transfer_coding",
-        Refusal::BodyTooLarge => "body_too_large",
-        Refusal::NoPath => "no_such_path",
-        Refusal::Method(_) => "method",
-        Refusal::NotStaff => "not_staff",
-        Refusal::BadBody => "bad_body",
-        Refusal::BadQuery => "bad_query",
-    }
-}
-
-impl Written for Refusal {
-    ghost use Rattle.wire_replies.specs.Bodies.{refusal_body};
-
-    ghost shown = { refusal_body };
-
-    fn write_to(&self, alloc: Global, out: &mut Writer) -> Result<(), AllocError> {
-        write_error(alloc, out, refusal_name(*self))
     }
 }

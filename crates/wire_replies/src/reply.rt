@@ -1,23 +1,18 @@
 //! The bytes of an answer.
 
-ghost use Rattle.std.specs.Prelude.{◌≡◌, IfOk};
+ghost use Rattle.std.specs.Prelude.{◌≡◌, IfOk, None};
 ghost use Rattle.serde_json.specs.Written.{compact_text};
 ghost use Rattle.venue_types.specs.declared.reply.Reply.TheVariants.{OutOfMemory as WantOfMemory};
-ghost use Rattle.wire_replies.specs.declared.response.Response.TheVariants.{Of, No};
+ghost use Rattle.wire_replies.specs.declared.response.Response.TheVariants.{Of};
 ghost use Rattle.wire_replies.specs.Replies.{message_text, reply_text};
 ghost use Rattle.wire_replies.specs.Statuses.{status_code};
 
-use crate::heads::{
-    HttpStatus, allowed, content_lines, ends_session, last_lines, refusal_status, reply_status,
-    status_line,
-};
-use crate::response::Response;
+use crate::heads::{HttpStatus, content_lines, last_lines, reply_status, status_line};
 use crate::written::Written;
 use itoa::Buffer;
 use json::Writer;
 use std::alloc::{AllocError, Global};
 use venue_types::{Bytes, OutOfMemory, Reply};
-use wire_frames::{Methods, Refusal};
 
 // More bytes than any head has.
 const HEAD_ROOM: usize = 256;
@@ -38,18 +33,17 @@ fn body_text<T: Written>(alloc: Global, body: &T) -> Result<Vec<u8>, AllocError>
 fn message(
     alloc: Global,
     status: HttpStatus,
-    methods: Option<Methods>,
     close: bool,
     body: &[u8],
 ) -> Result<Vec<u8>, AllocError>
-    ensures { IfOk result (λ bytes. bytes.items ≡ message_text (status_code status) methods close body.now) }
+    ensures { IfOk result (λ bytes. bytes.items ≡ message_text (status_code status) None close body.now) }
 {
     let mut length = Buffer::new();
     let mut bytes = Vec::with_capacity(alloc, body.len().saturating_add(HEAD_ROOM))?;
     bytes.extend_from_slice(status_line(status).as_bytes())?;
     bytes.extend_from_slice(content_lines().as_bytes())?;
     bytes.extend_from_slice(length.format(body.len()).as_bytes())?;
-    bytes.extend_from_slice(last_lines(methods, close).as_bytes())?;
+    bytes.extend_from_slice(last_lines(close).as_bytes())?;
     bytes.extend_from_slice(body)?;
     Ok(bytes)
 }
@@ -58,37 +52,14 @@ fn reply_message(alloc: Global, reply: &Reply, close: bool) -> Result<Vec<u8>, A
     ensures { IfOk result (λ bytes. bytes.items ≡ reply_text (Of reply.now) close) }
 {
     let body = body_text(alloc, reply)?;
-    message(alloc, reply_status(reply), None, close, &body)
+    message(alloc, reply_status(reply), close, &body)
 }
 
-fn refusal_message(alloc: Global, refusal: Refusal, close: bool) -> Result<Vec<u8>, AllocError>
-    ensures { IfOk result (λ bytes. bytes.items ≡ reply_text (No refusal) close) }
+/// The bytes of a reply, where the session goes on or ends. It takes time and memory by their number.
+pub fn reply_bytes(alloc: Global, reply: &Reply, close: bool) -> Result<Bytes, OutOfMemory>
+    ensures { IfOk result (λ bytes. bytes ≡ reply_text (Of reply.now) close) }
 {
-    let body = body_text(alloc, &refusal)?;
-    let closes = close || ends_session(refusal);
-    message(
-        alloc,
-        refusal_status(refusal),
-        allowed(refusal),
-        closes,
-        &body,
-    )
-}
-
-fn response_bytes(alloc: Global, answer: &Response, close: bool) -> Result<Vec<u8>, AllocError>
-    ensures { IfOk result (λ bytes. bytes.items ≡ reply_text answer.now close) }
-{
-    match answer {
-        Response::Of(reply) => reply_message(alloc, reply, close),
-        Response::No(refusal) => refusal_message(alloc, *refusal, close),
-    }
-}
-
-/// The bytes of an answer, where the session goes on or ends. It takes time and memory by their number.
-pub fn reply_bytes(alloc: Global, answer: &Response, close: bool) -> Result<Bytes, OutOfMemory>
-    ensures { IfOk result (λ bytes. bytes ≡ reply_text answer.now close) }
-{
-    let bytes = response_bytes(alloc, answer, close)?;
+    let bytes = reply_message(alloc, reply, close)?;
     Ok(Bytes::from_vec(bytes))
 }
 

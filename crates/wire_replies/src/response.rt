@@ -10,4 +10,6 @@ pub enum Response {
     Of(Reply),
     /// It is refused by itself.
     No(Refusal),
+    /// So is a HEAD, which gets the head of that reply without its body.
+    Bare(Refusal),
 }

@@ -122,6 +122,8 @@ impl<'a, H: Hall> Stream for Interrupted<'a, H> {
 
     ghost written = { λ s. stream_written s.stream };
 
+    ghost starts = { λ _. None };
+
     ghost faults = { λ s. stream_faults s.stream };
 
     fn fault_count(&self) -> u64 {

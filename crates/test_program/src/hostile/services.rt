@@ -27,6 +27,8 @@ impl<'a, R: Wait> Stream for HeardStream<'a, R> {
 
     ghost written = { λ s. stream_written s.stream };
 
+    ghost starts = { λ _. None };
+
     ghost faults = { λ s. stream_faults s.stream };
 
     fn fault_count(&self) -> u64 {

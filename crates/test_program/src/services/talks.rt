@@ -103,6 +103,8 @@ impl<'a> Stream for Talk<'a> {
 
     ghost written = { λ _. None };
 
+    ghost starts = { λ _. None };
+
     ghost faults = { λ _. 0 };
 
     fn fault_count(&self) -> u64 {

@@ -11,7 +11,7 @@ returns-in-Fault-clause-stop g c = λ first taken going.
     (subst (λ (b : List ℕ). IsRefused b c.in-Fault.refusal) c.waiting.ensures c.in-Fault.ensures.at)
 
 pub returns-in-OutOfMemory-clause-stop : goal.returns-in-OutOfMemory-clause-stop
-returns-in-OutOfMemory-clause-stop g c = λ first taken going. ends_starved c.args.front.now first _ _ _ _ taken c.args.input.now going
+returns-in-OutOfMemory-clause-stop g c = λ first taken going. ends_starved c.args.front.now first _ _ _ _ _ taken c.args.input.now going
 
 pub returns-in-Message-clause-stop : goal.returns-in-Message-clause-stop
 returns-in-Message-clause-stop g c = λ first taken going.

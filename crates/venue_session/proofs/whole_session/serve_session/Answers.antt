@@ -9,7 +9,7 @@ returns-in-Ok-clause-hall g c = session_serves c.args.front.now _ _ _ _ c.serve.
 
 pub returns-in-Err-clause-session : goal.returns-in-Err-clause-session
 returns-in-Err-clause-session g c =
-    let first : Moment = moment (g.H.Asks.facts c.args.hall.now) (g.L.Stream.left c.args.connection.now) (g.L.Stream.written c.args.connection.now)
+    let first : Moment = moment (g.H.Asks.facts c.args.hall.now) (g.L.Stream.left c.args.connection.now) (g.L.Stream.written c.args.connection.now) (g.L.Stream.starts c.args.connection.now)
     (g.L.Stream.faults c.args.connection.now) in
-    let ended = ends_starved c.args.front.now first _ _ _ _ 0 _ (going_first c.args.front.now first c.number-number.ensures.legal) in
+    let ended = ends_starved c.args.front.now first _ _ _ _ _ 0 _ (going_first c.args.front.now first c.number-number.ensures.legal) in
     ended.session

@@ -21,5 +21,6 @@ loop-done-preserved g c =
       wrote = subst (Appends (g.L.Stream.written c.args.connection.now) (g.L.Stream.written c.write.new.self)) (front_grows text c.loop-done.done c.in-Ok.count bound.1)
           (appends_move _ _ _ _ (take (length text - c.loop-done.done) (drop c.loop-done.done text)) c.in-Ok.count c.loop-done.invariant.wrote c.in-Ok.ensures.bytes);
       left = c.write.ensures.left ∙ c.loop-done.invariant.left;
+      starts = c.write.ensures.starts ∙ c.loop-done.invariant.starts;
       faults = c.in-Ok.ensures.cause.kept ∙ c.loop-done.invariant.faults;
     }

@@ -8,7 +8,6 @@ never : (P : ℕ → Type 0) (r : Taken) → IfMore r (λ _. ⊥) → IfMore r P
 never P (Taken.More least) x = absurd x
 never P (Taken.Fault refusal) x = tt
 never P (Taken.Message message length close) x = tt
-never P Taken.OutOfMemory x = tt
 
 pub returns-in-Framed-clause-waits : goal.returns-in-Framed-clause-waits
 returns-in-Framed-clause-waits c = never (WaitsFor c.args.bytes.now) c.take_framed.result c.take_framed.ensures.there
