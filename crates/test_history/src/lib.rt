@@ -4,8 +4,6 @@
 #[cfg(test)]
 mod boards;
 #[cfg(test)]
-mod buildings;
-#[cfg(test)]
 mod copies;
 #[cfg(test)]
 mod histories;

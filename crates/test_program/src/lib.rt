@@ -2,6 +2,8 @@
 #![tactic(auto)]
 
 #[cfg(test)]
+mod buildings;
+#[cfg(test)]
 mod hostile;
 #[cfg(test)]
 mod services;

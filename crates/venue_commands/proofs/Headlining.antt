@@ -4,7 +4,7 @@ use Rattle.std.specs.Prelude.{IfSome}
 use Rattle.std.specs.Io.KnownBytes.{Appends, Consumes}
 use Rattle.venue_ports.specs.Files.{StoredFile}
 use Rattle.venue_session.specs.Facts.{Facts}
-use Rattle.building_report.specs.Making.{shelf_of}
+use Rattle.version_board.specs.Making.{shelf_of}
 use Rattle.venue_session.specs.Openings.{opening_history}
 use Rattle.venue_session.specs.Ends.{Measured, Ended, refused_text, Run as Done_so_far}
 use Rattle.venue_session.specs.Sessions.{IsSession}

@@ -12,3 +12,8 @@ pub mod Openings
 pub mod Serving
 pub mod Headlining
 pub mod Completing
+pub mod Spelling
+pub mod Seeing
+pub mod Costing
+pub mod Behind
+pub mod Summing

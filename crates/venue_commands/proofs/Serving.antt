@@ -4,8 +4,8 @@ use Rattle.std.specs.Arc.{arc_value}
 use Rattle.venue_folder.specs.Shelves.{Shelf}
 use Rattle.venue_ports.specs.Files.{StoredFile}
 use Rattle.venue_session.specs.Facts.{Facts}
-use Rattle.building_report.specs.Making.{shelf_of}
-use Rattle.building_report.specs.OneThread.{one_thread}
+use Rattle.version_board.specs.Making.{shelf_of}
+use Rattle.version_board.specs.OneThread.{one_thread}
 use Rattle.venue_session.specs.Openings.{opening_history}
 use Rattle.venue_session.specs.Venues.{SeenVenue as Venue}
 use Rattle.venue_session.specs.Sessions.{IsSession, HasServed}

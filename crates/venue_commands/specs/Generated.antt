@@ -1,6 +1,6 @@
 -- What `gen LEVELS` prints.
 use Rattle.std.specs.Prelude.{◌≡◌, ℕ, List, Bool, true, false}
-use Rattle.building_report.specs.BuildingReports.{IsTold}
+use Rattle.venue_commands.specs.BuildingReports.{IsTold}
 use Rattle.venue_commands.specs.declared.status.Status.{Status}
 use Rattle.venue_commands.specs.declared.status.Status.TheVariants.{Done, Negative}
 

@@ -5,7 +5,7 @@ use Rattle.std.specs.declared.alloc.Global.{Global}
 use Rattle.std.specs.declared.sync.Arc.{Arc}
 use Rattle.venue_ports.specs.Files.{StoredFile}
 use Rattle.venue_session.specs.Venues.{SeenVenue as Venue}
-use Rattle.building_report.specs.Making.{shelf_of}
+use Rattle.version_board.specs.Making.{shelf_of}
 use Rattle.venue_session.specs.Openings.{opening_history}
 use Rattle.venue_session.specs.Headline.{Headline}
 use Rattle.venue_commands.specs.declared.status.Status.{Status}

@@ -1,4 +1,6 @@
 pub mod Files
+pub mod BuildingReports
+pub mod Costs
 pub mod Generated
 pub mod Commands
 pub mod ReadCommands

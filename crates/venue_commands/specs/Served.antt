@@ -6,7 +6,7 @@ use Rattle.std.specs.declared.sync.Arc.{Arc}
 use Rattle.venue_ports.specs.Files.{StoredFile}
 use Rattle.venue_session.specs.Venues.{SeenVenue as Venue}
 use Rattle.venue_session.specs.Facts.{Facts}
-use Rattle.building_report.specs.OneThread.{one_thread}
+use Rattle.version_board.specs.OneThread.{one_thread}
 use Rattle.venue_session.specs.Openings.{opening_history}
 use Rattle.venue_session.specs.Ends.{Measured}
 use Rattle.venue_session.specs.Sessions.{IsSession, HasServed}

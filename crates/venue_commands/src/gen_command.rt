@@ -4,10 +4,10 @@ ghost use Rattle.std.specs.Prelude.{◌≡◌, IfOk, IfErr};
 ghost use Rattle.venue_commands.specs.Generated.{told_status, GenOutput};
 ghost use Rattle.venue_commands.specs.Steps.{IsPrinted};
 
+use crate::building::tell_building;
 use crate::command::Levels;
 use crate::printout::{Printout, printed};
 use crate::status::Status;
-use building_report::tell_building;
 use std::alloc::Global;
 use venue_ports::ReadFault;
 use venue_types::OutOfMemory;

@@ -3,6 +3,7 @@
 
 mod base;
 mod base_venue;
+mod building;
 mod check_command;
 mod command;
 mod commands;
@@ -24,6 +25,7 @@ mod status;
 mod verify_command;
 mod words;
 
+pub use building::{Told, tell_building};
 pub use command::{Base, Command, FolderOf, Levels, LinksOf, LocalCommand, RouteOf, Service};
 pub use commands::run_alone;
 pub use console_text::write_all;

@@ -13,10 +13,10 @@ use crate::prints::{CommandEnd, print_answer};
 use crate::reached::{Reached, reach_folder};
 use crate::start::Start;
 use crate::status::Status;
-use building_report::{Alone, Unopened};
 use std::alloc::Global;
 use venue_ports::{Folders, Stream};
 use venue_session::{End, serve_session};
+use version_board::{Alone, Unopened};
 
 // The status with which a session ends.
 fn status_of(end: End) -> Status

@@ -1,5 +1,0 @@
-mod Spelling
-mod Seeing
-mod Costing
-mod Behind
-mod Summing

@@ -1,7 +1,0 @@
-use Rattle.std.proofs.Common.{string_bytes}
-use Rattle.building_report.proofs.Costing.{line_of_cost}
-use Rattle.building_report.proofs.ways.way_line.Goals as goal
-
-pub returns-clause-line : goal.returns-clause-line
-returns-clause-line c v stands =
-    line_of_cost v c.args.name.now c.args.start c.args.finish c.in_ok-cost.cost (string_bytes c.in_ok-text.text) (c.in_ok-cost.ensures.cost v stands) c.in_ok-text.ensures
