@@ -1,6 +1,6 @@
 -- From the answer and what was written to how the run ends.
 use Rattle.std.proofs.Common.{◌≡◌, ℕ, ◌≤◌, List, [], ◌++◌, Option, Some, None, Result, Ok, Err, refl, sym, subst, ◌∙◌, inl, inr, codes, append-nil}
-use Rattle.std.specs.Prelude.{IfSome, IfOk, IfErr, OnOk, OnErr}
+use Rattle.std.specs.Prelude.{IfSome, IfOk, IfErr, IsErrOf, OnOk, OnErr}
 use Rattle.venue_ports.specs.Files.{StoredFile, HasReadCause}
 use Rattle.venue_ports.specs.Causes.{Rose}
 use Rattle.venue_ports.specs.declared.folders.ReadFault.{ReadFault}
@@ -13,7 +13,7 @@ use Rattle.venue_commands.specs.declared.status.Status.TheVariants.{Done, Negati
 use Rattle.venue_commands.specs.Steps.{IsPrinted, IsUnknown, IsAnswer}
 use Rattle.venue_commands.specs.declared.command.RouteOf.{RouteOf}
 use Rattle.venue_commands.specs.ReadCommands.{AskWay}
-use Rattle.venue_commands.specs.Commands.{Asked, Price, Verify, Check, Links, Route, Session, Serve, Gen, IsBase, IsFolder, IsIdentifier, IsAsked, AskFor, AskForNothing, words_of}
+use Rattle.venue_commands.specs.Commands.{Asked, Price, Verify, Check, Links, Route, Session, Serve, Gen, IsBase, IsFolder, IsIdentifier, IsAsked, Asks, AskForNothing, words_of}
 use Rattle.venue_commands.specs.Output.{PriceOutput, Output, other_words, answers_price, answers_verify, answers_check, answers_links, answers_route, answers_gen}
 use Rattle.venue_commands.specs.Verified.{VerifyOutput}
 use Rattle.venue_commands.specs.Checked.{CheckOutput}
@@ -21,7 +21,8 @@ use Rattle.venue_commands.specs.Linked.{LinksOutput}
 use Rattle.venue_commands.specs.Routed.{RouteOutput}
 use Rattle.venue_commands.specs.Generated.{GenOutput}
 use Rattle.venue_commands.proofs.VenueMaking.{printed_as}
-use Rattle.venue_commands.specs.Runs.{Run, Wrote, NoFault, IsUnread}
+use Rattle.venue_commands.specs.FaultOrder.{FailsAt}
+use Rattle.venue_commands.specs.Runs.{Run, FoldersRun, Wrote, NoFault, IsUnread}
 use Rattle.venue_commands.specs.Ends.{folder_fault, Ends}
 
 pub price_told : (words : List (List ℕ)) (files : Option (List StoredFile)) (base : List ℕ) (r : Result Printout ReadFault) → IsBase base → words ≡ words_of (Price base)
@@ -93,24 +94,26 @@ unknown_plain (Err e) told = tt
 unknown_plain (Ok a) told = subst IsPrinted (sym told.1) tt
 
 -- what was answered to the words of a command
-pub is_answer : (words : List (List ℕ)) (files : Option (List StoredFile)) (before now : ℕ) (r : Result Printout ReadFault) → IfOk r (λ a. IsPrinted a.status)
-    → IfOk r (λ a. IfSome files (λ fs. Output words fs a.text a.status)) → AskFor words → HasReadCause before now r → IsAnswer words files before now r
-is_answer words files before now (Ok a) plain output asks cause = (plain, output, cause.kept)
-is_answer words files before now (Err fault.Failed) plain output asks cause = (asks, cause.failed refl)
-is_answer words files before now (Err fault.OutOfMemory) plain output asks cause = cause.kept_without_memory refl
+pub is_answer : (words : List (List ℕ)) (files : Option (List StoredFile)) (folders : FoldersRun) (asked : Asked) (r : Result Printout ReadFault) → IfOk r (λ a. IsPrinted a.status)
+    → IfOk r (λ a. IfSome files (λ fs. Output words fs a.text a.status)) → Asks words asked → (IsErrOf r fault.Failed → FailsAt files folders.asked folders.asked_now asked)
+    → HasReadCause folders.faults folders.faults_now r → IsAnswer words files folders r
+is_answer words files folders asked (Ok a) plain output asks failed cause = (plain, output, cause.kept)
+is_answer words files folders asked (Err fault.Failed) plain output asks failed cause = record { asked = asked; asks = asks; at = failed refl; cause = cause.failed refl }
+is_answer words files folders asked (Err fault.OutOfMemory) plain output asks failed cause = cause.kept_without_memory refl
 
 -- the same, where there is none
-pub no_answer : {T : Type 0} (words : List (List ℕ)) (files : Option (List StoredFile)) (before now : ℕ) (why : ReadFault) → AskFor words → HasReadCause {T = T} before now (Err why)
-    → IsAnswer words files before now (Err why)
-no_answer words files before now fault.Failed asks cause = (asks, cause.failed refl)
-no_answer words files before now fault.OutOfMemory asks cause = cause.kept_without_memory refl
+pub no_answer : {T : Type 0} (words : List (List ℕ)) (files : Option (List StoredFile)) (folders : FoldersRun) (asked : Asked) (why : ReadFault) → Asks words asked
+    → (IsErrOf {T = T} (Err why) fault.Failed → FailsAt files folders.asked folders.asked_now asked) → HasReadCause {T = T} folders.faults folders.faults_now (Err why)
+    → IsAnswer words files folders (Err why)
+no_answer words files folders asked fault.Failed asks failed cause = record { asked = asked; asks = asks; at = failed refl; cause = cause.failed refl }
+no_answer words files folders asked fault.OutOfMemory asks failed cause = cause.kept_without_memory refl
 
 -- the same, over folders that nothing was asked of
-pub is_answer_alone : (words : List (List ℕ)) (files : Option (List StoredFile)) (count : ℕ) (r : Result Printout ReadFault) → IfOk r (λ a. IsPrinted a.status)
-    → IfOk r (λ a. IfSome files (λ fs. Output words fs a.text a.status)) → IfErr r (λ why. why ≡ fault.OutOfMemory) → IsAnswer words files count count r
-is_answer_alone words files count (Ok a) plain output memory = (plain, output, refl)
-is_answer_alone words files count (Err fault.Failed) plain output memory = absurd cc
-is_answer_alone words files count (Err fault.OutOfMemory) plain output memory = refl
+pub is_answer_alone : (words : List (List ℕ)) (files : Option (List StoredFile)) (folders : FoldersRun) (r : Result Printout ReadFault) → IfOk r (λ a. IsPrinted a.status)
+    → IfOk r (λ a. IfSome files (λ fs. Output words fs a.text a.status)) → IfErr r (λ why. why ≡ fault.OutOfMemory) → folders.faults_now ≡ folders.faults → IsAnswer words files folders r
+is_answer_alone words files folders (Ok a) plain output memory kept = (plain, output, kept)
+is_answer_alone words files folders (Err fault.Failed) plain output memory kept = absurd cc
+is_answer_alone words files folders (Err fault.OutOfMemory) plain output memory kept = kept
 
 pub ends_printed : (words : List (List ℕ)) (files : Option (List StoredFile)) (run : Run) (status : Status) (text : List ℕ) → IsPrinted status → Wrote run.written run.written_now text
     → NoFault run → IsUnread run → IfSome files (λ fs. Output words fs text status) → Ends words files run status
@@ -141,11 +144,11 @@ ends_short words files run status text spelled is output part rose stayed unread
     ends_cut words files run status text part.0 part.1 part.2 (sym is ∙ part.3) output rose stayed unread
 
 -- the folders failed, and this is what writing that came to
-pub ends_failed : (words : List (List ℕ)) (files : Option (List StoredFile)) (run : Run) (written : Result (Unit {0}) Failed) → AskFor words → Rose run.folders run.folders_now
-    → OnOk written (Wrote run.written run.written_now folder_fault)
+pub ends_failed : (words : List (List ℕ)) (files : Option (List StoredFile)) (run : Run) (written : Result (Unit {0}) Failed) (asked : Asked) → Asks words asked → FailsAt files run.asked run.asked_now asked
+    → Rose run.folders run.folders_now → OnOk written (Wrote run.written run.written_now folder_fault)
     → OnErr written ((front : List ℕ) × (rest : List ℕ) × Wrote run.written run.written_now front × (folder_fault ≡ front ++ rest))
     → OnOk written (run.console_now ≡ run.console) → OnErr written (Rose run.console run.console_now) → IsUnread run → Ends words files run Fault
-ends_failed words files run (Ok u) asks cause all part kept rose unread =
-    inr (inl (record { asks = asks; text = folder_fault; rest = []; wrote = all; whole = append-nil folder_fault; told = inl (refl, kept); cause = cause; unread = unread }))
-ends_failed words files run (Err e) asks cause all part kept rose unread =
-    inr (inl (record { asks = asks; text = part.0; rest = part.1; wrote = part.2; whole = sym part.3; told = inr rose; cause = cause; unread = unread }))
+ends_failed words files run (Ok u) asked asks at cause all part kept rose unread =
+    inr (inl (record { asked = asked; asks = asks; at = at; text = folder_fault; rest = []; wrote = all; whole = append-nil folder_fault; told = inl (refl, kept); cause = cause; unread = unread }))
+ends_failed words files run (Err e) asked asks at cause all part kept rose unread =
+    inr (inl (record { asked = asked; asks = asks; at = at; text = part.0; rest = part.1; wrote = part.2; whole = sym part.3; told = inr rose; cause = cause; unread = unread }))

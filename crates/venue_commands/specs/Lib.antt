@@ -15,6 +15,7 @@ pub mod Served
 pub mod Headlines
 pub mod Steps
 pub mod Openings
+pub mod FaultOrder
 pub mod Ends
 pub mod Complete
 pub mod Codes

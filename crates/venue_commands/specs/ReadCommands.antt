@@ -6,7 +6,7 @@ use Rattle.venue_commands.specs.declared.command.Command.TheVariants as command
 use Rattle.venue_commands.specs.declared.command.LocalCommand.{LocalCommand}
 use Rattle.venue_commands.specs.declared.command.LocalCommand.TheVariants as local
 use Rattle.venue_commands.specs.declared.command.RouteOf.{RouteOf}
-use Rattle.venue_commands.specs.declared.command.Service.{Service}
+use Rattle.venue_commands.specs.declared.command.ServiceOf.{ServiceOf}
 use Rattle.venue_commands.specs.Commands.{Asked, Price, Verify, Check, Links, Route, Session, Serve, Gen, Asks, AskForNothing}
 
 -- the words ask for this way, and spell its two places
@@ -18,7 +18,7 @@ pub record AskWay (words : List (List ℕ)) (route : RouteOf) : Type 0 where
   pub asks : Asks words (Route route.of.base.now route.of.folder.now route.profile.now from to)
 
 -- what a service is asked for by
-abbrev pub service_asked : Service → Asked
+abbrev pub service_asked : ServiceOf → Asked
 service_asked service = Serve service.of.base.now service.of.folder.now service.address.now service.workers service.connections
 
 -- a command that needs no doors is what the words ask for

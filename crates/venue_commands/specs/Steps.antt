@@ -29,7 +29,9 @@ use Rattle.venue_commands.specs.declared.base_venue.Made.TheVariants as made
 use Rattle.venue_commands.specs.declared.status.Status.{Status}
 use Rattle.venue_commands.specs.declared.status.Status.TheVariants.{Done, Negative, Wrong, Fault, Memory}
 use Rattle.venue_commands.specs.declared.load.Cause.{Cause}
-use Rattle.venue_commands.specs.Commands.{AskFor}
+use Rattle.venue_commands.specs.Commands.{Asked, Asks}
+use Rattle.venue_commands.specs.FaultOrder.{FailsAt}
+use Rattle.venue_commands.specs.Runs.{FoldersRun}
 use Rattle.venue_commands.specs.Output.{Output}
 use Rattle.venue_commands.specs.Files.{Reads, StopsBy}
 use Rattle.venue_commands.specs.Checked.{SettingsForm, settings_limit, IsFaultText, NoSettings, NoVenue, HasVenue}
@@ -126,9 +128,15 @@ IsRouted venue name from to printed = IsRoutedFor venue from to printed (profile
 abbrev pub IsUnknown : Printout → Type 0
 IsUnknown answer = (answer.text ≡ line (codes "words")) × (answer.status ≡ Wrong)
 
--- what was answered to the words, over folders whose count was this before and is this now: what is printed then; that they failed; or
--- that memory ran out
-abbrev pub IsAnswer : List (List ℕ) → Option (List StoredFile) → ℕ → ℕ → Result Printout ReadFault → Type 0
-IsAnswer words files before now (Ok answer) = IsPrinted answer.status × IfSome files (λ fs. Output words fs answer.text answer.status) × (now ≡ before)
-IsAnswer words files before now (Err Failed) = AskFor words × Rose before now
-IsAnswer words files before now (Err OutOfMemory) = now ≡ before
+-- the words ask for a command, in which the folders failed
+pub record Fails (words : List (List ℕ)) (files : Option (List StoredFile)) (folders : FoldersRun) : Type 0 where
+  pub asked : Asked
+  pub asks : Asks words asked
+  pub at : FailsAt files folders.asked folders.asked_now asked
+  pub cause : Rose folders.faults folders.faults_now
+
+-- what was answered to the words, over folders: what is printed then; that they failed; or that memory ran out
+abbrev pub IsAnswer : List (List ℕ) → Option (List StoredFile) → FoldersRun → Result Printout ReadFault → Type 0
+IsAnswer words files folders (Ok answer) = IsPrinted answer.status × IfSome files (λ fs. Output words fs answer.text answer.status) × (folders.faults_now ≡ folders.faults)
+IsAnswer words files folders (Err Failed) = Fails words files folders
+IsAnswer words files folders (Err OutOfMemory) = folders.faults_now ≡ folders.faults

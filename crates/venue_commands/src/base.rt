@@ -1,9 +1,11 @@
 //! What the files of a base hold.
 
-ghost use Rattle.std.specs.Prelude.{◌≡◌, ◌^◌, ◌<◌, length, IfOk, IfSome};
+ghost use Rattle.std.specs.Prelude.{◌≡◌, ◌^◌, ◌<◌, length, IfOk, IfSome, [], ◌∷◌, true, false, OnOk, IsErrOf};
 ghost use Rattle.venue_ports.specs.Files.{file_at, HasReadCause};
 ghost use Rattle.route_certificate.specs.Forms.{IsTable, FitsTable, FitsWalk};
 ghost use Rattle.route_certificate.specs.Answers.{FitsAnswer, HasFewSteps};
+ghost use Rattle.venue_ports.specs.Asked.{HaveAsked};
+ghost use Rattle.venue_commands.specs.FaultOrder.{read_at};
 ghost use Rattle.venue_commands.specs.Files.{links_limit, links_name, walk_limit, walk_name, answer_limit, answer_name};
 ghost use Rattle.venue_commands.specs.Output.{WalkForm};
 ghost use Rattle.venue_commands.specs.Verified.{AnswerForm};
@@ -30,6 +32,8 @@ pub(crate) fn table_of<F: Folders>(
     ensures fits { IfOk result (λ judged. IfOk judged FitsTable) }
     ensures few { IfOk result (λ judged. IfOk judged (λ table. length table.links < 2 ^ 32)) }
     ensures same { F.files folders.new ≡ F.files folders.old }
+    ensures asked { OnOk result (HaveAsked (read_at base.now links_name false ∷ []) (F.asked folders.old) (F.asked folders.new)) }
+    ensures failed { IsErrOf result ReadFault.Failed → HaveAsked (read_at base.now links_name true ∷ []) (F.asked folders.old) (F.asked folders.new) }
     ensures cause { HasReadCause (F.faults folders.old) (F.faults folders.new) result }
 {
     match load(alloc, folders, base, "links.txt", LINKS_LIMIT)? {
@@ -54,6 +58,8 @@ pub(crate) fn walk_of<F: Folders>(
     ensures fits { IfOk result (λ judged. IfOk judged (FitsWalk table.now)) }
     ensures few { IfOk result (λ judged. IfOk judged (λ walk. length walk.steps < 2 ^ 32)) }
     ensures same { F.files folders.new ≡ F.files folders.old }
+    ensures asked { OnOk result (HaveAsked (read_at base.now walk_name false ∷ []) (F.asked folders.old) (F.asked folders.new)) }
+    ensures failed { IsErrOf result ReadFault.Failed → HaveAsked (read_at base.now walk_name true ∷ []) (F.asked folders.old) (F.asked folders.new) }
     ensures cause { HasReadCause (F.faults folders.old) (F.faults folders.new) result }
 {
     match load(alloc, folders, base, "walk.txt", WALK_LIMIT)? {
@@ -78,6 +84,8 @@ pub(crate) fn answer_of<F: Folders>(
     ensures fits { IfOk result (λ judged. IfOk judged (FitsAnswer (length table.now.nodes))) }
     ensures few { IfOk result (λ judged. IfOk judged (λ answer. HasFewSteps answer.claim)) }
     ensures same { F.files folders.new ≡ F.files folders.old }
+    ensures asked { OnOk result (HaveAsked (read_at base.now answer_name false ∷ []) (F.asked folders.old) (F.asked folders.new)) }
+    ensures failed { IsErrOf result ReadFault.Failed → HaveAsked (read_at base.now answer_name true ∷ []) (F.asked folders.old) (F.asked folders.new) }
     ensures cause { HasReadCause (F.faults folders.old) (F.faults folders.new) result }
 {
     match load(alloc, folders, base, "answer.txt", ANSWER_LIMIT)? {

@@ -1,9 +1,13 @@
 //! The venue of a base's folder, or the answer that stops a command.
 
-ghost use Rattle.std.specs.Prelude.{◌≡◌, IfOk, IfErr, IfSome, length};
+ghost use Rattle.std.specs.Prelude.{◌≡◌, IfOk, IfErr, IfSome, length, IsErrOf};
 ghost use Rattle.venue_ports.specs.Files.{HasReadCause};
 ghost use Rattle.venue_ports.specs.declared.folders.ReadFault.TheVariants.{OutOfMemory as NoMemory};
 ghost use Rattle.venue_folder.specs.Shelves.{folder_files, folder_path};
+ghost use Rattle.venue_types.specs.FolderFiles.{all_files};
+ghost use Rattle.venue_folder.specs.AskedFolders.{AskedUntil};
+ghost use Rattle.venue_ports.specs.declared.folders.ReadFault.TheVariants.{Failed};
+ghost use Rattle.venue_commands.specs.FaultOrder.{FailsInFolder};
 ghost use Rattle.venue_commands.specs.Steps.{IsMade, IsMadeOf, IsPlain};
 
 use crate::command::FolderOf;
@@ -51,6 +55,7 @@ pub(crate) fn files_at<F: Folders>(
     ensures told { IfOk result (λ held. IfSome (F.files folders.old) (λ files. held ≡ folder_files files (folder_path of.entry.base.now of.entry.folder.now))) }
     ensures seventeen { IfOk result (λ held. length held.slots ≡ 17) }
     ensures same { F.files folders.new ≡ F.files folders.old }
+    ensures failed { IsErrOf result ReadFault.Failed → AskedUntil (folder_path of.entry.base.now of.entry.folder.now) all_files (F.asked folders.old) (F.asked folders.new) Failed }
     ensures cause { HasReadCause (F.faults folders.old) (F.faults folders.new) result }
 {
     let base = of.base;
@@ -68,6 +73,7 @@ pub(crate) fn venue_of<F: Folders>(
     ensures told { IfOk result (λ made. IfSome (F.files folders.old) (λ files. IsMade files of.entry.base.now of.entry.folder.now made)) }
     ensures plain { IfOk result IsPlain }
     ensures same { F.files folders.new ≡ F.files folders.old }
+    ensures failed { IsErrOf result ReadFault.Failed → FailsInFolder (F.files folders.old) (F.asked folders.old) (F.asked folders.new) of.entry.base.now of.entry.folder.now }
     ensures cause { HasReadCause (F.faults folders.old) (F.faults folders.new) result }
 {
     let settings = match settings_of(alloc, of.base, folders)? {

@@ -1,10 +1,11 @@
 //! The command `check`.
 
-ghost use Rattle.std.specs.Prelude.{◌≡◌, IfOk, IfErr, IfSome};
+ghost use Rattle.std.specs.Prelude.{◌≡◌, IfOk, IfErr, IfSome, IsErrOf};
 ghost use Rattle.venue_ports.specs.Files.{HasReadCause};
 ghost use Rattle.venue_ports.specs.declared.folders.ReadFault.TheVariants.{OutOfMemory as NoMemory};
 ghost use Rattle.feature_rows.specs.Rows.{feature_count};
 ghost use Rattle.check_text.specs.Text.{accepted_text};
+ghost use Rattle.venue_commands.specs.FaultOrder.{FailsInFolder};
 ghost use Rattle.venue_commands.specs.Checked.{CheckOutput};
 ghost use Rattle.venue_commands.specs.Steps.{IsPrinted};
 
@@ -39,6 +40,7 @@ pub(crate) fn check_answer<F: Folders>(
     ensures told { IfOk result (λ answer. IfSome (F.files folders.old) (λ files. CheckOutput files of.entry.base.now of.entry.folder.now answer.text answer.status)) }
     ensures plain { IfOk result (λ answer. IsPrinted answer.status) }
     ensures same { F.files folders.new ≡ F.files folders.old }
+    ensures failed { IsErrOf result ReadFault.Failed → FailsInFolder (F.files folders.old) (F.asked folders.old) (F.asked folders.new) of.entry.base.now of.entry.folder.now }
     ensures cause { HasReadCause (F.faults folders.old) (F.faults folders.new) result }
 {
     let made = venue_of(alloc, of, folders)?;

@@ -47,7 +47,7 @@ pub struct Levels {
 
 /// A service over a folder: where it listens, how many workers it has, 1 to 16, and how many connections it accepts, 1 to 1,000,000.
 #[derive(Clone, Copy)]
-pub struct Service<'w> {
+pub struct ServiceOf<'w> {
     pub of: FolderOf<'w>,
     pub address: &'w str,
     pub workers: u8,
@@ -85,5 +85,5 @@ pub enum LocalCommand<'w> {
 pub enum Command<'w> {
     Local(LocalCommand<'w>),
     /// Sessions over the connections that come through doors.
-    Serve(Service<'w>),
+    Serve(ServiceOf<'w>),
 }

@@ -5,7 +5,7 @@ ghost use Rattle.venue_commands.specs.Commands.{AskNoConsole};
 ghost use Rattle.venue_commands.specs.Ends.{Ends};
 ghost use Rattle.venue_commands.specs.Headlines.{SaysHeadline};
 ghost use Rattle.venue_commands.specs.ReadCommands.{IsLocal};
-ghost use Rattle.venue_commands.specs.Runs.{run_between};
+ghost use Rattle.venue_commands.specs.Runs.{folders_between, run_between};
 ghost use Rattle.venue_commands.specs.Steps.{IsUnknown};
 
 use crate::check_command::check_answer;
@@ -39,7 +39,7 @@ fn answer<F: Folders, C: Stream>(
     console: &mut C,
 ) -> CommandEnd<F>
     ensures ends { (words : List (List ℕ)) → IsLocal words command.entry → Ends words (F.files folders)
-        (run_between C.Stream console.old console.new (F.faults folders) (F.faults result.folders)) result.status }
+        (run_between C.Stream console.old console.new (folders_between F.Folders folders result.folders)) result.status }
     ensures files { F.files result.folders ≡ F.files folders }
     ensures left { (words : List (List ℕ)) → IsLocal words command.entry → AskNoConsole words → C.left console.new ≡ C.left console.old }
     ensures folders_later { F.faults folders ≤ F.faults result.folders }
@@ -76,9 +76,9 @@ pub fn run_alone<F: Folders, C: Stream>(
     console: &mut C,
 ) -> (Status, F)
     ensures ends { (words : List (List ℕ)) → IsLocal words command.entry → Ends words (F.files folders)
-        (run_between C.Stream console.old console.new (F.faults folders) (F.faults result.1)) result.0 }
+        (run_between C.Stream console.old console.new (folders_between F.Folders folders result.1)) result.0 }
     ensures headline { (words : List (List ℕ)) → IsLocal words command.entry → SaysHeadline words (F.files folders)
-        (run_between C.Stream console.old console.new (F.faults folders) (F.faults result.1)) result.0 }
+        (run_between C.Stream console.old console.new (folders_between F.Folders folders result.1)) result.0 }
     ensures files { F.files result.1 ≡ F.files folders }
     ensures left { (words : List (List ℕ)) → IsLocal words command.entry → AskNoConsole words → C.left console.new ≡ C.left console.old }
     ensures folders_later { F.faults folders ≤ F.faults result.1 }

@@ -1,6 +1,6 @@
 //! The command `links`.
 
-ghost use Rattle.std.specs.Prelude.{◌≡◌, IfOk, IfErr, IfSome};
+ghost use Rattle.std.specs.Prelude.{◌≡◌, IfOk, IfErr, IfSome, IsErrOf};
 ghost use Rattle.std.specs.List.{find};
 ghost use Rattle.std.specs.Option.{option_copied};
 ghost use Rattle.std.specs.Str.{bytes_eq};
@@ -8,6 +8,7 @@ ghost use Rattle.venue_ports.specs.Files.{HasReadCause};
 ghost use Rattle.venue_ports.specs.declared.folders.ReadFault.TheVariants.{OutOfMemory as NoMemory};
 ghost use Rattle.route_certificate.specs.Forms.{table_text, FitsTable};
 ghost use Rattle.route_answers.specs.Tables.{table_of};
+ghost use Rattle.venue_commands.specs.FaultOrder.{FailsInFolder};
 ghost use Rattle.venue_commands.specs.Linked.{LinksOutput};
 ghost use Rattle.venue_commands.specs.Steps.{IsLinked, IsPrinted};
 
@@ -69,6 +70,7 @@ pub(crate) fn links_answer<F: Folders>(
     ensures told { IfOk result (λ answer. IfSome (F.files folders.old) (λ files. LinksOutput files links.entry.of.base.now links.entry.of.folder.now links.entry.profile.now answer.text answer.status)) }
     ensures plain { IfOk result (λ answer. IsPrinted answer.status) }
     ensures same { F.files folders.new ≡ F.files folders.old }
+    ensures failed { IsErrOf result ReadFault.Failed → FailsInFolder (F.files folders.old) (F.asked folders.old) (F.asked folders.new) links.entry.of.base.now links.entry.of.folder.now }
     ensures cause { HasReadCause (F.faults folders.old) (F.faults folders.new) result }
 {
     let made = venue_of(alloc, links.of, folders)?;

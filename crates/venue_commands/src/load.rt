@@ -1,7 +1,9 @@
 //! Files of the base, read against their limits.
 
-ghost use Rattle.std.specs.Prelude.{◌≡◌, ◌^◌, ◌<◌, IfOk, IfSome};
+ghost use Rattle.std.specs.Prelude.{◌≡◌, ◌^◌, ◌<◌, IfOk, IfSome, [], ◌∷◌, true, false, OnOk, IsErrOf};
 ghost use Rattle.venue_ports.specs.Files.{file_at, HasReadCause};
+ghost use Rattle.venue_ports.specs.Asked.{HaveAsked};
+ghost use Rattle.venue_commands.specs.FaultOrder.{read_at};
 ghost use Rattle.venue_commands.specs.Steps.{IsLoaded, IsSmall};
 
 use std::alloc::Global;
@@ -37,6 +39,8 @@ pub(crate) fn load<F: Folders>(
     ensures told { IfOk result (λ loaded. IfSome (F.files folders.old) (λ files. IsLoaded limit (file_at files base.now file.now) loaded)) }
     ensures small { IfOk result (IsSmall limit) }
     ensures same { F.files folders.new ≡ F.files folders.old }
+    ensures asked { OnOk result (HaveAsked (read_at base.now file.now false ∷ []) (F.asked folders.old) (F.asked folders.new)) }
+    ensures failed { IsErrOf result ReadFault.Failed → HaveAsked (read_at base.now file.now true ∷ []) (F.asked folders.old) (F.asked folders.new) }
     ensures cause { HasReadCause (F.faults folders.old) (F.faults folders.new) result }
 {
     match folders.read(alloc, base, file, limit as u64)? {

@@ -1,7 +1,9 @@
 //! The command `price`.
 
-ghost use Rattle.std.specs.Prelude.{◌≡◌, IfOk, IfSome};
+ghost use Rattle.std.specs.Prelude.{◌≡◌, IfOk, IfSome, IsErrOf};
 ghost use Rattle.venue_ports.specs.Files.{HasReadCause};
+ghost use Rattle.venue_commands.specs.Files.{walk_name};
+ghost use Rattle.venue_commands.specs.FaultOrder.{FailsOverTable};
 ghost use Rattle.venue_commands.specs.Output.{priced_text, priced_status, PriceOutput};
 ghost use Rattle.venue_commands.specs.Steps.{IsPrinted};
 
@@ -39,6 +41,7 @@ pub(crate) fn price_answer<F: Folders>(
     ensures told { IfOk result (λ answer. IfSome (F.files folders.old) (λ files. PriceOutput files base.entry.name.now answer.text answer.status)) }
     ensures plain { IfOk result (λ answer. IsPrinted answer.status) }
     ensures same { F.files folders.new ≡ F.files folders.old }
+    ensures failed { IsErrOf result ReadFault.Failed → FailsOverTable (F.files folders.old) (F.asked folders.old) (F.asked folders.new) base.entry.name.now walk_name }
     ensures cause { HasReadCause (F.faults folders.old) (F.faults folders.new) result }
 {
     let table = match table_of(alloc, base.name, folders)? {

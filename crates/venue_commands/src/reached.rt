@@ -1,7 +1,12 @@
 //! What a session or a service of a folder comes to, before anything is served.
 
-ghost use Rattle.std.specs.Prelude.{◌≡◌, IfOk};
+ghost use Rattle.std.specs.Prelude.{◌≡◌, IfOk, IsErrOf};
 ghost use Rattle.venue_ports.specs.Files.{HasReadCause};
+ghost use Rattle.venue_folder.specs.Shelves.{folder_path};
+ghost use Rattle.venue_types.specs.FolderFiles.{all_files};
+ghost use Rattle.venue_folder.specs.AskedFolders.{AskedUntil};
+ghost use Rattle.venue_ports.specs.declared.folders.ReadFault.TheVariants.{Failed};
+ghost use Rattle.venue_commands.specs.FaultOrder.{FailsInFolder};
 ghost use Rattle.venue_commands.specs.Openings.{IsFolderReached, IsOpenedUnder, IsPlainText};
 
 use crate::base_venue::{Made, files_at, made_of};
@@ -33,6 +38,7 @@ fn open_folder<F: Folders>(
     ensures told { IfOk result (IsOpenedUnder (F.files folders.old) of.entry.base.now of.entry.folder.now settings.now) }
     ensures plain { IfOk result IsPlainText }
     ensures same { F.files folders.new ≡ F.files folders.old }
+    ensures failed { IsErrOf result ReadFault.Failed → AskedUntil (folder_path of.entry.base.now of.entry.folder.now) all_files (F.asked folders.old) (F.asked folders.new) Failed }
     ensures cause { HasReadCause (F.faults folders.old) (F.faults folders.new) result }
 {
     let files = files_at(alloc, of, folders)?;
@@ -58,6 +64,7 @@ pub fn reach_folder<F: Folders>(
     ensures told { IfOk result (λ reached. IsFolderReached (F.files folders.old) of.entry.base.now of.entry.folder.now reached) }
     ensures plain { IfOk result IsPlainText }
     ensures same { F.files folders.new ≡ F.files folders.old }
+    ensures failed { IsErrOf result ReadFault.Failed → FailsInFolder (F.files folders.old) (F.asked folders.old) (F.asked folders.new) of.entry.base.now of.entry.folder.now }
     ensures cause { HasReadCause (F.faults folders.old) (F.faults folders.new) result }
 {
     match settings_of(alloc, of.base, folders)? {

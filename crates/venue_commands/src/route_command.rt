@@ -1,9 +1,10 @@
 //! The command `route`.
 
-ghost use Rattle.std.specs.Prelude.{◌≡◌, ◌<◌, IfOk, IfErr, IfSome, length};
+ghost use Rattle.std.specs.Prelude.{◌≡◌, ◌<◌, IfOk, IfErr, IfSome, length, IsErrOf};
 ghost use Rattle.route_answers.specs.Nodes.{nodes, place_of};
 ghost use Rattle.venue_ports.specs.Files.{HasReadCause};
 ghost use Rattle.venue_ports.specs.declared.folders.ReadFault.TheVariants.{OutOfMemory as NoMemory};
+ghost use Rattle.venue_commands.specs.FaultOrder.{FailsInFolder};
 ghost use Rattle.venue_commands.specs.Routed.{RouteOutput, claim_status};
 ghost use Rattle.venue_commands.specs.Steps.{IsAnswered, IsPrinted, IsRouted, IsRoutedFrom};
 
@@ -114,6 +115,7 @@ pub(crate) fn routing_answer<F: Folders>(
     ensures told { IfOk result (λ answer. IfSome (F.files folders.old) (λ files. RouteOutput files route.entry.of.base.now route.entry.of.folder.now route.entry.profile.now route.entry.from route.entry.to answer.text answer.status)) }
     ensures plain { IfOk result (λ answer. IsPrinted answer.status) }
     ensures same { F.files folders.new ≡ F.files folders.old }
+    ensures failed { IsErrOf result ReadFault.Failed → FailsInFolder (F.files folders.old) (F.asked folders.old) (F.asked folders.new) route.entry.of.base.now route.entry.of.folder.now }
     ensures cause { HasReadCause (F.faults folders.old) (F.faults folders.new) result }
 {
     let made = venue_of(alloc, route.of, folders)?;

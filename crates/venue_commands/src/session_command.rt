@@ -5,7 +5,7 @@ ghost use Rattle.venue_ports.specs.Files.{StoredFile};
 ghost use Rattle.venue_commands.specs.Commands.{Session, Asks};
 ghost use Rattle.venue_commands.specs.Ends.{Ends};
 ghost use Rattle.venue_commands.specs.Openings.{IsOpening};
-ghost use Rattle.venue_commands.specs.Runs.{run_between};
+ghost use Rattle.venue_commands.specs.Runs.{folders_between, run_between};
 ghost use Rattle.venue_commands.specs.Served.{end_status};
 
 use crate::command::FolderOf;
@@ -39,9 +39,9 @@ fn serve_console<F: Folders, C: Stream>(
     folders: F,
     console: &mut C,
 ) -> CommandEnd<F>
-    ensures ends { (words : List (List ℕ)) (files : Option (List StoredFile)) (faults : ℕ) → IsOpening words files opening
-        → F.files folders ≡ files → F.faults folders ≡ faults
-        → Ends words files (run_between C.Stream console.old console.new faults (F.faults result.folders)) result.status }
+    ensures ends { (words : List (List ℕ)) (files : Option (List StoredFile)) (before : F) → IsOpening words files opening
+        → F.files folders ≡ files → F.faults folders ≡ F.faults before
+        → Ends words files (run_between C.Stream console.old console.new (folders_between F.Folders before result.folders)) result.status }
     ensures files { F.files result.folders ≡ F.files folders }
     ensures folders_later { F.faults folders ≤ F.faults result.folders }
     ensures console_later { C.faults console.old ≤ C.faults console.new }
@@ -77,7 +77,7 @@ pub(crate) fn session<F: Folders, C: Stream>(
     console: &mut C,
 ) -> CommandEnd<F>
     ensures ends { (words : List (List ℕ)) → Asks words (Session of.entry.base.now of.entry.folder.now) → Ends words (F.files folders)
-        (run_between C.Stream console.old console.new (F.faults folders) (F.faults result.folders)) result.status }
+        (run_between C.Stream console.old console.new (folders_between F.Folders folders result.folders)) result.status }
     ensures files { F.files result.folders ≡ F.files folders }
     ensures folders_later { F.faults folders ≤ F.faults result.folders }
     ensures console_later { C.faults console.old ≤ C.faults console.new }

@@ -1,9 +1,11 @@
 //! The settings of a base.
 
-ghost use Rattle.std.specs.Prelude.{◌≡◌, ◌++◌, codes, string_bytes, IfOk, IfErr, IfSome};
+ghost use Rattle.std.specs.Prelude.{◌≡◌, ◌++◌, codes, string_bytes, IfOk, IfErr, IfSome, [], ◌∷◌, true, false, OnOk, IsErrOf};
 ghost use Rattle.line_forms.specs.Lines.{line};
 ghost use Rattle.venue_ports.specs.Files.{file_at, HasReadCause};
 ghost use Rattle.venue_ports.specs.declared.folders.ReadFault.TheVariants.{OutOfMemory as NoMemory};
+ghost use Rattle.venue_ports.specs.Asked.{HaveAsked};
+ghost use Rattle.venue_commands.specs.FaultOrder.{read_at};
 ghost use Rattle.venue_commands.specs.Checked.{IsFaultText, settings_name};
 ghost use Rattle.venue_commands.specs.Steps.{IsJudgedText, IsSettled};
 
@@ -58,6 +60,8 @@ pub(crate) fn settings_of<F: Folders>(
 ) -> Result<Result<Settings, String>, ReadFault>
     ensures told { IfOk result (λ settled. IfSome (F.files folders.old) (λ files. IsSettled (file_at files base.now settings_name) settled)) }
     ensures same { F.files folders.new ≡ F.files folders.old }
+    ensures asked { OnOk result (HaveAsked (read_at base.now settings_name false ∷ []) (F.asked folders.old) (F.asked folders.new)) }
+    ensures failed { IsErrOf result ReadFault.Failed → HaveAsked (read_at base.now settings_name true ∷ []) (F.asked folders.old) (F.asked folders.new) }
     ensures cause { HasReadCause (F.faults folders.old) (F.faults folders.new) result }
 {
     match load(alloc, folders, base, "venue.toml", SETTINGS_LIMIT)? {

@@ -1,7 +1,9 @@
 //! The command `verify`.
 
-ghost use Rattle.std.specs.Prelude.{◌≡◌, IfOk, IfSome, string_bytes};
+ghost use Rattle.std.specs.Prelude.{◌≡◌, IfOk, IfSome, string_bytes, IsErrOf};
 ghost use Rattle.venue_ports.specs.Files.{HasReadCause};
+ghost use Rattle.venue_commands.specs.Files.{answer_name};
+ghost use Rattle.venue_commands.specs.FaultOrder.{FailsOverTable};
 ghost use Rattle.venue_commands.specs.Verified.{clause_text, verdict_text, verdict_status, VerifyOutput};
 ghost use Rattle.venue_commands.specs.Steps.{IsPrinted};
 
@@ -50,6 +52,7 @@ pub(crate) fn verify_answer<F: Folders>(
     ensures told { IfOk result (λ answer. IfSome (F.files folders.old) (λ files. VerifyOutput files base.entry.name.now answer.text answer.status)) }
     ensures plain { IfOk result (λ answer. IsPrinted answer.status) }
     ensures same { F.files folders.new ≡ F.files folders.old }
+    ensures failed { IsErrOf result ReadFault.Failed → FailsOverTable (F.files folders.old) (F.asked folders.old) (F.asked folders.new) base.entry.name.now answer_name }
     ensures cause { HasReadCause (F.faults folders.old) (F.faults folders.new) result }
 {
     let table = match table_of(alloc, base.name, folders)? {

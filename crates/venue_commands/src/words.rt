@@ -7,7 +7,7 @@ ghost use Rattle.std.specs.List.{list_all};
 ghost use Rattle.venue_commands.specs.Commands.{Links, Serve, IsBase, IsFolder, IsAddress, IsIdentifier, IsAsked, Asks, words_of, is_folder_byte};
 ghost use Rattle.venue_commands.specs.ReadCommands.{AskWay, IsLocal, IsCommand, service_asked};
 
-use crate::command::{Base, Command, FolderOf, Levels, LinksOf, LocalCommand, RouteOf, Service};
+use crate::command::{Base, Command, FolderOf, Levels, LinksOf, LocalCommand, RouteOf, ServiceOf};
 use line_forms::number;
 use venue_types::FeatureId;
 
@@ -219,7 +219,7 @@ fn counts_in(workers: &str, connections: &str) -> Option<(u8, u32)>
 }
 
 // The folder, the address, and how many workers and connections, where the words ask for a service.
-fn service_of(words: &[String]) -> Option<Service<'_>>
+fn service_of(words: &[String]) -> Option<ServiceOf<'_>>
     ensures found { IfSome result (λ service. Asks (map string_bytes words.now) (service_asked service)) }
     ensures none { IfNone result ((base folder address : List ℕ) (workers connections : ℕ) → IsAsked (Serve base folder address workers connections)
         → map string_bytes words.now ≡ words_of (Serve base folder address workers connections) → ⊥) }
@@ -228,7 +228,7 @@ fn service_of(words: &[String]) -> Option<Service<'_>>
     let (workers, connections) = counts_in(workers, connections)?;
     if command == "serve" && is_base(base) && is_folder(folder) && is_address(address) {
         let of = FolderOf { base, folder };
-        Some(Service {
+        Some(ServiceOf {
             of,
             address,
             workers,

@@ -11,17 +11,23 @@ use Rattle.venue_ports.specs.Causes.{Rose}
 use Rattle.venue_service.specs.Ends.{Measured}
 use Rattle.venue_service.specs.declared.service.Counts.{Counts}
 use Rattle.venue_service.specs.Desks.{raised}
-use Rattle.venue_service.specs.Services.{AreCounts}
 use Rattle.venue_commands.specs.declared.status.Status.{Status}
 use Rattle.venue_commands.specs.declared.status.Status.TheVariants.{Done, Negative, Wrong, Fault, Memory}
 use Rattle.venue_commands.specs.Runs.{Wrote}
 use Rattle.venue_commands.specs.declared.printout.Printout.{Printout}
 use Rattle.venue_commands.specs.Checked.{NoVenue}
-use Rattle.venue_commands.specs.Commands.{Session, Serve, IsAsked, AskFor, words_of}
+use Rattle.venue_commands.specs.Commands.{Session, Serve, Asks, AskNoDoors, words_of}
 use Rattle.venue_commands.specs.Headlines.{SaysHeadline}
 use Rattle.venue_commands.specs.Output.{Output, stops_serve}
 use Rattle.venue_commands.specs.Runs.{Run}
-use Rattle.venue_commands.specs.Steps.{AsksService}
+use Rattle.venue_commands.specs.ReadCommands.{service_asked}
+use Rattle.venue_commands.specs.declared.command.ServiceOf.{ServiceOf}
+use Rattle.venue_commands.specs.declared.start.Start.{Start}
+use Rattle.venue_program.specs.declared.ready.Ready.{Ready}
+use Rattle.venue_program.specs.Steps.{IsReadyOf, IsReadyFor}
+use Rattle.venue_types.specs.declared.memory.OutOfMemory.{OutOfMemory}
+use Rattle.venue_service.specs.Services.{HallTerms}
+use Rattle.venue_service.specs.Venues.{SeenVenue as Venue}
 use Rattle.venue_program.specs.Doors.{DoorsRun, NobodyCame}
 use Rattle.venue_program.specs.Services.{closing_line, listening_line, service_text, IsTold, IsToldInPart, WereServed, IsServiceEnd, unheard, unserved, served, failing, cut_short, untold}
 use Rattle.venue_program.specs.Steps.{IsClosing, IsServedOn, nobody, closed}
@@ -76,30 +82,30 @@ closing_told counts console status false is done fault told = subst (IsClosing c
 closing_told counts console status true is done fault told = subst (IsClosing counts console) (sym (fault refl)) (inl (told, is))
 
 -- behind the line that tells the address
-closed_on : (address : List ℕ) (workers connections : ℕ) (next console : Measured) (doors : DoorsRun) (status : Status) (counts : Counts)
+closed_on : (address : List ℕ) (terms : HallTerms) (next console : Measured) (doors : DoorsRun) (status : Status) (counts : Counts)
     → Wrote console.written_before next.written_before (listening_line address) → next.faults_before ≡ console.faults_before
-    → console.written_after ≡ next.written_after → console.faults_after ≡ next.faults_after → WereServed workers connections doors counts → IsClosing counts next status
-    → IsServiceEnd address workers connections console doors status
-closed_on address workers connections next console doors Done counts first kept written faults were closing =
+    → console.written_after ≡ next.written_after → console.faults_after ≡ next.faults_after → WereServed terms doors counts → IsClosing counts next status
+    → IsServiceEnd address terms console doors status
+closed_on address terms next console doors Done counts first kept written faults were closing =
     served counts were closing.1 (told_on next console (listening_line address) (closing_line counts) first kept written faults closing.0)
-closed_on address workers connections next console doors Fault counts first kept written faults were (inl closing) =
+closed_on address terms next console doors Fault counts first kept written faults were (inl closing) =
     failing counts were closing.1 (told_on next console (listening_line address) (closing_line counts) first kept written faults closing.0)
-closed_on address workers connections next console doors Fault counts first kept written faults were (inr closing) =
+closed_on address terms next console doors Fault counts first kept written faults were (inr closing) =
     cut_short counts were (told_in_part_on next console (listening_line address) (closing_line counts) first kept written faults closing)
-closed_on address workers connections next console doors Memory counts first kept written faults were closing =
+closed_on address terms next console doors Memory counts first kept written faults were closing =
     untold counts were (subst (IsTold console) (append-nil (listening_line address)) (told_on next console (listening_line address) [] first kept written faults closing))
-closed_on address workers connections next console doors Negative counts first kept written faults were closing = absurd closing
-closed_on address workers connections next console doors Wrong counts first kept written faults were closing = absurd closing
+closed_on address terms next console doors Negative counts first kept written faults were closing = absurd closing
+closed_on address terms next console doors Wrong counts first kept written faults were closing = absurd closing
 
-pub service_ends : (address : List ℕ) (workers connections : ℕ) (next console : Measured) (doors : DoorsRun) (status : Status)
+pub service_ends : (address : List ℕ) (terms : HallTerms) (next console : Measured) (doors : DoorsRun) (status : Status)
     → Wrote console.written_before next.written_before (listening_line address) → next.faults_before ≡ console.faults_before
-    → console.written_after ≡ next.written_after → console.faults_after ≡ next.faults_after → IsServedOn workers connections next doors status
-    → IsServiceEnd address workers connections console doors status
-service_ends address workers connections next console doors status first kept written faults (nobody memory came told) =
-    subst (IsServiceEnd address workers connections console doors) (sym memory)
+    → console.written_after ≡ next.written_after → console.faults_after ≡ next.faults_after → IsServedOn terms next doors status
+    → IsServiceEnd address terms console doors status
+service_ends address terms next console doors status first kept written faults (nobody memory came told) =
+    subst (IsServiceEnd address terms console doors) (sym memory)
     (unserved came (subst (IsTold console) (append-nil (listening_line address)) (told_on next console (listening_line address) [] first kept written faults told)))
-service_ends address workers connections next console doors status first kept written faults (closed counts were closing) =
-    closed_on address workers connections next console doors status counts first kept written faults were closing
+service_ends address terms next console doors status first kept written faults (closed counts were closing) =
+    closed_on address terms next console doors status counts first kept written faults were closing
 
 -- what the doors told at another time before
 abbrev pub since : DoorsRun → ℕ → ℕ → DoorsRun
@@ -115,12 +121,12 @@ since doors accepted faults = record {
 }
 
 -- the same, where the doors told the same before
-pub ends_since : (address : List ℕ) (workers connections : ℕ) (console : Measured) (doors : DoorsRun) (accepted faults : ℕ) (status : Status)
+pub ends_since : (address : List ℕ) (terms : HallTerms) (console : Measured) (doors : DoorsRun) (accepted faults : ℕ) (status : Status)
     → accepted ≡ doors.accepted → faults ≡ doors.faults
-    → IsServiceEnd address workers connections console (since doors accepted faults) status → IsServiceEnd address workers connections console doors status
-ends_since address workers connections console doors accepted faults status same kept ends =
-    subst (λ (n : ℕ). IsServiceEnd address workers connections console (since doors doors.accepted n) status) kept
-    (subst (λ (n : ℕ). IsServiceEnd address workers connections console (since doors n faults) status) same ends)
+    → IsServiceEnd address terms console (since doors accepted faults) status → IsServiceEnd address terms console doors status
+ends_since address terms console doors accepted faults status same kept ends =
+    subst (λ (n : ℕ). IsServiceEnd address terms console (since doors doors.accepted n) status) kept
+    (subst (λ (n : ℕ). IsServiceEnd address terms console (since doors n faults) status) same ends)
 
 -- what holds of what is there
 pub some_of : {X : Type 0} (P : X → Type 0) (found : Option X) (x : X) → found ≡ Some x → IfSome found P → P x
@@ -150,29 +156,40 @@ pub text_as : {E : Type 0} (made : Result (String Global) E) (a b : List ℕ) �
 text_as (Ok text) a b same is = is ∙ same
 text_as (Err e) a b same is = tt
 
--- the same, where the numbers are told otherwise
-pub ends_named : (address : List ℕ) (workers workers' connections connections' : ℕ) (console : Measured) (doors : DoorsRun) (status : Status) → workers ≡ workers' → connections ≡ connections'
-    → IsServiceEnd address workers connections console doors status → IsServiceEnd address workers' connections' console doors status
-ends_named address workers workers' connections connections' console doors status is is' ends =
-    subst (λ (n : ℕ). IsServiceEnd address workers' n console doors status) is' (subst (λ (n : ℕ). IsServiceEnd address n connections console doors status) is ends)
-
 -- there is no venue, and this is printed
-pub service_stopped : (words : List (List ℕ)) (files : Option (List StoredFile)) (base folder address : List ℕ) (workers connections : ℕ) (answer : Printout)
-    → AsksService words base folder address workers connections → IfSome files (λ fs. NoVenue fs base folder answer.text answer.status)
-    → IfSome files (λ fs. Output words fs answer.text answer.status)
-service_stopped words None base folder address workers connections answer asks told = tt
-service_stopped words (Some fs) base folder address workers connections answer asks told = stops_serve base folder address workers connections asks.form asks.spelled told
+pub service_stopped : (words : List (List ℕ)) (files : Option (List StoredFile)) (service : ServiceOf) (answer : Printout) → Asks words (service_asked service)
+    → IfSome files (λ fs. NoVenue fs service.of.base.now service.of.folder.now answer.text answer.status) → IfSome files (λ fs. Output words fs answer.text answer.status)
+service_stopped words None service answer asks told = tt
+service_stopped words (Some fs) service answer asks told =
+    stops_serve service.of.base.now service.of.folder.now service.address.now service.workers service.connections asks.form asks.spelled told
 
--- the words ask for a command
-pub asks_service : (words : List (List ℕ)) (base folder address : List ℕ) (workers connections : ℕ) → AsksService words base folder address workers connections → AskFor words
-asks_service words base folder address workers connections asks = record { asked = Serve base folder address workers connections; form = asks.form; spelled = asks.spelled }
+-- what is ready of an opening is ready for its venue
+pub ready_for : (opening : Start) (service : ServiceOf) (venue : Venue) (base : List ℕ) (r : Result Ready OutOfMemory) → opening.base ≡ base → venue ≡ arc_value opening.venue
+    → IfOk r (IsReadyOf opening service) → IfOk r (IsReadyFor base venue service.address.now service.workers service.connections)
+ready_for opening service venue base (Err e) based same ready = tt
+ready_for opening service venue base (Ok r) based same ready = record {
+  terms = (record {
+    shared = opening.venue;
+    publishes = sym same;
+    opening = ready.opening_is;
+    base_is = ready.base_is ∙ based;
+    keys = ready.keys ∙ opening.keys ∙ ap (λ (v : Venue). v.settings.staff_keys) (sym same);
+    workers_are = ready.workers_are;
+    connections_are = ready.connections_are;
+  });
+  address_is = ready.address_is;
+}
 
--- and for no session, of which alone the headline speaks
+-- words of a service ask for no session, of which alone the headline speaks
 no_session : (words : List (List ℕ)) (base folder address base' folder' : List ℕ) (workers connections : ℕ) → words ≡ words_of (Serve base folder address workers connections)
     → words ≡ words_of (Session base' folder') → ⊥
 no_session words base folder address base' folder' workers connections is is' = let same : words_of (Serve base folder address workers connections) ≡ words_of (Session base' folder') = sym is ∙ is' in cc
 
-pub service_headline : (words : List (List ℕ)) (told : Option (List StoredFile)) (run : Run) (status : Status) (base folder address : List ℕ) (workers connections : ℕ)
-    → AsksService words base folder address workers connections → SaysHeadline words told run status
-service_headline words told run status base folder address workers connections asks base' folder' files came before form spelled is left written ends =
-    absurd (no_session words base folder address base' folder' workers connections asks.spelled spelled)
+pub service_headline : (words : List (List ℕ)) (told : Option (List StoredFile)) (run : Run) (status : Status) (service : ServiceOf) → Asks words (service_asked service)
+    → SaysHeadline words told run status
+service_headline words told run status service asks base' folder' files came before form spelled is left written ends =
+    absurd (no_session words service.of.base.now service.of.folder.now service.address.now base' folder' service.workers service.connections asks.spelled spelled)
+
+-- and they ask for doors
+pub asks_doors : (words : List (List ℕ)) (service : ServiceOf) → Asks words (service_asked service) → AskNoDoors words → ⊥
+asks_doors words service asks none = let same : true ≡ false = none (service_asked service) asks in absurd cc

@@ -5,7 +5,7 @@ use Rattle.venue_ports.specs.Files.{StoredFile}
 use Rattle.venue_commands.specs.declared.status.Status.{Status}
 use Rattle.venue_commands.specs.declared.status.Status.TheVariants.{Memory}
 use Rattle.venue_commands.specs.Codes.{status_code}
-use Rattle.venue_commands.specs.Commands.{IsNoSession, IsNoService}
+use Rattle.venue_commands.specs.Commands.{AskNoConsole, AskNoDoors}
 use Rattle.venue_commands.specs.Ends.{NothingDone}
 use Rattle.venue_commands.specs.Runs.{Run}
 use Rattle.venue_program.specs.declared.exit.WordsFault.{WordsFault}
@@ -27,10 +27,10 @@ ExitsAfter (Err OutOfMemory) files run doors number = NothingDone run × AreUnas
 
 -- nothing is read from the console, but where words were read that ask for a session
 abbrev pub LeavesAfter : Result (Vec (String Global) Global) WordsFault → Option (List ℕ) → Option (List ℕ) → Type 0
-LeavesAfter (Ok words) before now = IsNoSession (map string_bytes words.items) → now ≡ before
+LeavesAfter (Ok words) before now = AskNoConsole (map string_bytes words.items) → now ≡ before
 LeavesAfter (Err fault) before now = now ≡ before
 
 -- this holds, but where words were read that ask for a service
 abbrev pub KeepsAfter : Result (Vec (String Global) Global) WordsFault → Type 0 → Type 0
-KeepsAfter (Ok words) kept = IsNoService (map string_bytes words.items) → kept
+KeepsAfter (Ok words) kept = AskNoDoors (map string_bytes words.items) → kept
 KeepsAfter (Err fault) kept = kept

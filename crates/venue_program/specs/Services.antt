@@ -1,6 +1,9 @@
 -- What `serve BASE FOLDER ADDRESS WORKERS CONNECTIONS` does where the folder makes a venue.
 use Rattle.std.specs.Prelude.{◌≡◌, ◌⊎◌, ℕ, true, false, List, ◌++◌, Option, IfSome, codes}
+use Rattle.std.specs.Arc.{arc_value}
 use Rattle.std.specs.Fmt.{decimal}
+use Rattle.std.specs.declared.alloc.Global.{Global}
+use Rattle.std.specs.declared.sync.Arc.{Arc}
 use Rattle.line_forms.specs.Lines.{line}
 use Rattle.venue_ports.specs.Causes.{Rose}
 use Rattle.venue_ports.specs.Files.{StoredFile}
@@ -8,11 +11,12 @@ use Rattle.venue_service.specs.Venues.{SeenVenue as Venue}
 use Rattle.venue_service.specs.Ends.{Measured}
 use Rattle.venue_service.specs.declared.service.Counts.{Counts}
 use Rattle.venue_service.specs.Desks.{raised}
-use Rattle.venue_service.specs.Services.{AreCounts}
+use Rattle.venue_service.specs.Openings.{opening_history}
+use Rattle.venue_service.specs.Services.{AreCounts, HallTerms}
 use Rattle.venue_commands.specs.declared.status.Status.{Status}
 use Rattle.venue_commands.specs.declared.status.Status.TheVariants.{Done, Fault, Memory}
 use Rattle.venue_commands.specs.Checked.{HasVenue}
-use Rattle.venue_commands.specs.Commands.{Serve, IsAsked, words_of}
+use Rattle.venue_commands.specs.Commands.{Serve, Asks}
 use Rattle.venue_commands.specs.Runs.{Run, Wrote, IsUnread}
 use Rattle.venue_commands.specs.Served.{console_of}
 use Rattle.venue_program.specs.Doors.{DoorsRun, AreBoundAt, NobodyCame}
@@ -45,40 +49,52 @@ pub record IsToldInPart (console : Measured) (text : List ℕ) : Type 0 where
   pub wrote : Wrote console.written_before console.written_after front
   pub cause : Rose console.faults_before console.faults_after
 
+-- the hall is the venue's: its history begins with the venue's publication, by worker 0, its folders are below the base, and its staff has
+-- the keys of the venue's settings
+pub record AreTerms (base : List ℕ) (venue : Venue) (workers connections : ℕ) (terms : HallTerms) : Type 0 where
+  pub shared : Arc Venue Global
+  pub publishes : arc_value shared ≡ venue
+  pub opening : terms.opening ≡ opening_history shared
+  pub base_is : terms.base ≡ base
+  pub keys : terms.keys ≡ venue.settings.staff_keys
+  pub workers_are : terms.workers ≡ workers
+  pub connections_are : terms.connections ≡ connections
+
 -- so many connections were accepted as are counted, and an accept failed where it is said
-pub record WereServed (workers connections : ℕ) (doors : DoorsRun) (counts : Counts) : Type 0 where
-  pub counts_are : AreCounts workers connections 1 counts
+pub record WereServed (terms : HallTerms) (doors : DoorsRun) (counts : Counts) : Type 0 where
+  pub counts_are : AreCounts terms.workers terms.connections terms.opening counts
   pub accepted : doors.accepted_now ≡ raised counts.sessions doors.accepted
   pub sound : counts.failed ≡ false → doors.faults_now ≡ doors.faults
   pub failed : counts.failed ≡ true → Rose doors.faults doors.faults_now
 
 -- how a service ends: the bind fails; the address is told, and the console fails over it, or memory runs out; or connections are
 -- served, and the closing line tells of them, but where the console fails over it or memory runs out
-pub data IsServiceEnd (address : List ℕ) (workers connections : ℕ) (console : Measured) (doors : DoorsRun) : Status → Type 0 where
+pub data IsServiceEnd (address : List ℕ) (terms : HallTerms) (console : Measured) (doors : DoorsRun) : Status → Type 0 where
   unbound : doors.accepted_now ≡ doors.accepted → Rose doors.faults doors.faults_now → IsTold console door_fault ⊎ IsToldInPart console door_fault
-      → IsServiceEnd address workers connections console doors Fault
-  unheard : NobodyCame doors → IsToldInPart console (listening_line address) → IsServiceEnd address workers connections console doors Fault
-  unserved : NobodyCame doors → IsTold console (listening_line address) → IsServiceEnd address workers connections console doors Memory
-  served : (counts : Counts) → WereServed workers connections doors counts → counts.failed ≡ false → IsTold console (service_text address counts)
-      → IsServiceEnd address workers connections console doors Done
-  failing : (counts : Counts) → WereServed workers connections doors counts → counts.failed ≡ true → IsTold console (service_text address counts)
-      → IsServiceEnd address workers connections console doors Fault
-  cut_short : (counts : Counts) → WereServed workers connections doors counts → IsToldInPart console (service_text address counts)
-      → IsServiceEnd address workers connections console doors Fault
-  untold : (counts : Counts) → WereServed workers connections doors counts → IsTold console (listening_line address)
-      → IsServiceEnd address workers connections console doors Memory
+      → IsServiceEnd address terms console doors Fault
+  unheard : NobodyCame doors → IsToldInPart console (listening_line address) → IsServiceEnd address terms console doors Fault
+  unserved : NobodyCame doors → IsTold console (listening_line address) → IsServiceEnd address terms console doors Memory
+  served : (counts : Counts) → WereServed terms doors counts → counts.failed ≡ false → IsTold console (service_text address counts)
+      → IsServiceEnd address terms console doors Done
+  failing : (counts : Counts) → WereServed terms doors counts → counts.failed ≡ true → IsTold console (service_text address counts)
+      → IsServiceEnd address terms console doors Fault
+  cut_short : (counts : Counts) → WereServed terms doors counts → IsToldInPart console (service_text address counts)
+      → IsServiceEnd address terms console doors Fault
+  untold : (counts : Counts) → WereServed terms doors counts → IsTold console (listening_line address)
+      → IsServiceEnd address terms console doors Memory
 
--- the words ask for a service, the folder makes a venue, and the doors were bound once, at the address
+-- the words ask for a service, the folder makes a venue, the hall is that venue's, and the doors were bound once, at the address
 pub record Service (words : List (List ℕ)) (files : Option (List StoredFile)) (run : Run) (doors : DoorsRun) (status : Status) : Type 0 where
   pub base : List ℕ
   pub folder : List ℕ
   pub address : List ℕ
   pub workers : ℕ
   pub connections : ℕ
-  pub form : IsAsked (Serve base folder address workers connections)
-  pub spelled : words ≡ words_of (Serve base folder address workers connections)
+  pub asks : Asks words (Serve base folder address workers connections)
   pub venue : Venue
   pub made : IfSome files (λ fs. HasVenue fs base folder venue)
+  pub terms : HallTerms
+  pub terms_are : AreTerms base venue workers connections terms
   pub unread : IsUnread run
   pub bound : AreBoundAt address doors
-  pub ends : IsServiceEnd address workers connections (console_of run) doors status
+  pub ends : IsServiceEnd address terms (console_of run) doors status

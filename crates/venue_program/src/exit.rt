@@ -3,7 +3,7 @@
 ghost use Rattle.std.specs.Prelude.{◌≡◌, ◌≤◌, ◌↔◌, false};
 ghost use Rattle.std.specs.Process.{exit_status};
 ghost use Rattle.venue_commands.specs.Codes.{status_code};
-ghost use Rattle.venue_commands.specs.Runs.{run_between};
+ghost use Rattle.venue_commands.specs.Runs.{folders_between, run_between};
 ghost use Rattle.venue_program.specs.Doors.{doors_between};
 ghost use Rattle.venue_program.specs.Exits.{ExitsAfter, KeepsAfter, LeavesAfter};
 
@@ -44,17 +44,11 @@ pub fn words_fault(kind: ErrorKind) -> WordsFault
     }
 }
 
-// The number of an outcome's status.
-fn exit_of<F, D>(outcome: Outcome<F, D>) -> Exit<F, D>
-    ensures code { exit_status result.code ≡ status_code outcome.status }
-    ensures folders { result.folders ≡ outcome.folders }
-    ensures doors { result.doors ≡ outcome.doors }
+// The number of a status, as the system is handed it.
+fn code_of(status: Status) -> ExitCode
+    ensures { exit_status result ≡ status_code status }
 {
-    Exit {
-        code: ExitCode::from(outcome.status.code()),
-        folders: outcome.folders,
-        doors: outcome.doors,
-    }
+    ExitCode::from(status.code())
 }
 
 /// Runs the command that the words name, where they were read, and gives the number with which the process ends.
@@ -68,19 +62,42 @@ pub fn exit_after<F: Folders + Send, D: Doors + Send, C: Stream, R: Threads + Wa
 ) -> Exit<F, D>
     requires { D.ready doors ≡ false }
     ensures exits { ExitsAfter words (F.files folders)
-        (run_between C.Stream console.old console.new (F.faults folders) (F.faults result.folders))
+        (run_between C.Stream console.old console.new (folders_between F.Folders folders result.folders))
         (doors_between D.Doors doors result.doors) (exit_status result.code) }
     ensures files { F.files result.folders ≡ F.files folders }
     ensures doors { KeepsAfter words (result.doors ≡ doors) }
     ensures left { LeavesAfter words (C.left console.old) (C.left console.new) }
     ensures folders_later { F.faults folders ≤ F.faults result.folders }
+    ensures doors_later { D.faults doors ≤ D.faults result.doors }
     ensures console_later { C.faults console.old ≤ C.faults console.new }
 {
     match words {
-        Ok(words) => exit_of(run(rt, alloc, words.as_slice(), folders, doors, console)),
-        Err(WordsFault::NotText) => exit_of(run(rt, alloc, &[], folders, doors, console)),
+        Ok(words) => {
+            let Outcome {
+                status,
+                folders,
+                doors,
+            } = run(rt, alloc, words.as_slice(), folders, doors, console);
+            Exit {
+                code: code_of(status),
+                folders,
+                doors,
+            }
+        }
+        Err(WordsFault::NotText) => {
+            let Outcome {
+                status,
+                folders,
+                doors,
+            } = run(rt, alloc, &[], folders, doors, console);
+            Exit {
+                code: code_of(status),
+                folders,
+                doors,
+            }
+        }
         Err(WordsFault::OutOfMemory) => Exit {
-            code: ExitCode::from(Status::Memory.code()),
+            code: code_of(Status::Memory),
             folders,
             doors,
         },

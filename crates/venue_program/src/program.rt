@@ -1,9 +1,9 @@
 //! The whole program, over what is handed in.
 
 ghost use Rattle.std.specs.Prelude.{◌≡◌, ◌≤◌, map, string_bytes, false};
-ghost use Rattle.venue_commands.specs.Commands.{IsNoSession, IsNoService};
+ghost use Rattle.venue_commands.specs.Commands.{AskNoConsole, AskNoDoors};
 ghost use Rattle.venue_commands.specs.Headlines.{SaysHeadline};
-ghost use Rattle.venue_commands.specs.Runs.{run_between};
+ghost use Rattle.venue_commands.specs.Runs.{folders_between, run_between};
 ghost use Rattle.venue_program.specs.Doors.{doors_between};
 ghost use Rattle.venue_program.specs.Ends.{RunEnds};
 
@@ -12,7 +12,7 @@ use crate::serve_command::serve;
 use std::alloc::Global;
 use std::sync::Wait;
 use std::thread::Threads;
-use venue_commands::{run_alone, service_of};
+use venue_commands::{Command, read_command, run_alone};
 use venue_ports::{Doors, Folders, Stream};
 
 /// Runs the command that the words name, and hands the folders and the doors back. It waits in the doors, in their connections and
@@ -27,31 +27,21 @@ pub fn run<F: Folders + Send, D: Doors + Send, C: Stream, R: Threads + Wait + Sy
 ) -> Outcome<F, D>
     requires { D.ready doors ≡ false }
     ensures ends { RunEnds (map string_bytes words.now) (F.files folders)
-        (run_between C.Stream console.old console.new (F.faults folders) (F.faults result.folders))
+        (run_between C.Stream console.old console.new (folders_between F.Folders folders result.folders))
         (doors_between D.Doors doors result.doors) result.status }
     ensures headline { SaysHeadline (map string_bytes words.now) (F.files folders)
-        (run_between C.Stream console.old console.new (F.faults folders) (F.faults result.folders)) result.status }
+        (run_between C.Stream console.old console.new (folders_between F.Folders folders result.folders)) result.status }
     ensures files { F.files result.folders ≡ F.files folders }
-    ensures doors { IsNoService (map string_bytes words.now) → result.doors ≡ doors }
-    ensures left { IsNoSession (map string_bytes words.now) → C.left console.new ≡ C.left console.old }
+    ensures doors { AskNoDoors (map string_bytes words.now) → result.doors ≡ doors }
+    ensures left { AskNoConsole (map string_bytes words.now) → C.left console.new ≡ C.left console.old }
     ensures folders_later { F.faults folders ≤ F.faults result.folders }
+    ensures doors_later { D.faults doors ≤ D.faults result.doors }
     ensures console_later { C.faults console.old ≤ C.faults console.new }
 {
-    match service_of(words) {
-        Some((base, folder, address, workers, connections)) => serve(
-            rt,
-            alloc,
-            base,
-            folder,
-            address,
-            workers,
-            connections,
-            folders,
-            doors,
-            console,
-        ),
-        None => {
-            let (status, folders) = run_alone(alloc, words, folders, console);
+    match read_command(words) {
+        Command::Serve(service) => serve(rt, alloc, service, folders, doors, console),
+        Command::Local(command) => {
+            let (status, folders) = run_alone(alloc, command, folders, console);
             Outcome {
                 status,
                 folders,

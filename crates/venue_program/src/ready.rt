@@ -5,27 +5,23 @@ ghost use Rattle.std.specs.Arc.{arc_value};
 ghost use Rattle.venue_service.specs.Openings.{opening_history};
 ghost use Rattle.venue_service.specs.Copied.{entries_in};
 ghost use Rattle.venue_program.specs.Services.{listening_line};
+ghost use Rattle.venue_program.specs.Steps.{IsReadyOf};
 
 use std::alloc::{AllocError, Global};
 use std::sync::Wait;
-use venue_commands::Start;
-use venue_service::{Copies, opening_entries};
-use venue_types::{OutOfMemory, Text};
-use venue_wire::Front;
+use venue_commands::{ServiceOf, Start};
+use venue_service::{Copies, Plan, opening_entries};
+use venue_types::OutOfMemory;
 
-/// A history with one entry over a base, what judges the messages of its sessions, the line that tells the address, and how many
-/// workers and connections there are to be.
+/// The plan of a service, its address, and the line that tells it.
 #[derive(Drop)]
-pub(crate) struct Ready {
-    pub copies: Copies,
-    pub base: Text,
-    pub front: Front,
+pub(crate) struct Ready<'w> {
+    pub plan: Plan,
+    pub address: &'w str,
     pub listening: String,
-    pub workers: u8,
-    pub connections: u32,
-    pub ghost one: { length (entries_in copies) ≡ 1 },
-    pub ghost some: { 1 ≤ workers },
-    pub ghost few: { workers ≤ 16 },
+    pub ghost line: { string_bytes listening ≡ listening_line address.now },
+    pub ghost some: { 1 ≤ plan.workers },
+    pub ghost few: { plan.workers ≤ 16 },
 }
 
 // The line that tells the address.
@@ -35,55 +31,64 @@ fn listening_text(alloc: Global, address: &str) -> Result<String, AllocError>
     format!(in alloc; "listening {address}\n")
 }
 
-fn copies_of<R: Wait>(
+// The plan of a service. The files that the venue was made of are let go once its history is made.
+fn plan_of<R: Wait>(
     rt: &R,
     alloc: Global,
     opening: Start,
-    listening: String,
-    workers: u8,
-    connections: u32,
-) -> Result<Ready, OutOfMemory>
-    requires some { 1 ≤ workers }
-    requires few { workers ≤ 16 }
-    ensures listening { IfOk result (λ ready. ready.listening ≡ listening) }
-    ensures workers { IfOk result (λ ready. ready.workers ≡ workers) }
-    ensures connections { IfOk result (λ ready. ready.connections ≡ connections) }
+    service: ServiceOf<'_>,
+) -> Result<Plan, OutOfMemory>
+    ensures opening { IfOk result (λ plan. entries_in plan.copies ≡ opening_history opening.venue) }
+    ensures base { IfOk result (λ plan. plan.base ≡ opening.base) }
+    ensures keys { IfOk result (λ plan. plan.front ≡ opening.front) }
+    ensures workers { IfOk result (λ plan. plan.workers ≡ service.entry.workers) }
+    ensures connections { IfOk result (λ plan. plan.connections ≡ service.entry.connections) }
 {
     let Start {
         base,
+        files: _files,
         venue,
         settings,
         front,
     } = opening;
     let entries = opening_entries(alloc, venue)?;
-    match Copies::new(rt, alloc, settings, entries, workers) {
-        Ok(copies) => Ok(Ready {
+    match Copies::new(rt, alloc, settings, entries, service.workers) {
+        Ok(copies) => Ok(Plan {
             copies,
             base,
             front,
-            listening,
-            workers,
-            connections,
+            workers: service.workers,
+            connections: service.connections,
         }),
         Err(OutOfMemory) => Err(OutOfMemory),
     }
 }
 
-/// What a service is opened with, at an address.
-pub(crate) fn ready_of<R: Wait>(
+// A plan whose workers are 1 to 16, its address and its line.
+fn ready_with(plan: Plan, address: &str, listening: String) -> Ready<'_>
+    requires some { 1 ≤ plan.workers }
+    requires few { plan.workers ≤ 16 }
+    requires line { string_bytes listening ≡ listening_line address.now }
+    ensures plan { result.plan ≡ plan }
+    ensures address { result.address.now ≡ address.entry.now }
+{
+    Ready {
+        plan,
+        address,
+        listening,
+    }
+}
+
+/// What a service is opened with.
+pub(crate) fn ready_of<'w, R: Wait>(
     rt: &R,
     alloc: Global,
     opening: Start,
-    address: &str,
-    workers: u8,
-    connections: u32,
-) -> Result<Ready, OutOfMemory>
-    requires some { 1 ≤ workers }
-    requires few { workers ≤ 16 }
-    ensures listening { IfOk result (λ ready. string_bytes ready.listening ≡ listening_line address.now) }
-    ensures workers { IfOk result (λ ready. ready.workers ≡ workers) }
-    ensures connections { IfOk result (λ ready. ready.connections ≡ connections) }
+    service: ServiceOf<'w>,
+) -> Result<Ready<'w>, OutOfMemory>
+    ensures ready { IfOk result (IsReadyOf opening service.entry) }
 {
-    let listening = listening_text(alloc, address)?;
-    copies_of(rt, alloc, opening, listening, workers, connections)
+    let listening = listening_text(alloc, service.address)?;
+    let plan = plan_of(rt, alloc, opening, service)?;
+    Ok(ready_with(plan, service.address, listening))
 }

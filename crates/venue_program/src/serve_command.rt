@@ -1,19 +1,23 @@
 //! The command `serve`: binds, prints the address, serves at a shared hall, and prints the result.
 
-ghost use Rattle.std.specs.Prelude.{◌≡◌, ◌⊎◌, ◌≤◌, ℕ, List, ◌++◌, Option, codes, length, string_bytes, true, false, IfOk, IfSome, IfNone};
+ghost use Rattle.std.specs.Prelude.{◌≡◌, ◌⊎◌, ◌≤◌, ℕ, List, ◌++◌, Option, codes, string_bytes, true, false, IfOk, IfSome, IfNone};
 ghost use Rattle.std.specs.Fmt.{decimal};
 ghost use Rattle.venue_ports.specs.Files.{StoredFile};
 ghost use Rattle.venue_ports.specs.Causes.{Rose};
+ghost use Rattle.venue_service.specs.Copied.{entries_in};
 ghost use Rattle.venue_service.specs.Ends.{connection_between};
 ghost use Rattle.venue_service.specs.Desks.{raised};
-ghost use Rattle.venue_service.specs.Services.{AreCounts};
-ghost use Rattle.venue_commands.specs.Openings.{IsOpeningOf};
-ghost use Rattle.venue_commands.specs.Runs.{run_between};
-ghost use Rattle.venue_commands.specs.Steps.{AsksService};
+ghost use Rattle.venue_service.specs.Services.{AreCounts, terms_of};
+ghost use Rattle.venue_service.specs.Venues.{SeenVenue as Venue};
+ghost use Rattle.venue_commands.specs.Checked.{HasVenue};
+ghost use Rattle.venue_commands.specs.Commands.{Serve, Asks};
+ghost use Rattle.venue_commands.specs.ReadCommands.{service_asked};
+ghost use Rattle.venue_commands.specs.Runs.{folders_between, run_between};
+ghost use Rattle.venue_commands.specs.Steps.{IsAnswer};
 ghost use Rattle.venue_program.specs.Doors.{AreBoundAt, doors_between};
 ghost use Rattle.venue_program.specs.Ends.{RunEnds};
-ghost use Rattle.venue_program.specs.Services.{door_fault, listening_line, closing_line, IsTold, IsToldInPart, IsServiceEnd};
-ghost use Rattle.venue_program.specs.Steps.{IsClosing, IsServedOn};
+ghost use Rattle.venue_program.specs.Services.{door_fault, closing_line, IsTold, IsToldInPart, IsServiceEnd};
+ghost use Rattle.venue_program.specs.Steps.{IsClosing, IsReadyFor, IsServedOn};
 
 use crate::outcome::Outcome;
 use crate::ready::{Ready, ready_of};
@@ -22,7 +26,7 @@ use std::marker::Brand;
 use std::sync::Wait;
 use std::sync::ledger::Blank;
 use std::thread::Threads;
-use venue_commands::{Reached, Start, Status, print, print_fault, reach_folder, write_all};
+use venue_commands::{Printout, Reached, ServiceOf, Status, reach_folder, tell, write_all};
 use venue_ports::{Doors, Folders, ReadFault, Stream};
 use venue_service::{Counts, Service, serve_hall};
 use venue_types::OutOfMemory;
@@ -31,14 +35,15 @@ use venue_types::OutOfMemory;
 fn serve_named<F: Folders + Send, D: Doors + Send, R: Threads + Wait + Sync>(
     rt: &R,
     alloc: Global,
-    ready: Ready,
+    ready: Ready<'_>,
     folders: F,
     doors: D,
 ) -> Service<F, D>
     requires { D.ready doors ≡ true }
-    ensures counts { IfSome result.counts (AreCounts ready.workers ready.connections 1) }
+    ensures counts { IfSome result.counts (AreCounts ready.entry.plan.workers ready.entry.plan.connections (entries_in ready.entry.plan.copies)) }
     ensures folders { F.files result.folders ≡ F.files folders }
     ensures folders_later { F.faults folders ≤ F.faults result.folders }
+    ensures doors_later { D.faults doors ≤ D.faults result.doors }
     ensures binds { D.binds result.doors ≡ D.binds doors }
     ensures bound { D.bound result.doors ≡ D.bound doors }
     ensures accepted { IfSome result.counts (λ counts. D.accepted result.doors ≡ raised counts.sessions (D.accepted doors)) }
@@ -47,26 +52,12 @@ fn serve_named<F: Folders + Send, D: Doors + Send, R: Threads + Wait + Sync>(
     ensures unserved { IfNone result.counts (result.doors ≡ doors) }
 {
     let Ready {
-        copies,
-        base,
-        front,
+        plan,
+        address: _address,
         listening: _listening,
-        workers,
-        connections,
     } = ready;
-    let blank = Blank::new(u64::from(workers));
-    serve_hall::<Brand, F, D, R>(
-        rt,
-        alloc,
-        blank,
-        copies,
-        folders,
-        base,
-        doors,
-        &front,
-        workers,
-        connections,
-    )
+    let blank = Blank::new(u64::from(plan.workers));
+    serve_hall::<Brand, F, D, R>(rt, alloc, blank, plan, folders, doors)
 }
 
 // A word, a number behind it, and what follows.
@@ -118,13 +109,13 @@ fn close<C: Stream>(alloc: Global, console: &mut C, counts: Counts) -> Status
 fn serve_told<F: Folders + Send, D: Doors + Send, C: Stream, R: Threads + Wait + Sync>(
     rt: &R,
     alloc: Global,
-    ready: Ready,
+    ready: Ready<'_>,
     folders: F,
     doors: D,
     console: &mut C,
 ) -> Outcome<F, D>
     requires { D.ready doors ≡ true }
-    ensures ends { (binds : Option ℕ) (bound : Option (List ℕ)) → IsServedOn ready.workers ready.connections
+    ensures ends { (binds : Option ℕ) (bound : Option (List ℕ)) → IsServedOn (terms_of ready.entry.plan)
         (connection_between C.Stream console.old console.new)
         (record (doors_between D.Doors doors result.doors) { binds = binds; bound = bound }) result.status }
     ensures binds { D.binds result.doors ≡ D.binds doors }
@@ -132,6 +123,7 @@ fn serve_told<F: Folders + Send, D: Doors + Send, C: Stream, R: Threads + Wait +
     ensures files { F.files result.folders ≡ F.files folders }
     ensures left { C.left console.new ≡ C.left console.old }
     ensures folders_later { F.faults folders ≤ F.faults result.folders }
+    ensures doors_later { D.faults doors ≤ D.faults result.doors }
     ensures console_later { C.faults console.old ≤ C.faults console.new }
 {
     let Service {
@@ -160,15 +152,13 @@ fn serve_told<F: Folders + Send, D: Doors + Send, C: Stream, R: Threads + Wait +
 fn serve_bound<F: Folders + Send, D: Doors + Send, C: Stream, R: Threads + Wait + Sync>(
     rt: &R,
     alloc: Global,
-    ready: Ready,
-    address: &str,
+    ready: Ready<'_>,
     folders: F,
     doors: D,
     console: &mut C,
 ) -> Outcome<F, D>
     requires bound { D.ready doors ≡ true }
-    requires line { string_bytes ready.listening ≡ listening_line address.now }
-    ensures ends { (binds : Option ℕ) (bound : Option (List ℕ)) → IsServiceEnd address.now ready.workers ready.connections
+    ensures ends { (binds : Option ℕ) (bound : Option (List ℕ)) → IsServiceEnd ready.entry.address.now (terms_of ready.entry.plan)
         (connection_between C.Stream console.old console.new)
         (record (doors_between D.Doors doors result.doors) { binds = binds; bound = bound }) result.status }
     ensures binds { D.binds result.doors ≡ D.binds doors }
@@ -176,6 +166,7 @@ fn serve_bound<F: Folders + Send, D: Doors + Send, C: Stream, R: Threads + Wait 
     ensures files { F.files result.folders ≡ F.files folders }
     ensures left { C.left console.new ≡ C.left console.old }
     ensures folders_later { F.faults folders ≤ F.faults result.folders }
+    ensures doors_later { D.faults doors ≤ D.faults result.doors }
     ensures console_later { C.faults console.old ≤ C.faults console.new }
 {
     match write_all(console, ready.listening.as_bytes()) {
@@ -204,27 +195,25 @@ fn tell_unbound<C: Stream>(console: &mut C) -> Status
 fn serve_ready<F: Folders + Send, D: Doors + Send, C: Stream, R: Threads + Wait + Sync>(
     rt: &R,
     alloc: Global,
-    ready: Ready,
-    address: &str,
+    ready: Ready<'_>,
     folders: F,
     doors: D,
     console: &mut C,
 ) -> Outcome<F, D>
     requires unbound { D.ready doors ≡ false }
-    requires short { length address.now ≤ 256 }
-    requires line { string_bytes ready.listening ≡ listening_line address.now }
-    ensures ends { IsServiceEnd address.now ready.workers ready.connections
+    ensures ends { IsServiceEnd ready.entry.address.now (terms_of ready.entry.plan)
         (connection_between C.Stream console.old console.new)
         (doors_between D.Doors doors result.doors) result.status }
-    ensures bound { AreBoundAt address.now (doors_between D.Doors doors result.doors) }
+    ensures bound { AreBoundAt ready.entry.address.now (doors_between D.Doors doors result.doors) }
     ensures files { F.files result.folders ≡ F.files folders }
     ensures left { C.left console.new ≡ C.left console.old }
     ensures folders_later { F.faults folders ≤ F.faults result.folders }
+    ensures doors_later { D.faults doors ≤ D.faults result.doors }
     ensures console_later { C.faults console.old ≤ C.faults console.new }
 {
     let mut doors = doors;
-    match doors.bind(address) {
-        Ok(()) => serve_bound(rt, alloc, ready, address, folders, doors, console),
+    match doors.bind(ready.address) {
+        Ok(()) => serve_bound(rt, alloc, ready, folders, doors, console),
         Err(_) => {
             let status = tell_unbound(console);
             Outcome {
@@ -240,30 +229,24 @@ fn serve_ready<F: Folders + Send, D: Doors + Send, C: Stream, R: Threads + Wait 
 fn serve_opening<F: Folders + Send, D: Doors + Send, C: Stream, R: Threads + Wait + Sync>(
     rt: &R,
     alloc: Global,
-    opening: Start,
-    base: &str,
-    folder: &str,
-    address: &str,
-    workers: u8,
-    connections: u32,
+    ready: Result<Ready<'_>, OutOfMemory>,
     folders: F,
     doors: D,
     console: &mut C,
 ) -> Outcome<F, D>
     requires unbound { D.ready doors ≡ false }
-    requires short { length address.now ≤ 256 }
-    requires some { 1 ≤ workers }
-    requires few { workers ≤ 16 }
-    ensures ends { (words : List (List ℕ)) (files : Option (List StoredFile)) (faults : ℕ) → AsksService words base.now folder.now address.now workers connections
-        → IsOpeningOf files base.now folder.now opening → F.faults folders ≡ faults
-        → RunEnds words files (run_between C.Stream console.old console.new faults (F.faults result.folders)) (doors_between D.Doors doors result.doors) result.status }
+    ensures ends { (words : List (List ℕ)) (files : Option (List StoredFile)) (before : F) (base folder address : List ℕ) (workers connections : ℕ) (venue : Venue)
+        → Asks words (Serve base folder address workers connections) → IfSome files (λ fs. HasVenue fs base folder venue)
+        → IfOk ready.entry (IsReadyFor base venue address workers connections) → F.faults folders ≡ F.faults before
+        → RunEnds words files (run_between C.Stream console.old console.new (folders_between F.Folders before result.folders)) (doors_between D.Doors doors result.doors) result.status }
     ensures files { F.files result.folders ≡ F.files folders }
     ensures left { C.left console.new ≡ C.left console.old }
     ensures folders_later { F.faults folders ≤ F.faults result.folders }
+    ensures doors_later { D.faults doors ≤ D.faults result.doors }
     ensures console_later { C.faults console.old ≤ C.faults console.new }
 {
-    match ready_of(rt, alloc, opening, address, workers, connections) {
-        Ok(ready) => serve_ready(rt, alloc, ready, address, folders, doors, console),
+    match ready {
+        Ok(ready) => serve_ready(rt, alloc, ready, folders, doors, console),
         Err(OutOfMemory) => Outcome {
             status: Status::Memory,
             folders,
@@ -272,66 +255,54 @@ fn serve_opening<F: Folders + Send, D: Doors + Send, C: Stream, R: Threads + Wai
     }
 }
 
-/// Answers words that ask for a service: reads the folder, and serves, or prints what stops it.
+// Tells what stops a service, or why there is nothing to tell.
+fn stop<F: Folders, D: Doors, C: Stream>(
+    console: &mut C,
+    answer: Result<Printout, ReadFault>,
+    folders: F,
+    doors: D,
+) -> Outcome<F, D>
+    ensures ends { (words : List (List ℕ)) (files : Option (List StoredFile)) (before : F) → IsAnswer words files (folders_between F.Folders before folders) answer
+        → RunEnds words files (run_between C.Stream console.old console.new (folders_between F.Folders before result.folders)) (doors_between D.Doors doors result.doors) result.status }
+    ensures folders { result.folders ≡ folders }
+    ensures doors { result.doors ≡ doors }
+    ensures left { C.left console.new ≡ C.left console.old }
+    ensures console_later { C.faults console.old ≤ C.faults console.new }
+{
+    let status = tell(console, answer);
+    Outcome {
+        status,
+        folders,
+        doors,
+    }
+}
+
+/// Answers `serve BASE FOLDER ADDRESS WORKERS CONNECTIONS`: reads the folder, and serves, or prints what stops it.
 pub(crate) fn serve<F: Folders + Send, D: Doors + Send, C: Stream, R: Threads + Wait + Sync>(
     rt: &R,
     alloc: Global,
-    base: &str,
-    folder: &str,
-    address: &str,
-    workers: u8,
-    connections: u32,
+    service: ServiceOf<'_>,
     folders: F,
     doors: D,
     console: &mut C,
 ) -> Outcome<F, D>
     requires unbound { D.ready doors ≡ false }
-    requires short { length address.now ≤ 256 }
-    requires some { 1 ≤ workers }
-    requires few { workers ≤ 16 }
-    ensures ends { (words : List (List ℕ)) → AsksService words base.now folder.now address.now workers connections → RunEnds words (F.files folders)
-        (run_between C.Stream console.old console.new (F.faults folders) (F.faults result.folders))
+    ensures ends { (words : List (List ℕ)) → Asks words (service_asked service.entry) → RunEnds words (F.files folders)
+        (run_between C.Stream console.old console.new (folders_between F.Folders folders result.folders))
         (doors_between D.Doors doors result.doors) result.status }
     ensures files { F.files result.folders ≡ F.files folders }
     ensures left { C.left console.new ≡ C.left console.old }
     ensures folders_later { F.faults folders ≤ F.faults result.folders }
+    ensures doors_later { D.faults doors ≤ D.faults result.doors }
     ensures console_later { C.faults console.old ≤ C.faults console.new }
 {
     let mut folders = folders;
-    match reach_folder(alloc, base, folder, &mut folders) {
-        Ok(Reached::Opened(opening)) => serve_opening(
-            rt,
-            alloc,
-            opening,
-            base,
-            folder,
-            address,
-            workers,
-            connections,
-            folders,
-            doors,
-            console,
-        ),
-        Ok(Reached::Printed(answer)) => {
-            let status = print(console, &answer);
-            Outcome {
-                status,
-                folders,
-                doors,
-            }
+    match reach_folder(alloc, service.of, &mut folders) {
+        Ok(Reached::Opened(opening)) => {
+            let ready = ready_of(rt, alloc, opening, service);
+            serve_opening(rt, alloc, ready, folders, doors, console)
         }
-        Err(ReadFault::Failed) => {
-            let status = print_fault(console);
-            Outcome {
-                status,
-                folders,
-                doors,
-            }
-        }
-        Err(ReadFault::OutOfMemory) => Outcome {
-            status: Status::Memory,
-            folders,
-            doors,
-        },
+        Ok(Reached::Printed(answer)) => stop(console, Ok(answer), folders, doors),
+        Err(fault) => stop(console, Err(fault), folders, doors),
     }
 }

@@ -1,9 +1,11 @@
 -- What a service comes to, from its first connection to the close of its hall.
 use Rattle.std.specs.Prelude.{◌≡◌, ℕ, ◌<◌, ◌≤◌, List, length, false}
+use Rattle.shared_hall.specs.Copied.{entries_in}
 use Rattle.shared_hall.specs.Entry.{Entry}
 use Rattle.shared_hall.specs.Facts.{Facts}
 use Rattle.shared_hall.specs.Offices.{IsOneHistory}
 use Rattle.venue_service.specs.declared.service.Counts.{Counts}
+use Rattle.venue_service.specs.declared.service.Plan.{Plan}
 
 -- the counts that are told at the close: one to so many workers, each with a pass; the sessions that were accepted, all of the
 -- connections unless an accept has failed; and the versions and changes of the one history that the hall was opened with and its
@@ -16,3 +18,16 @@ pub record AreCounts (workers connections : ℕ) (opening : List Entry) (counts 
   pub sessions : counts.sessions ≤ connections
   pub history : IsOneHistory opening passes counts.versions counts.changes
   pub all : counts.failed ≡ false → counts.sessions ≡ connections
+
+-- what a hall is opened with: the entries of its history, the base of its folders, and the keys of its staff; and what it is to serve: how
+-- many workers at most, and how many connections
+pub record HallTerms : Type 0 where
+  pub opening : List Entry
+  pub base : List ℕ
+  pub keys : List (List ℕ)
+  pub workers : ℕ
+  pub connections : ℕ
+
+-- the terms of a plan
+abbrev pub terms_of : Plan → HallTerms
+terms_of plan = record { opening = entries_in plan.copies; base = plan.base; keys = plan.front; workers = plan.workers; connections = plan.connections }

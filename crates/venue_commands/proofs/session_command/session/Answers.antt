@@ -9,7 +9,7 @@ pub returns-in-Ok-Opened-clause-ends : goal.returns-in-Ok-Opened-clause-ends
 returns-in-Ok-Opened-clause-ends g c words asks =
     let reached = c.in-Ok-Opened.ensures in
     let opens = rw c.in-Ok-Opened.field-0-is at reached.told in
-    c.serve_console.ensures.ends words (g.F.Folders.files c.args.folders) (g.F.Folders.faults c.args.folders)
+    c.serve_console.ensures.ends words (g.F.Folders.files c.args.folders) c.args.folders
     (record { base = c.args.of.base.now; folder = c.args.of.folder.now; asks = asks; opens = opens }) reached.same reached.cause.kept
 
 pub returns-in-Ok-Opened-clause-files : goal.returns-in-Ok-Opened-clause-files
@@ -23,12 +23,11 @@ returns-in-Ok-Printed-clause-ends g c words asks =
     let reached = c.in-Ok-Printed.ensures in
     let stops = rw c.in-Ok-Printed.field-0-is at reached.told in
     let plain = rw c.in-Ok-Printed.field-0-is at reached.plain in
-    c.print_answer.ensures.ends words (g.F.Folders.files c.args.folders) (g.F.Folders.faults c.args.folders)
+    c.print_answer.ensures.ends words (g.F.Folders.files c.args.folders) c.args.folders
     (plain, session_printed words (g.F.Folders.files c.args.folders) c.args.of.base.now c.args.of.folder.now c.in-Ok-Printed.answer asks stops, reached.cause.kept)
 
 pub returns-in-Err-clause-ends : goal.returns-in-Err-clause-ends
 returns-in-Err-clause-ends g c words asks =
     let files = g.F.Folders.files c.args.folders in
-    let before = g.F.Folders.faults c.args.folders in
-    c.print_answer-in-Err.ensures.ends words files before
-    (no_answer words files before _ c.in-Err.fault (record { asked = Session c.args.of.base.now c.args.of.folder.now; asks = asks }) c.in-Err.ensures.cause)
+    c.print_answer-in-Err.ensures.ends words files c.args.folders
+    (no_answer words files _ (Session c.args.of.base.now c.args.of.folder.now) c.in-Err.fault asks c.in-Err.ensures.failed c.in-Err.ensures.cause)

@@ -1,11 +1,7 @@
-use Rattle.std.proofs.Common.{subst}
-use Rattle.std.specs.Prelude.{IfSome}
-use Rattle.venue_service.specs.Services.{AreCounts}
 use Rattle.venue_program.proofs.serve_command.serve_named.Goals as goal
 
 pub returns-clause-counts : goal.returns-clause-counts
-returns-clause-counts g c =
-    subst (λ n. IfSome c.serve_hall.result.counts (AreCounts c.args.ready.workers c.args.ready.connections n)) c.args.ready.one c.serve_hall.ensures.counts
+returns-clause-counts g c = c.serve_hall.ensures.counts
 
 pub returns-clause-folders : goal.returns-clause-folders
 returns-clause-folders g c = c.serve_hall.ensures.folders
@@ -30,3 +26,6 @@ returns-clause-failed g c = c.serve_hall.ensures.failed
 
 pub returns-clause-unserved : goal.returns-clause-unserved
 returns-clause-unserved g c = c.serve_hall.ensures.unserved
+
+pub returns-clause-doors_later : goal.returns-clause-doors_later
+returns-clause-doors_later g c = c.serve_hall.ensures.doors_later

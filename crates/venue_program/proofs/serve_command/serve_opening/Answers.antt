@@ -1,23 +1,32 @@
-use Rattle.std.proofs.Common.{inr}
-use Rattle.std.specs.Arc.{arc_value}
-use Rattle.venue_program.proofs.Hosting.{ends_named}
+use Rattle.std.proofs.Common.{refl, inl, inr, subst}
+use Rattle.venue_commands.proofs.Serving.{ends_nothing}
+use Rattle.venue_program.specs.Doors.{AreBoundAt}
+use Rattle.venue_program.specs.Services.{IsServiceEnd}
 use Rattle.venue_program.proofs.serve_command.serve_opening.Goals as goal
 
 pub returns-in-Ok-clause-ends : goal.returns-in-Ok-clause-ends
-returns-in-Ok-clause-ends g c words files faults asks opens failed =
+returns-in-Ok-clause-ends g c words files before base folder address workers connections venue asks made ready kept =
     let served = c.serve_ready.ensures in
-    let made = c.in-Ok.ensures in
+    let here = rw c.in-Ok.is at ready in
     inr (record {
-      base = c.args.base.now;
-      folder = c.args.folder.now;
-      address = c.args.address.now;
-      workers = c.args.workers;
-      connections = c.args.connections;
-      form = asks.form;
-      spelled = asks.spelled;
-      venue = arc_value c.args.opening.venue;
-      made = opens.made;
+      base = base;
+      folder = folder;
+      address = address;
+      workers = workers;
+      connections = connections;
+      asks = asks;
+      venue = venue;
+      made = made;
+      terms = _;
+      terms_are = here.terms;
       unread = served.left;
-      bound = served.bound;
-      ends = ends_named c.args.address.now c.in-Ok.ready.workers c.args.workers c.in-Ok.ready.connections c.args.connections _ _ _ made.workers made.connections served.ends;
+      bound = subst (λ a. AreBoundAt a _) here.address_is served.bound;
+      ends = subst (λ a. IsServiceEnd a _ _ _ _) here.address_is served.ends;
+    })
+
+pub returns-in-Err-clause-ends : goal.returns-in-Err-clause-ends
+returns-in-Err-clause-ends g c words files before base folder address workers connections venue asks made ready kept =
+    inl (record {
+      ends = ends_nothing words files _ refl (record { console = refl; folders = kept }) refl;
+      unasked = (record { accepted = refl; binds = refl; bound = refl; faults = refl });
     })

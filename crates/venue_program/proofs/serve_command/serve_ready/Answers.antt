@@ -1,4 +1,5 @@
 use Rattle.std.proofs.Common.{◌∙◌, sym, subst}
+use Rattle.venue_service.specs.Services.{terms_of}
 use Rattle.venue_program.specs.Services.{IsServiceEnd, unbound}
 use Rattle.venue_program.proofs.Hosting.{ends_since}
 use Rattle.venue_program.proofs.serve_command.serve_ready.Goals as goal
@@ -6,7 +7,7 @@ use Rattle.venue_program.proofs.serve_command.serve_ready.Goals as goal
 pub returns-in-Ok-clause-ends : goal.returns-in-Ok-clause-ends
 returns-in-Ok-clause-ends g c =
     let bound = c.in-Ok.ensures in
-    ends_since c.args.address.now c.args.ready.workers c.args.ready.connections (record {
+    ends_since c.args.ready.address.now (terms_of c.args.ready.plan) (record {
       left_before = g.C.Stream.left c.args.console.now;
       left_after = g.C.Stream.left c.serve_bound.new.console;
       written_before = g.C.Stream.written c.args.console.now;
@@ -33,7 +34,7 @@ returns-in-Ok-clause-bound g c =
 pub returns-in-Err-clause-ends : goal.returns-in-Err-clause-ends
 returns-in-Err-clause-ends g c =
     let failed = c.in-Err.ensures in
-    subst (IsServiceEnd c.args.address.now c.args.ready.workers c.args.ready.connections _ _) (sym c.tell_unbound-status.ensures.fault)
+    subst (IsServiceEnd c.args.ready.address.now (terms_of c.args.ready.plan) _ _) (sym c.tell_unbound-status.ensures.fault)
     (unbound failed.accepted failed.cause.failed c.tell_unbound-status.ensures.told)
 
 pub returns-in-Err-clause-bound : goal.returns-in-Err-clause-bound
