@@ -21,7 +21,7 @@ never_printed law words base folder files venue run status form is has printed =
     not_both law files base folder printed.text status venue (stops_of words files base folder printed.text status form is printed.output) has
 
 -- a session that ends by a fault of its link saw the count rise
-fault_rose : (words : List (List ℕ)) (files : Option (List StoredFile)) (run : Run) (end : End) (s : Served words files run Fault) → s.end ≡ end → Rose run.console run.console_now
+pub fault_rose : (words : List (List ℕ)) (files : Option (List StoredFile)) (run : Run) (end : End) (s : Served words files run Fault) → s.end ≡ end → Rose run.console run.console_now
 fault_rose words files run End.LinkFault s is = let ended = rw is at s.session.ended in ended.0
 fault_rose words files run End.Done s is = absurd cc
 fault_rose words files run (End.Cut count) s is = absurd cc

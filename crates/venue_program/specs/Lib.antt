@@ -3,3 +3,4 @@ pub mod Services
 pub mod Steps
 pub mod Ends
 pub mod Exits
+pub mod Complete

@@ -2,11 +2,13 @@
 #![tactic(auto)]
 
 mod exit;
+mod laws;
 mod outcome;
 mod program;
 mod ready;
 mod serve_command;
 
 pub use exit::{Exit, WordsFault, exit_after, words_fault};
+pub use laws::complete_run_law;
 pub use outcome::Outcome;
 pub use program::run;
