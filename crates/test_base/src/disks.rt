@@ -18,6 +18,13 @@ fn read_all<D: Disk>(disk: &mut D, buf: &mut [u8]) -> Option<usize> {
     Some(len)
 }
 
+// Compares what a read gives.
+fn check_reads<D: Disk>(rt: &impl Abort, disk: &mut D, reads: &[u8]) {
+    let mut buf = [0; 16];
+    let len = read_all(disk, &mut buf).unwrap_or(0);
+    assert_eq!(rt; buf.get(..len).unwrap_or(&[]), reads);
+}
+
 // Writes at a place up to the end.
 fn write_within<D: Disk>(disk: &mut D, at: u64, piece: &[u8]) -> Option<()> {
     if piece.is_empty() || disk.len().ok()? < at || at.checked_add(piece.len() as u64)? >> 63 != 0 {
@@ -154,9 +161,7 @@ fn a_stop_leaves_what_was_synced_torn_by_what_was_written(rt: HostRuntime) -> Re
         let images = images_of(alloc, &disk)?;
         assert_eq!(rt; images.reads.as_slice(), reads);
         check_images(&rt, &images, base, free, most);
-        let mut buf = [0; 16];
-        let len = read_all(&mut disk, &mut buf).ok_or("a read")?;
-        assert_eq!(rt; buf.get(..len), Some(reads));
+        check_reads(&rt, &mut disk, reads);
         assert_eq!(rt; disk.fault_count(), u64::from(failing != 0));
     }
     read_is_left_law();
@@ -248,8 +253,7 @@ fn each_call_fails_in_its_turn(rt: HostRuntime) -> Result<(), Fail> {
                 2 => torn,
                 _ => &[5, 8, 9],
             };
-            let len = read_all(&mut disk, &mut buf).ok_or("a read")?;
-            assert_eq!(rt; buf.get(..len), Some(reads));
+            check_reads(&rt, &mut disk, reads);
         }
     }
     Ok(())
@@ -258,7 +262,7 @@ fn each_call_fails_in_its_turn(rt: HostRuntime) -> Result<(), Fail> {
 #[test]
 fn a_disk_without_room_fails(rt: HostRuntime) -> Result<(), Fail> {
     let alloc = rt.alloc();
-    let mut buf = [0; 16];
+
     let mut disks = disks_of(alloc, &[5, 6, 7], 4, &[])?;
     assert!(rt; disks.open_disk("base", "other").is_err());
     let mut disk = disks.open_disk("base", "log").expect(&rt, "a disk");
@@ -266,8 +270,7 @@ fn a_disk_without_room_fails(rt: HostRuntime) -> Result<(), Fail> {
     assert_eq!(rt; disks.fault_count(), 2);
     assert_eq!(rt; write_within(&mut disk, 3, &[9, 9]), None);
     assert_eq!(rt; disk.fault_count(), 1);
-    let len = read_all(&mut disk, &mut buf).ok_or("a read")?;
-    assert_eq!(rt; buf.get(..len), Some([5, 6, 7].as_slice()));
+    check_reads(&rt, &mut disk, [5, 6, 7].as_slice());
     for _ in 0..28 {
         assert!(rt; disk.sync().is_ok());
     }
@@ -293,8 +296,7 @@ fn a_real_file_is_a_disk(rt: HostRuntime) -> Result<(), Fail> {
         .expect(&rt, "a disk");
     assert_eq!(rt; write_within(&mut disk, 2, b"de"), Some(()));
     assert!(rt; disk.sync().is_ok());
-    let len = read_all(&mut disk, &mut buf).ok_or("a read")?;
-    assert_eq!(rt; buf.get(..len), Some(b"abde".as_slice()));
+    check_reads(&rt, &mut disk, b"abde".as_slice());
     assert!(rt; disk.read(3, &mut buf).is_err());
     assert_eq!(rt; disk.fault_count(), 1);
     assert!(rt; disks.open_disk("disks_of_the_test", "log").is_err());
@@ -302,8 +304,7 @@ fn a_real_file_is_a_disk(rt: HostRuntime) -> Result<(), Fail> {
     let mut again = disks
         .open_disk("disks_of_the_test", "log")
         .expect(&rt, "a disk");
-    let len = read_all(&mut again, &mut buf).ok_or("a read")?;
-    assert_eq!(rt; buf.get(..len), Some(b"abde".as_slice()));
+    check_reads(&rt, &mut again, b"abde".as_slice());
     drop(again);
     assert!(rt; disks.open_disk("disks_of_the_test", "folder").is_err());
     assert!(rt; disks.open_disk("disks_of_the_test", "missing").is_err());

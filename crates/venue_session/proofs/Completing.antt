@@ -12,6 +12,7 @@ use Rattle.venue_types.specs.declared.reply.Reply.{Reply}
 use Rattle.venue_types.specs.declared.reply.Reply.TheVariants as reply
 use Rattle.venue_types.specs.declared.reply.Which.TheVariants as which
 use Rattle.venue_types.specs.declared.settings.Settings.{Settings}
+use mathlib.Core.List.{IsPrefix}
 use Rattle.venue_hall.specs.Venues.{SeenVenue as Venue}
 use Rattle.venue_hall.specs.Built.{IsRejected, IsVenueOf}
 use Rattle.venue_hall.specs.Shelves.{Shelf}
@@ -23,7 +24,11 @@ use Rattle.venue_hall.specs.Changes.{Makes, Breaks, IsActOf, TellsOf, Refuses, S
 use Rattle.venue_hall.specs.Closed.{Version}
 use Rattle.venue_hall.specs.Histories.{Replays}
 use Rattle.venue_hall.specs.Replies.{kind_of, closure_done, out_of_memory}
-use Rattle.venue_session.specs.Complete.{CanBeMade, HasRoom, IsMadeKind, IsOfKind, IsThere}
+use Rattle.venue_wire.specs.declared.messages.Message.{Message}
+use Rattle.wire_replies.specs.declared.response.Response.{Response}
+use Rattle.wire_replies.specs.declared.response.Response.TheVariants.{Of, No, Bare}
+use Rattle.venue_session.specs.Complete.{CanBeMade, HasRoom, IsMadeKind, IsOfKind, IsReplyOf, IsThere}
+use Rattle.venue_session.specs.Headline.{Exchange, IsExchange, IsRight}
 
 told_kind : (v : Version) (asked : Ask) (r : Reply) → IsThere v asked → AnswersAsk v asked r → IsOfKind asked (kind_of r)
 told_kind v ask.Version (reply.Version number closed count) there is = refl
@@ -112,3 +117,70 @@ standing_told shelf worker feature closed h k v (reply.Published number dropped)
     inl (act_told shelf is.version (change.Closure feature closed) is.entry.act (reply.Published number dropped) is.of_change is.tells)
 standing_told shelf worker feature closed h k v r stands so is =
     inl (not_moved shelf v feature closed r so (refused_here shelf (change.Closure feature closed) h is.version v r is.stands stands is.cause))
+
+-- ---- the same of an exchange
+
+right_asked : (shelf : Option Shelf) (worker : ℕ) (before : List Entry) (query : Query) (answer : Response) (seen : List Entry) (v : Version)
+    → IsRight shelf worker before (Message.Ask query) answer seen → Replays seen v → (IsTooEarly v query.since → ⊥) → IsThere v query.what
+    → IsReplyOf (IsOfKind query.what) answer
+right_asked shelf worker before query (Of r) seen v (u, stands, answers) leads new there =
+    question_told v query r new there (subst (λ (w : Version). Answers w query r) (one_version seen u v stands leads) answers)
+right_asked shelf worker before query (No refusal) seen v is leads new there = absurd is
+right_asked shelf worker before query (Bare refusal) seen v is leads new there = absurd is
+
+pub exchange_asked : (keys : List (List ℕ)) (shelf : Option Shelf) (worker : ℕ) (before : List Entry) (bytes : List ℕ) (x : Exchange) (query : Query) (v : Version)
+    → IsExchange keys shelf worker before bytes x → x.message ≡ Message.Ask query → Replays x.seen v → (IsTooEarly v query.since → ⊥) → IsThere v query.what
+    → IsReplyOf (IsOfKind query.what) x.answer
+exchange_asked keys shelf worker before bytes x query v exchange is leads new there =
+    right_asked shelf worker before query x.answer x.seen v (subst (λ (m : Message). IsRight shelf worker before m x.answer x.seen) is exchange.right) leads new there
+
+changed_here : OneOutcome → (shelf : Shelf) (worker : ℕ) (asked : Change) (h k : List Entry) (r : Reply) → Changes (Some shelf) worker asked h r k
+    → ((v : Version) → Replays h v → HasRoom v × CanBeMade (Some shelf) v asked) → IsMadeKind asked (kind_of r) ⊎ (kind_of r ≡ out_of_memory)
+changed_here outcome shelf worker asked h k reply.OutOfMemory is may = inr refl
+changed_here outcome shelf worker asked h k (reply.ClosureDone number feature closed true) is may =
+    let can = may is.version is.stands in
+    change_told outcome shelf worker asked h k is.version (reply.ClosureDone number feature closed true) is.stands can.0 can.1 is
+changed_here outcome shelf worker asked h k (reply.Published number dropped) is may =
+    let can = may is.version is.stands in
+    change_told outcome shelf worker asked h k is.version (reply.Published number dropped) is.stands can.0 can.1 is
+changed_here outcome shelf worker asked h k r is may =
+    let can = may is.version is.stands in change_told outcome shelf worker asked h k is.version r is.stands can.0 can.1 is
+
+right_changed : OneOutcome → (shelf : Shelf) (worker : ℕ) (before : List Entry) (asked : Change) (answer : Response) (seen : List Entry)
+    → IsRight (Some shelf) worker before (Message.Do asked) answer seen
+    → ((h : List Entry) (v : Version) → IsPrefix before h → Replays h v → HasRoom v × CanBeMade (Some shelf) v asked) → IsReplyOf (IsMadeKind asked) answer
+right_changed outcome shelf worker before asked (Of r) seen (h, grows, changes) may =
+    changed_here outcome shelf worker asked h seen r changes (λ v stands. may h v grows stands)
+right_changed outcome shelf worker before asked (No refusal) seen is may = absurd is
+right_changed outcome shelf worker before asked (Bare refusal) seen is may = absurd is
+
+pub exchange_changed : OneOutcome → (keys : List (List ℕ)) (shelf : Shelf) (worker : ℕ) (before : List Entry) (bytes : List ℕ) (x : Exchange) (asked : Change)
+    → IsExchange keys (Some shelf) worker before bytes x → x.message ≡ Message.Do asked
+    → ((h : List Entry) (v : Version) → IsPrefix before h → Replays h v → HasRoom v × CanBeMade (Some shelf) v asked) → IsReplyOf (IsMadeKind asked) x.answer
+exchange_changed outcome keys shelf worker before bytes x asked exchange is may =
+    right_changed outcome shelf worker before asked x.answer x.seen
+    (subst (λ (m : Message). IsRight (Some shelf) worker before m x.answer x.seen) is exchange.right) may
+
+standing_here : (shelf : Option Shelf) (worker : ℕ) (feature : FeatureId) (closed : Bool) (h k : List Entry) (r : Reply)
+    → Changes shelf worker (change.Closure feature closed) h r k → ((v : Version) → Replays h v → StandsSo v feature closed)
+    → (kind_of r ≡ closure_done) ⊎ (kind_of r ≡ out_of_memory)
+standing_here shelf worker feature closed h k reply.OutOfMemory is so = inr refl
+standing_here shelf worker feature closed h k (reply.ClosureDone number feature' closed' true) is so = inl refl
+standing_here shelf worker feature closed h k (reply.Published number dropped) is so =
+    standing_told shelf worker feature closed h k is.version (reply.Published number dropped) is.stands (so is.version is.stands) is
+standing_here shelf worker feature closed h k r is so = standing_told shelf worker feature closed h k is.version r is.stands (so is.version is.stands) is
+
+right_standing : (shelf : Option Shelf) (worker : ℕ) (before : List Entry) (feature : FeatureId) (closed : Bool) (answer : Response) (seen : List Entry)
+    → IsRight shelf worker before (Message.Do (change.Closure feature closed)) answer seen
+    → ((h : List Entry) (v : Version) → IsPrefix before h → Replays h v → StandsSo v feature closed) → IsReplyOf (λ kind. kind ≡ closure_done) answer
+right_standing shelf worker before feature closed (Of r) seen (h, grows, changes) so =
+    standing_here shelf worker feature closed h seen r changes (λ v stands. so h v grows stands)
+right_standing shelf worker before feature closed (No refusal) seen is so = absurd is
+right_standing shelf worker before feature closed (Bare refusal) seen is so = absurd is
+
+pub exchange_standing : (keys : List (List ℕ)) (shelf : Option Shelf) (worker : ℕ) (before : List Entry) (bytes : List ℕ) (x : Exchange) (feature : FeatureId) (closed : Bool)
+    → IsExchange keys shelf worker before bytes x → x.message ≡ Message.Do (change.Closure feature closed)
+    → ((h : List Entry) (v : Version) → IsPrefix before h → Replays h v → StandsSo v feature closed) → IsReplyOf (λ kind. kind ≡ closure_done) x.answer
+exchange_standing keys shelf worker before bytes x feature closed exchange is so =
+    right_standing shelf worker before feature closed x.answer x.seen
+    (subst (λ (m : Message). IsRight shelf worker before m x.answer x.seen) is exchange.right) so

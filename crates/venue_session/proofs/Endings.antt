@@ -114,8 +114,8 @@ module _ (keys : List (List ℕ)) (first : Moment) (mid : Facts) (left written :
       ended end.LinkFault mid same after begun later kept (prompt_still begun none) le
       (rose_in_all later rose, part, in_all after part wrote, inr (inr (refusal, (going.are_open, refused), refl, within)))
 
-  pub ends_starved : HasEnded keys first (moment mid left written starts faults) end.OutOfMemory
-  ends_starved = ended end.OutOfMemory mid left written starts faults refl going.prompt (omega arith) (going.sound, going.wrote, going.are_open, inl refl)
+  pub ends_starved : going.bytes ≡ [] → HasEnded keys first (moment mid left written starts faults) end.OutOfMemory
+  ends_starved nothing = ended end.OutOfMemory mid left written starts faults refl going.prompt (omega arith) (going.sound, going.wrote, going.are_open, inl (refl, nothing))
 
   pub ends_untold : (new : Facts) (m : Acted) → IsActed keys mid waiting m new → told_by m.answer ≡ 1
       → HasEnded keys first (moment new left written starts faults) end.OutOfMemory

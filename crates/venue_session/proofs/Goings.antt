@@ -12,7 +12,7 @@ use Rattle.venue_session.specs.Going.{Moment, moment, IsGoing, WasPrompt, StaysS
 use Rattle.venue_session.proofs.Joining.{acts_push}
 use Rattle.venue_session.proofs.Prompting.{was_prompt, prompt_kept}
 
-pub going_first : (keys : List (List ℕ)) (first : Moment) → IsLegal first.facts.seen → IsGoing keys first first 0 []
+unfoldable pub going_first : (keys : List (List ℕ)) (first : Moment) → IsLegal first.facts.seen → IsGoing keys first first 0 []
 going_first keys first legal = record {
   legal = legal;
   bytes = [];

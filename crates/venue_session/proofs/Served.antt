@@ -64,7 +64,7 @@ broken_last keys run new part (inr (inr refused)) = inl refused.2
 
 starved_last : (keys : List (List ℕ)) (run : Run) (new : Facts) → IsStarved keys run new → IsLast keys run new
 unfolding IsLast
-starved_last keys run new (inl same) = inl same
+starved_last keys run new (inl same) = inl same.0
 starved_last keys run new (inr message) = inr (message.0, message.1)
 
 ended_last : (keys : List (List ℕ)) (e : End) (run : Run) (connection : Measured) (new : Facts) → Ended keys e run connection new → IsLast keys run new

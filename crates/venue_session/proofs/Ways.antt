@@ -87,6 +87,10 @@ way_told old new (Message.Do asked) (Of (reply.Route number from to name start c
     absurd (no_route old.files is.2.version asked number cost from to start name steps potentials is.2.cause)
 way_told old new (Message.Do asked) (Of (reply.NoRoute number from to name reached)) is =
     absurd (no_none old.files is.2.version asked number from to name reached is.2.cause)
-way_told old new (Message.Refused refusal) (Of (reply.Route number from to name start cost steps potentials)) is = absurd (cc is.0)
-way_told old new (Message.Refused refusal) (Of (reply.NoRoute number from to name reached)) is = absurd (cc is.0)
+way_told old new (Message.Refused refusal) (Of (reply.Route number from to name start cost steps potentials)) is = absurd is
+way_told old new (Message.Refused refusal) (Of (reply.NoRoute number from to name reached)) is = absurd is
+way_told old new (Message.Bare refusal) (Of (reply.Route number from to name start cost steps potentials)) is = absurd is
+way_told old new (Message.Bare refusal) (Of (reply.NoRoute number from to name reached)) is = absurd is
+way_told old new Message.Unread (Of (reply.Route number from to name start cost steps potentials)) is = absurd (cc is.0)
+way_told old new Message.Unread (Of (reply.NoRoute number from to name reached)) is = absurd (cc is.0)
 way_told old new message answer is = tt

@@ -1,5 +1,7 @@
 -- What a request gets to which no refusal applies.
 use Rattle.std.specs.Prelude.{◌≡◌, ◌⊎◌, ◌<◌, Contains, Option}
+use Rattle.wire_replies.specs.declared.response.Response.{Response}
+use Rattle.wire_replies.specs.declared.response.Response.TheVariants.{Of, No, Bare}
 use Rattle.venue_types.specs.declared.query.Ask.{Ask}
 use Rattle.venue_types.specs.declared.query.Ask.TheVariants as ask
 use Rattle.venue_types.specs.declared.query.Change.{Change}
@@ -10,7 +12,7 @@ use Rattle.venue_hall.specs.Shelves.{Shelf}
 use Rattle.venue_hall.specs.Answers.{HasProfile, IsPlace}
 use Rattle.venue_hall.specs.Changes.{Makes}
 use Rattle.venue_hall.specs.Closed.{Version}
-use Rattle.venue_hall.specs.Replies.{ReplyKind, version, places, place, closures, route, no_route, closure_done, published, folder_fault}
+use Rattle.venue_hall.specs.Replies.{ReplyKind, kind_of, version, places, place, closures, route, no_route, closure_done, published, folder_fault, out_of_memory}
 
 -- what a question names is there: a place, and for a route a profile and both places
 abbrev pub IsThere : Version → Ask → Type 0
@@ -41,3 +43,9 @@ CanBeMade shelf v (change.Publish folder) = (venue : Venue) × Makes shelf v fol
 abbrev pub IsMadeKind : Change → ReplyKind → Type 0
 IsMadeKind (change.Closure feature closed) kind = kind ≡ closure_done
 IsMadeKind (change.Publish folder) kind = (kind ≡ published) ⊎ (kind ≡ folder_fault)
+
+-- the answer is a reply of such a kind, or that memory ran out
+abbrev pub IsReplyOf : (ReplyKind → Type 0) → Response → Type 0
+IsReplyOf IsKind (Of r) = IsKind (kind_of r) ⊎ (kind_of r ≡ out_of_memory)
+IsReplyOf IsKind (No refusal) = ⊥
+IsReplyOf IsKind (Bare refusal) = ⊥

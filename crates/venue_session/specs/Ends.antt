@@ -77,9 +77,10 @@ IsBroken keys run new part =
     ⊎ (AreOpen run.acted × (m : Acted) × IsActed keys run.facts run.rest m new × IsPrefix part (text_of m))
     ⊎ ((refusal : Refusal) × IsStopped run refusal × (new ≡ run.facts) × IsPrefix part (refused_text refusal))
 
--- where memory ran out: behind what was answered, or behind one message more, an accepted change whose text is missing
+-- where memory ran out: before a byte was taken, or behind what was answered and one message more, an accepted change whose text is
+-- missing
 abbrev pub IsStarved : List (List ℕ) → Run → Facts → Type 0
-IsStarved keys run new = (new ≡ run.facts) ⊎ ((m : Acted) × IsActed keys run.facts run.rest m new × (told_by m.answer ≡ 1))
+IsStarved keys run new = ((new ≡ run.facts) × (run.bytes ≡ [])) ⊎ ((m : Acted) × IsActed keys run.facts run.rest m new × (told_by m.answer ≡ 1))
 
 -- what each end says of the run, of the connection, and of the hall at the end
 abbrev pub Ended : List (List ℕ) → End → Run → Measured → Facts → Type 0

@@ -23,7 +23,7 @@ use Rattle.venue_wire.specs.declared.messages.Taken.{Taken}
 use Rattle.venue_session.specs.declared.ends.End.{End}
 use Rattle.wire_replies.specs.Replies.{reply_text}
 use Rattle.wire_replies.specs.declared.response.Response.{Response}
-use Rattle.wire_replies.specs.declared.response.Response.TheVariants.{Of, No}
+use Rattle.wire_replies.specs.declared.response.Response.TheVariants.{Of, No, Bare}
 
 -- a message of so many bytes, whether it closes, what it was answered, and the history that was seen then
 pub record Exchange : Type 0 where
@@ -38,12 +38,14 @@ abbrev pub text_of : Exchange → List ℕ
 text_of x = reply_text x.answer x.close
 
 -- the answer is right: a question is answered at the version to which the history leads; a change is made, or refused, at a history
--- that begins with the one before; a message that is refused by itself is told why, or that memory ran out
+-- that begins with the one before; a message that is refused by itself is told why, a HEAD by the bare head of that, and one that
+-- couldn't be read is told that memory ran out
 abbrev pub IsRight : Option Shelf → ℕ → List Entry → Message → Response → List Entry → Type 0
 IsRight shelf worker before (Message.Ask query) (Of r) seen = IsAnswered seen query r
 IsRight shelf worker before (Message.Do change) (Of r) seen = (h : List Entry) × IsPrefix before h × Changes shelf worker change h r seen
-IsRight shelf worker before (Message.Refused refusal) (Of r) seen = r ≡ reply.OutOfMemory
 IsRight shelf worker before (Message.Refused refusal) (No given) seen = given ≡ refusal
+IsRight shelf worker before (Message.Bare refusal) (Bare given) seen = given ≡ refusal
+IsRight shelf worker before Message.Unread (Of r) seen = r ≡ reply.OutOfMemory
 IsRight shelf worker before _ _ seen = ⊥
 
 -- a route is a walk from the start over open links that the profile may use, and none costs less; where it is said that there is none,
@@ -96,11 +98,12 @@ Closes (x ∷ xs) = (x.close ≡ true) ⊎ Closes xs
 abbrev pub NoneIsLeft : List ℕ → List ℕ → List ℕ → Type 0
 NoneIsLeft taken left rest = ((left ≡ []) ⊎ (2 ^ 40 ≤ length taken)) × ((rest ≡ []) ⊎ IsShort rest)
 
--- what is written last: nothing, where a message closes or none is left without an answer; or that what is left is no head of a message
+-- what is written last: nothing, where a message closes or none is left without an answer; or, where none closes, that what is left
+-- is no head of a message
 abbrev pub IsLastText : List Exchange → List ℕ → List ℕ → List ℕ → List ℕ → Type 0
 IsLastText exchanges taken left rest last =
     ((last ≡ []) × (Closes exchanges ⊎ NoneIsLeft taken left rest))
-    ⊎ ((refusal : Refusal) × IsRefused rest refusal × (last ≡ reply_text (No refusal) true))
+    ⊎ ((Closes exchanges → ⊥) × (refusal : Refusal) × IsRefused rest refusal × (last ≡ reply_text (No refusal) true))
 
 -- the session ended by itself: no connection failed, and memory didn't run out
 abbrev pub IsWhole : End → Type 0
@@ -120,4 +123,30 @@ pub record Headline (keys : List (List ℕ)) (shelf : Option Shelf) (worker : �
   pub answered : AreExchanges keys shelf worker before taken exchanges rest
   pub last : List ℕ
   pub last_is : IsLastText exchanges taken left rest last
+  pub wrote : written ≡ flat_map text_of exchanges ++ last
+
+-- the history that was seen last
+abbrev pub last_seen : List Entry → List Exchange → List Entry
+last_seen before [] = before
+last_seen before (x ∷ xs) = last_seen x.seen xs
+
+-- what is written last where a session broke off: nothing, or a front of the answer to one message more, or of the text that what is
+-- left is no head of a message
+abbrev pub IsBrokenText : List (List ℕ) → Option Shelf → ℕ → List Entry → List ℕ → List ℕ → Type 0
+IsBrokenText keys shelf worker seen rest last =
+    (last ≡ [])
+    ⊎ ((x : Exchange) × IsExchange keys shelf worker seen rest x × IsPrefix last (text_of x))
+    ⊎ ((refusal : Refusal) × IsRefused rest refusal × IsPrefix last (reply_text (No refusal) true))
+
+-- of a session that broke off: the answers to the messages in the bytes that were taken, one for each and in order, none of which
+-- closes, and at most a front of one text more
+pub record BrokenHeadline (keys : List (List ℕ)) (shelf : Option Shelf) (worker : ℕ) (before : List Entry) (came left written : List ℕ) : Type 0 where
+  pub taken : List ℕ
+  pub took : came ≡ taken ++ left
+  pub exchanges : List Exchange
+  pub rest : List ℕ
+  pub answered : AreExchanges keys shelf worker before taken exchanges rest
+  pub goes_on : Closes exchanges → ⊥
+  pub last : List ℕ
+  pub last_is : IsBrokenText keys shelf worker (last_seen before exchanges) rest last
   pub wrote : written ≡ flat_map text_of exchanges ++ last

@@ -9,26 +9,30 @@ use Rattle.venue_hall.specs.Replies.{told, IsAhead, IsOutsideFault}
 use Rattle.venue_hall.specs.Facts.{Facts, IsSameHall, IsAnswered, IsChanged}
 use Rattle.venue_wire.specs.declared.messages.Message.{Message}
 use Rattle.wire_replies.specs.declared.response.Response.{Response}
-use Rattle.wire_replies.specs.declared.response.Response.TheVariants.{Of, No}
+use Rattle.wire_replies.specs.declared.response.Response.TheVariants.{Of, No, Bare}
 
 -- how many accepted changes the answer tells: one or none
 abbrev pub told_by : Response → ℕ
 told_by (Of r) = told r
 told_by (No refusal) = 0
+told_by (Bare refusal) = 0
 
 -- the answer is right for the message: a question at the version that is seen now, a change at a history that begins with what
--- was seen before, a message refused by itself by that refusal or for want of memory, and then the hall stays as it was
+-- was seen before, a message refused by itself by that refusal, bare for a HEAD, and one that couldn't be read by want of memory;
+-- then the hall stays as it was
 abbrev pub IsRight : Facts → Message → Response → Facts → Type 0
 IsRight old (Message.Ask query) (Of r) new = IsAnswered new.seen query r
 IsRight old (Message.Do change) (Of r) new = IsChanged old new change r
-IsRight old (Message.Refused refusal) (Of r) new = (r ≡ reply.OutOfMemory) × (new ≡ old)
 IsRight old (Message.Refused refusal) (No given) new = (given ≡ refusal) × (new ≡ old)
+IsRight old (Message.Bare refusal) (Bare given) new = (given ≡ refusal) × (new ≡ old)
+IsRight old Message.Unread (Of r) new = (r ≡ reply.OutOfMemory) × (new ≡ old)
 IsRight old _ _ new = ⊥
 
 -- the answer tells a fault of the outside
 abbrev pub TellsFault : Response → Type 0
 TellsFault (Of r) = IsOutsideFault r
 TellsFault (No refusal) = ⊥
+TellsFault (Bare refusal) = ⊥
 
 -- the answer comes of a look at what others changed: it says that a version isn't there yet, or is a change's, but for want of memory
 abbrev pub ComesOfLook : Message → Response → Type 0
@@ -41,11 +45,13 @@ abbrev pub IsPast : ℕ → Option ℕ → Type 0
 IsPast count None = ⊥
 IsPast count (Some since) = count < since
 
--- nothing has to be looked for: the message asks for no version after the entries that were seen, or is refused by itself
+-- nothing has to be looked for: the message asks for no version after the entries that were seen, or is no question and no change
 abbrev pub NeedsNoLook : List Entry → Message → Type 0
 NeedsNoLook seen (Message.Ask query) = ¬ IsPast (length seen) query.since
 NeedsNoLook seen (Message.Do change) = ⊥
 NeedsNoLook seen (Message.Refused refusal) = Unit {0}
+NeedsNoLook seen (Message.Bare refusal) = Unit {0}
+NeedsNoLook seen Message.Unread = Unit {0}
 
 -- a count stays, or has risen
 abbrev pub StaysOrRose : ℕ → ℕ → Type 0

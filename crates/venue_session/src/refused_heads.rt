@@ -1,19 +1,16 @@
 //! The end of a session by a head that is refused.
 
-ghost use Rattle.std.specs.Prelude.{◌≡◌, ℕ, List, IfOk};
+ghost use Rattle.std.specs.Prelude.{◌≡◌, ℕ, List};
 ghost use Rattle.venue_hall.specs.Facts.{Facts};
 ghost use Rattle.wire_frames.specs.Frames.{IsRefused};
 ghost use Rattle.wire_replies.specs.Heads.{refusal_status};
-ghost use Rattle.venue_session.specs.Ends.{refused_text};
 ghost use Rattle.venue_session.specs.Going.{Moment, moment, IsGoing, HasEnded};
 
 use crate::ends::End;
 use crate::writer::write_all;
-use std::alloc::Global;
 use venue_ports::Stream;
-use venue_types::{Bytes, OutOfMemory};
 use wire_frames::Refusal;
-use wire_replies::{Response, reply_bytes};
+use wire_replies::refusal_bytes;
 
 // The status of a refusal.
 fn status_of(refusal: Refusal) -> u16
@@ -32,24 +29,15 @@ fn status_of(refusal: Refusal) -> u16
     }
 }
 
-fn refusal_text(alloc: Global, refusal: Refusal) -> Result<Bytes, OutOfMemory>
-    ensures { IfOk result (λ bytes. bytes ≡ refused_text refusal) }
-{
-    reply_bytes(alloc, &Response::No(refusal), true)
-}
-
 /// Writes why the head that waits is refused, and tells how the session ends by it.
-pub(crate) fn refuse<L: Stream>(alloc: Global, connection: &mut L, refusal: Refusal) -> End
+pub(crate) fn refuse<L: Stream>(connection: &mut L, refusal: Refusal) -> End
     ensures { (keys : List (List ℕ)) (first : Moment) (facts : Facts) (taken : ℕ) (waiting : List ℕ)
         → IsGoing keys first (moment facts (L.left connection.old) (L.written connection.old) (L.starts connection.old) (L.faults connection.old)) taken waiting
         → IsRefused waiting refusal
         → HasEnded keys first (moment facts (L.left connection.new) (L.written connection.new) (L.starts connection.new) (L.faults connection.new)) result }
 {
-    match refusal_text(alloc, refusal) {
-        Ok(text) => match write_all(connection, text.as_slice()) {
-            Ok(()) => End::Refused(status_of(refusal)),
-            Err(_failed) => End::LinkFault,
-        },
-        Err(_error) => End::OutOfMemory,
+    match write_all(connection, refusal_bytes(refusal, true)) {
+        Ok(()) => End::Refused(status_of(refusal)),
+        Err(_failed) => End::LinkFault,
     }
 }

@@ -108,8 +108,7 @@ fn step<H: Hall, L: Stream>(
     message_length_law();
     match take(alloc, front, input.waiting()) {
         Taken::More { least } => Some(Stop::Waiting(least)),
-        Taken::Fault(refusal) => Some(Stop::Ended(refuse(alloc, connection, refusal))),
-        Taken::OutOfMemory => Some(Stop::Ended(End::OutOfMemory)),
+        Taken::Fault(refusal) => Some(Stop::Ended(refuse(connection, refusal))),
         Taken::Message {
             message,
             length,

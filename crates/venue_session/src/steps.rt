@@ -3,7 +3,7 @@
 ghost use Rattle.std.specs.Prelude.{◌≡◌, if◌then◌else◌};
 ghost use Rattle.venue_wire.specs.declared.messages.Message.{Message as AMessage};
 ghost use Rattle.venue_hall.specs.Facts.{Facts};
-ghost use Rattle.wire_replies.specs.declared.response.Response.TheVariants.{Of, No};
+ghost use Rattle.wire_replies.specs.declared.response.Response.TheVariants.{Of};
 ghost use Rattle.venue_session.specs.Steps.{IsStep, NeedsNoLook, told_by};
 ghost use Rattle.venue_session.specs.Texts.{Stepped};
 
@@ -13,7 +13,7 @@ use venue_hall::{Hall, number_law};
 use venue_types::{Change, Query, Reply};
 use venue_wire::Message;
 use wire_frames::Refusal;
-use wire_replies::{Response, reply_bytes, want_of_memory};
+use wire_replies::{Response, bare_bytes, refusal_bytes, reply_bytes, want_of_memory};
 
 /// What comes of a message.
 #[derive(Drop)]
@@ -49,13 +49,27 @@ fn change<H: Hall>(hall: &mut H, asked: &Change) -> Reply
     hall.change(asked)
 }
 
-// A message that is refused by itself leaves the hall as it is.
+// A message that is refused by itself, or couldn't be read, leaves the hall as it is. By its number what that has seen is a legal
+// history.
 fn refuse<H: Hall>(hall: &H, refusal: Refusal) -> Response
     ensures { IsStep (H.facts hall.now) (AMessage.Refused refusal) result (H.facts hall.now) }
 {
-    // By its number what the hall has seen is a legal history.
     let _number = hall.number();
     Response::No(refusal)
+}
+
+fn refuse_bare<H: Hall>(hall: &H, refusal: Refusal) -> Response
+    ensures { IsStep (H.facts hall.now) (AMessage.Bare refusal) result (H.facts hall.now) }
+{
+    let _number = hall.number();
+    Response::Bare(refusal)
+}
+
+fn leave_unread<H: Hall>(hall: &H) -> Response
+    ensures { IsStep (H.facts hall.now) AMessage.Unread result (H.facts hall.now) }
+{
+    let _number = hall.number();
+    Response::Of(Reply::OutOfMemory)
 }
 
 fn answer<H: Hall>(hall: &mut H, message: &Message) -> Response
@@ -65,38 +79,49 @@ fn answer<H: Hall>(hall: &mut H, message: &Message) -> Response
         Message::Ask(query) => Response::Of(ask(hall, query)),
         Message::Do(asked) => Response::Of(change(hall, asked)),
         Message::Refused(refusal) => refuse(hall, *refusal),
+        Message::Bare(refusal) => refuse_bare(hall, *refusal),
+        Message::Unread => leave_unread(hall),
     }
 }
 
-// Whether an answer tells that a change was accepted.
-fn tells_change(answer: &Response) -> bool
-    ensures { told_by answer.now ≡ (if result then 1 else 0) }
+// Whether a reply tells that a change was accepted.
+fn tells_change(reply: &Reply) -> bool
+    ensures { told_by (Of reply.now) ≡ (if result then 1 else 0) }
 {
-    match answer {
-        Response::Of(Reply::ClosureDone { changed, .. }) => *changed,
-        Response::Of(Reply::Published { .. }) => true,
-        Response::Of(_) => false,
-        Response::No(_) => false,
+    match reply {
+        Reply::ClosureDone { changed, .. } => *changed,
+        Reply::Published { .. } => true,
+        _ => false,
     }
 }
 
-// What is written where there is no memory for an answer's text.
-fn step_without_memory(answer: &Response, close: bool) -> Step
-    ensures { (old new : Facts) (message : AMessage) → IsStep old message answer.now new → Stepped old message close result new }
+// What is written where there is no memory for a reply's text.
+fn step_without_memory(reply: &Reply, close: bool) -> Step
+    ensures { (old new : Facts) (message : AMessage) → IsStep old message (Of reply.now) new → Stepped old message close result new }
 {
-    if tells_change(answer) {
+    if tells_change(reply) {
         Step::Untold
     } else {
         Step::Replied(Text::Fixed(want_of_memory(close)))
     }
 }
 
+fn make_reply(alloc: Global, reply: &Reply, close: bool) -> Step
+    ensures { (old new : Facts) (message : AMessage) → IsStep old message (Of reply.now) new → Stepped old message close result new }
+{
+    match reply_bytes(alloc, reply, close) {
+        Ok(bytes) => Step::Replied(Text::Made(bytes)),
+        Err(_) => step_without_memory(reply, close),
+    }
+}
+
 fn make_step(alloc: Global, answer: &Response, close: bool) -> Step
     ensures { (old new : Facts) (message : AMessage) → IsStep old message answer.now new → Stepped old message close result new }
 {
-    match reply_bytes(alloc, answer, close) {
-        Ok(bytes) => Step::Replied(Text::Made(bytes)),
-        Err(_) => step_without_memory(answer, close),
+    match answer {
+        Response::Of(reply) => make_reply(alloc, reply, close),
+        Response::No(refusal) => Step::Replied(Text::Fixed(refusal_bytes(*refusal, close))),
+        Response::Bare(refusal) => Step::Replied(Text::Fixed(bare_bytes(*refusal, close))),
     }
 }
 

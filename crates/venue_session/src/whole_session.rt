@@ -77,9 +77,9 @@ fn serve<H: Hall, L: Stream>(
 ///
 /// It ends `Done` where the input ends between two messages, or behind a message that closes; `Cut` with the number of bytes of
 /// an unfinished message; `Refused` with the status of a refused head, whose text is written and closes; `Worn` behind 2^40 bytes
-/// of input; `LinkFault` where a read or a write failed; `OutOfMemory` where memory ran out for the buffer, a message, the text
-/// of a refused head or that of an accepted change. For want of memory any other reply is 503, and the session goes on. The connection
-/// is not closed.
+/// of input; `LinkFault` where a read or a write failed; `OutOfMemory` where memory ran out for the buffer, or for the text of
+/// an accepted change. For want of memory any other reply is 503, also to a message that couldn't be read, and the session goes on; a
+/// message that is refused by itself is told why in any case. The connection is not closed.
 ///
 /// It takes 81,920 bytes of memory once, and else what a message and its text take while it is acted on. Beside the hall's time
 /// it takes time in proportion to the bytes; those of a head that has no end yet are looked at again at each read, those of a

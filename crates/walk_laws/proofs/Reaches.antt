@@ -80,9 +80,9 @@ reach_beyond view IsLink from n bound cost_of knows none walk leads =
 pub reach_reached : {L : Type 0} (view : LinkView L) (IsLink : L → Type 0) (from n : ℕ) (cost_of : ℕ → Option ℕ)
     → IsReach view IsLink from None cost_of → HasCost cost_of n ↔ HasWalk view IsLink from n
 reach_reached view IsLink from n cost_of knows = (
-    (λ has. (let (walk, leads, costs) = knows.walks n has.0 has.1 in (walk, leads))),
-    (λ leads. stays_among view IsLink (HasCost cost_of) (λ link is has. (let (end, there, low) = knows.rises link has.0 is has.1 in (end, there))) from n leads.0 leads.1 (0, knows.start)),
-  )
+  (λ has. (let (walk, leads, costs) = knows.walks n has.0 has.1 in (walk, leads))),
+  (λ leads. stays_among view IsLink (HasCost cost_of) (λ link is has. (let (end, there, low) = knows.rises link has.0 is has.1 in (end, there))) from n leads.0 leads.1 (0, knows.start)),
+)
 
 pub reach_cut : {L : Type 0} (view : LinkView L) (IsLink : L → Type 0) (from n : ℕ) (cost_of : ℕ → Option ℕ) (reached : List ℕ)
     → IsReach view IsLink from None cost_of → ((m : ℕ) → Contains reached m ↔ HasCost cost_of m) → cost_of n ≡ None → IsCut view IsLink from n reached

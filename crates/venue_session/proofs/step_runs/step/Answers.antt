@@ -2,16 +2,12 @@ use Rattle.std.proofs.Common.{ℕ, List, length, ap, subst, arith, length-drop}
 use Rattle.wire_frames.specs.Frames.{IsRefused}
 use Rattle.venue_wire.specs.Messages.{At}
 use Rattle.venue_wire.specs.declared.messages.Taken.TheVariants as taken_as
-use Rattle.venue_session.proofs.Endings.{ends_starved}
 use Rattle.venue_session.proofs.step_runs.step.Goals as goal
 
 pub returns-in-Fault-clause-stop : goal.returns-in-Fault-clause-stop
 returns-in-Fault-clause-stop g c = λ first taken going.
     c.refuse.ensures c.args.front.now first _ taken c.args.input.now going
     (subst (λ (b : List ℕ). IsRefused b c.in-Fault.refusal) c.waiting.ensures c.in-Fault.ensures.at)
-
-pub returns-in-OutOfMemory-clause-stop : goal.returns-in-OutOfMemory-clause-stop
-returns-in-OutOfMemory-clause-stop g c = λ first taken going. ends_starved c.args.front.now first _ _ _ _ _ taken c.args.input.now going
 
 pub returns-in-Message-clause-stop : goal.returns-in-Message-clause-stop
 returns-in-Message-clause-stop g c = λ first taken going.

@@ -5,4 +5,4 @@ use Rattle.venue_session.proofs.steps.step_without_memory.Goals as goal
 
 pub returns-else-tells_change : goal.returns-else-tells_change
 returns-else-tells_change c old new message step =
-    (Of reply.OutOfMemory, step_wants old new message c.args.answer.now c.if-tells_change.ensures step, c.want_of_memory.ensures)
+    (Of reply.OutOfMemory, step_wants old new message c.args.reply.now c.if-tells_change.ensures step, c.want_of_memory.ensures)
