@@ -32,7 +32,7 @@ ghost use Rattle.plane_exact.specs.Opening.{AreTouches};
 use imdf_read::{ReadOut, read_folder, sound_reading_law};
 use imdf_refs::{own_ids_law, reference_findings};
 use link_graph::Graph;
-use opening_match::touches;
+use opening_match::{Matches, touches};
 use ring_rules::is_spread;
 use std::alloc::Global;
 use std::env;
@@ -168,8 +168,10 @@ fn judged(
     if is_spread(features) {
         return Ok(Err(Error::other("spread")));
     }
-    let touches = touches(rt.alloc(), features, settings)?;
-    Ok(time(rt, features, &touches, settings, rounds))
+    match touches(rt.alloc(), features, settings)? {
+        Matches::Each(touches) => Ok(time(rt, features, &touches, settings, rounds)),
+        Matches::Many(_) => Ok(Err(Error::other("too many openings"))),
+    }
 }
 
 fn read(

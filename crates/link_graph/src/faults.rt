@@ -26,7 +26,7 @@ impl GraphFault {
     ghost use Rattle.rule_reports.specs.Reports.{IsReport};
     ghost use Rattle.venue_nodes.specs.Crowds.{Crowds};
     ghost use Rattle.venue_nodes.specs.Limits.{BreaksLimit};
-    ghost use Rattle.opening_match.specs.Kept.{TouchMany};
+    ghost use Rattle.venue_nodes.specs.TouchCounts.{TouchMany};
     ghost use Rattle.link_graph.specs.Faults.{IsFault};
 
     /// That a limit on members is passed.

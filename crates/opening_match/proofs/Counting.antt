@@ -7,9 +7,9 @@ use Rattle.std.proofs.lemmas.Option.{same_Some}
 use Rattle.venue_types.specs.declared.features.OpeningRow.{OpeningRow}
 use Rattle.venue_types.specs.declared.features.UnitRow.{UnitRow}
 use Rattle.imdf_access.specs.Categories.{is_walkable}
-use Rattle.opening_match.specs.Counts.{AreCounts, HasFull, IsCounted, walked_part, walked_sum}
-use Rattle.opening_match.specs.Kept.{TouchMany}
-use Rattle.opening_match.specs.Matches.{AreMatches}
+use Rattle.venue_nodes.specs.TouchCounts.{AreCounts, HasFull, IsCounted, walked_part, walked_sum}
+use Rattle.venue_nodes.specs.TouchCounts.{TouchMany}
+use Rattle.venue_nodes.specs.TouchCounts.{AreMatches}
 use Rattle.opening_match.proofs.Items.{at_push, item_at}
 
 nothing_at : {X : Type 0} (k : ℕ) (x : X) → ¬ (slice_get [] k ≡ Some x)

@@ -14,9 +14,10 @@ use Rattle.venue_types.specs.declared.link.Touches as touching
 use Rattle.plane_exact.specs.Opening.{AreTouches}
 use Rattle.opening_match.specs.declared.matches.Matches.{Matches}
 use Rattle.opening_match.specs.declared.matches.Matches.TheVariants.{Each, Many}
-use Rattle.opening_match.specs.Kept.{AreKept, AreKeptOf, TouchFew, TouchMany}
+use Rattle.venue_nodes.specs.TouchCounts.{TouchFew, TouchMany}
+use Rattle.opening_match.specs.Kept.{AreKept, AreKeptOf}
 use Rattle.opening_match.specs.Places.{AreDistinct}
-use Rattle.opening_match.specs.Matches.{TouchesAt, AreMatches}
+use Rattle.venue_nodes.specs.TouchCounts.{TouchesAt, AreMatches}
 use Rattle.opening_match.specs.Rows.{GainsAt, GainsUnit, HaveMatch, AreRowsBelow}
 use Rattle.opening_match.proofs.Items.{some_at, item_at, stands, one_more, apart_before}
 

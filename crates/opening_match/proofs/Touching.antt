@@ -20,7 +20,8 @@ use Rattle.opening_match.specs.Entries.{AreEntries, start_of}
 use Rattle.opening_match.specs.Frames.{IsFramed, IsAtHeight}
 use Rattle.opening_match.specs.Stretches.{IsStretch}
 use Rattle.opening_match.specs.Places.{ArePlaces}
-use Rattle.opening_match.specs.Matches.{AreBeside, RunsAlong, TouchesAt, AreMatches}
+use Rattle.venue_nodes.specs.TouchCounts.{TouchesAt, AreMatches}
+use Rattle.opening_match.specs.Matches.{AreBeside, RunsAlong}
 use Rattle.opening_match.proofs.Framing.{LeastLaw, GreatestLaw, near_framed}
 use Rattle.opening_match.proofs.Items.{some_in}
 

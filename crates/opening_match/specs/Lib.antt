@@ -3,6 +3,5 @@ pub mod Frames
 pub mod Stretches
 pub mod Places
 pub mod Matches
-pub mod Counts
 pub mod Kept
 pub mod Rows

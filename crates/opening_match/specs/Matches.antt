@@ -1,12 +1,9 @@
--- Which openings touch one unit.
-use Rattle.std.specs.Prelude.{◌≡◌, ℕ, ◌∷◌, ◌↔◌, List, Some, All, Contains, slice_get}
+-- Which openings run along a shape.
+use Rattle.std.specs.Prelude.{◌≡◌, ℕ, ◌∷◌, List, Some, All, Contains, slice_get}
 use Rattle.venue_types.specs.declared.features.OpeningRow.{OpeningRow}
-use Rattle.venue_types.specs.declared.features.UnitRow.{UnitRow}
 use Rattle.venue_types.specs.declared.point.Point.{Point}
 use Rattle.venue_types.specs.declared.point.Shape.{Shape}
 use Rattle.plane_exact.specs.Figure.{AllClose, vertices, IsNear}
-use Rattle.plane_exact.specs.Opening.{Touches}
-use Rattle.opening_match.specs.Places.{AreDistinct}
 
 -- each of the positions is close to the shape
 pub record AreCloseTo (shape : Shape) (points : List Point) : Type 0 where
@@ -21,14 +18,3 @@ pub record RunsAlong (tolerance : ℕ) (openings : List OpeningRow) (shape : Sha
   pub opening : OpeningRow
   pub there : slice_get openings o ≡ Some opening
   pub near : All (λ p. IsNear p shape tolerance) opening.line.points
-
--- the opening at this place is there, and touches the unit
-pub record TouchesAt (tolerance : ℕ) (openings : List OpeningRow) (unit : UnitRow) (o : ℕ) : Type 0 where
-  pub opening : OpeningRow
-  pub there : slice_get openings o ≡ Some opening
-  pub touch : Touches tolerance opening unit
-
--- the places of the openings that touch the unit, each once
-pub record AreMatches (tolerance : ℕ) (openings : List OpeningRow) (unit : UnitRow) (places : List ℕ) : Type 0 where
-  pub exact : (o : ℕ) → Contains places o ↔ TouchesAt tolerance openings unit o
-  pub distinct : AreDistinct places

@@ -3,7 +3,7 @@ use Rattle.std.specs.Prelude.{◌≡◌, ◌≢◌, ℕ, ◌<◌, [], ◌∷◌,
 use Rattle.std.specs.List.Sorted.{IsStrictlyIncreasing}
 use Rattle.venue_types.specs.declared.features.OpeningRow.{OpeningRow}
 use Rattle.venue_types.specs.declared.features.UnitRow.{UnitRow}
-use Rattle.opening_match.specs.Matches.{TouchesAt}
+use Rattle.venue_nodes.specs.TouchCounts.{TouchesAt}
 
 -- the row at this place has the unit at its end, and the others stay
 pub record GainsAt (place unit : ℕ) (old new : List (List ℕ)) : Type 0 where

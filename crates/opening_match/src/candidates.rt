@@ -6,7 +6,8 @@ ghost use Rattle.opening_match.specs.declared.entries.Entry.{Entry};
 ghost use Rattle.opening_match.specs.Entries.{AreEntries, AreApart};
 ghost use Rattle.opening_match.specs.Frames.{IsAtHeight};
 ghost use Rattle.opening_match.specs.Places.{ArePlaces, AreDistinct};
-ghost use Rattle.opening_match.specs.Matches.{AreCloseTo, AreBeside, RunsAlong, AreMatches};
+ghost use Rattle.venue_nodes.specs.TouchCounts.{AreMatches};
+ghost use Rattle.opening_match.specs.Matches.{AreCloseTo, AreBeside, RunsAlong};
 
 use crate::entries::Entry;
 use crate::frame::{Frame, frame_of};

@@ -2,7 +2,7 @@
 
 ghost use Rattle.std.specs.Prelude.{◌≡◌, ◌↔◌, ◌+◌, ◌<◌, ◌≤◌, ◌^◌, IsTrue, OnOk, All, length};
 ghost use Rattle.imdf_access.specs.Categories.{is_walkable};
-ghost use Rattle.opening_match.specs.Counts.{walked_part};
+ghost use Rattle.venue_nodes.specs.TouchCounts.{walked_part};
 ghost use Rattle.opening_match.specs.Places.{AreDistinct};
 ghost use Rattle.opening_match.specs.Rows.{GainsUnit};
 

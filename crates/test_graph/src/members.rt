@@ -3,8 +3,9 @@
 ghost use Rattle.std.specs.Prelude.{◌≡◌, IfOk, length};
 
 use crate::folders::{Folder, add, between, feature, name, point, polygon};
-use crate::rows::rows_of;
+use crate::rows::{crowding_of, rows_of};
 use std::alloc::{AllocError, Global};
+use std::process::Abort;
 use std::test::Fail;
 use test_station::{AMENITY, Change, Edit, slots_of};
 use venue_nodes::{Crowding, Membership, Rows, first_crowding, limit_findings};
@@ -151,10 +152,39 @@ fn tells_the_first_limit(rt: HostRuntime) -> Result<(), Fail> {
         let files = crowd(rt.alloc(), counts)?;
         let rows = rows_of(rt.alloc(), &files)?;
         assert!(rt; first_crowding(&rows) == limit);
-        let findings = limit_findings(rt.alloc(), &rows)?;
-        assert!(rt; findings.len() == told.is_some() as usize);
-        let first = findings.get(0).map(|finding| (finding.rule, finding.index));
-        assert!(rt; first == told);
+        if let Some(crowding) = limit {
+            judge_told(&rt, rt.alloc(), crowding, told)?;
+        }
+    }
+    Ok(())
+}
+
+/// Of a limit one finding is told, of this rule at this unit.
+fn judge_told(
+    rt: &impl Abort,
+    alloc: Global,
+    crowding: Crowding,
+    told: Option<(u8, u32)>,
+) -> Result<(), Fail> {
+    let findings = limit_findings(alloc, crowding)?;
+    assert!(rt; findings.len() == 1);
+    let first = findings.get(0).map(|finding| (finding.rule, finding.index));
+    assert!(rt; first == told);
+    Ok(())
+}
+
+#[test]
+fn counted_openings_tell_the_first_limit(rt: HostRuntime) -> Result<(), Fail> {
+    // Behind a column units of 1, 100 and 1 members without openings.
+    let files = crowd(rt.alloc(), &[1, 100, 1])?;
+    let table: [(&[usize], Crowding); 4] = [
+        (&[9_999, 4_095, 3_996, 0], Crowding::Squares),
+        (&[9_999, 4_095, 3_997], Crowding::Members(2)),
+        (&[0, 4_095, 3_997, 9_999], Crowding::Members(2)),
+        (&[0, 4_096], Crowding::Members(1)),
+    ];
+    for (counts, limit) in table {
+        assert!(rt; crowding_of(rt.alloc(), &files, counts)? == limit);
     }
     Ok(())
 }

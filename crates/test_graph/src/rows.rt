@@ -1,18 +1,21 @@
 //! Rows that are read of files and that the first two phases accept, and what is made of them.
 
 ghost use Rattle.std.specs.Prelude.{◌≡◌, IfOk, length};
+ghost use Rattle.imdf_read.specs.Figures.{judged_positions};
 ghost use Rattle.imdf_read.specs.Rows.{HaveOwnIds};
 ghost use Rattle.imdf_read.specs.Sound.{AreSound};
+ghost use Rattle.plane_exact.specs.Figure.{AllClose};
+ghost use Rattle.plane_exact.specs.Opening.{AreTouches};
 
 use imdf_read::{ReadOut, read_folder, sound_reading_law};
 use imdf_refs::{own_ids_law, reference_findings};
-use opening_match::touches;
+use opening_match::{Matches, touches};
 use ring_rules::is_spread;
 use std::alloc::Global;
 use std::test::Fail;
 use test_station::station_settings;
-use venue_nodes::Rows;
-use venue_types::{Features, Files, Touches};
+use venue_nodes::{Crowding, Rows, crowding_by};
+use venue_types::{Features, Files, Settings, Touches};
 
 /// The rows of a folder in which the first phase finds nothing.
 fn sound(alloc: Global, files: &Files) -> Result<Features, Fail>
@@ -41,7 +44,19 @@ pub(crate) fn touches_of(alloc: Global, files: &Files, tolerance: u32) -> Result
     }
     let mut settings = station_settings(alloc)?;
     settings.border_tol = tolerance.min(100_000);
-    Ok(touches(alloc, &features, &settings)?)
+    each_touch(alloc, &features, &settings)
+}
+
+/// The touches of a folder in which no venue's limit on them is passed.
+fn each_touch(alloc: Global, features: &Features, settings: &Settings) -> Result<Touches, Fail>
+    requires sound { AreSound features.now }
+    requires close { AllClose (judged_positions features.now) }
+    ensures { IfOk result (AreTouches settings.now.border_tol features.now) }
+{
+    match touches(alloc, features, settings)? {
+        Matches::Each(touches) => Ok(touches),
+        Matches::Many(_) => Err(Fail::new("more openings than any venue may have")),
+    }
 }
 
 /// The references of these rows name what is there, and no two rows have one identifier.
@@ -67,6 +82,15 @@ pub(crate) fn rows_of(alloc: Global, files: &Files) -> Result<Rows, Fail>
         return Err(Fail::new("the folder is spread"));
     }
     let settings = station_settings(alloc)?;
-    let touches = touches(alloc, &features, &settings)?;
+    let touches = each_touch(alloc, &features, &settings)?;
     Ok(Rows::of(alloc, &features, &settings, &touches)?)
+}
+
+/// The limit that a folder passes by so many openings at each of its first units.
+pub(crate) fn crowding_of(alloc: Global, files: &Files, counts: &[usize]) -> Result<Crowding, Fail>
+    requires { length files.now.slots ≡ 17 }
+{
+    let features = sound(alloc, files)?;
+    judge_names(alloc, &features)?;
+    Ok(crowding_by(alloc, &features, counts)?)
 }

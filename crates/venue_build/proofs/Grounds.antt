@@ -1,5 +1,7 @@
 -- What the phases after the first come to, one after another.
 use Rattle.std.proofs.Common.{◌≡◌, ◌≢◌, List, [], refl, subst, inl}
+use Rattle.std.specs.List.Sorted.{IsStrictlySortedBy}
+use Rattle.venue_types.proofs.Items.{Contains-nil}
 use Rattle.venue_types.specs.declared.features.Features.{Features}
 use Rattle.venue_types.specs.declared.settings.Settings.{Settings}
 use Rattle.venue_types.specs.declared.finding.Finding.{Finding}
@@ -17,6 +19,15 @@ use Rattle.venue_build.proofs.Planes.{spread_finding}
 -- the report of a phase that has nothing, as an empty one
 pub empty_report : (P : Finding → Type 0) (findings : List Finding) → findings ≡ [] → IsReport P findings → IsReport P []
 empty_report P findings none report = subst (λ (xs : List Finding). IsReport P xs) none report
+
+-- a phase that finds nothing has an empty report
+pub none_report : (P : Finding → Type 0) → ((x : Finding) → ¬ P x) → IsReport P []
+unfolding IsStrictlySortedBy
+none_report P none = record {
+  rises = tt;
+  only = λ y h. absurd (Contains-nil y h);
+  whole = λ y p. absurd (none y p);
+}
 
 module _ (features : Features) (settings : Settings) where
   -- the second phase finds something

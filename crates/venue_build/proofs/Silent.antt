@@ -1,15 +1,11 @@
 -- Where no later phase finds anything, none of them does.
-use Rattle.std.proofs.Common.{ℕ, [], Option, Some, None, refl}
-use Rattle.venue_types.proofs.Items.{Contains-first}
+use Rattle.std.proofs.Common.{refl}
 use Rattle.venue_types.specs.declared.features.Features.{Features}
 use Rattle.venue_types.specs.declared.settings.Settings.{Settings}
 use Rattle.venue_types.specs.declared.finding.Finding.{Finding}
 use Rattle.imdf_refs.specs.Rules.{IsMisnamed}
 use Rattle.ring_rules.specs.Rules.{BreaksSpread, IsSpread}
-use Rattle.link_graph.specs.Crowding.{Crowding}
-use Rattle.link_graph.specs.Crowds.{Crowds, limit_finding}
 use Rattle.link_graph.specs.Limits.{BreaksLimit}
-use Rattle.link_graph.proofs.Limiting.{report}
 use Rattle.venue_build.specs.Phases.{IsMisplaced, IsPlaneBroken, IsGroundBroken}
 use Rattle.venue_build.specs.Report.{IsLaterBroken}
 use Rattle.venue_build.proofs.PhaseLemmas.{first_silent, second_silent}
@@ -38,9 +34,3 @@ module _ (features : Features) (settings : Settings) (unbroken : (x : Finding) �
   -- a spread would be a finding of the third phase
   pub not_spread : ¬ IsSpread features
   not_spread spread = close (record { rule = 26; file = 0; index = 0; member = 0 }) (record { spread = spread; rule = refl; in_file = refl; at_index = refl; at_member = refl })
-
--- where no limit breaks, none is passed
-pub none_crowds : (features : Features) (border_tol : ℕ) (limit : Option Crowding) → ((x : Finding) → ¬ BreaksLimit features border_tol x) → Crowds features border_tol limit → Crowds features border_tol None
-none_crowds features border_tol None silent crowds = crowds
-none_crowds features border_tol (Some limit) silent crowds =
-    absurd (silent (limit_finding limit) ((report features border_tol (Some limit) crowds).only (limit_finding limit) (Contains-first (limit_finding limit) [])))

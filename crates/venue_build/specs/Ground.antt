@@ -1,5 +1,5 @@
 -- What the fifth phase makes of rows, and what a venue's rows come to.
-use Rattle.std.specs.Prelude.{◌≡◌, ◌≢◌, ◌⊎◌, List, [], Contains}
+use Rattle.std.specs.Prelude.{◌≡◌, ◌≢◌, ◌⊎◌, List, [], None, Contains}
 use Rattle.venue_types.specs.declared.features.Features.{Features}
 use Rattle.venue_types.specs.declared.settings.Settings.{Settings}
 use Rattle.venue_types.specs.declared.finding.Finding.{Finding}
@@ -7,8 +7,9 @@ use Rattle.venue_types.specs.declared.finding.Note.{Note}
 use Rattle.venue_types.specs.declared.finding.Report.{Report}
 use Rattle.plane_exact.specs.Opening.{AreTouches}
 use Rattle.rule_reports.specs.Reports.{IsReport, IsNoteList, Shortens}
-use Rattle.link_graph.specs.NodeViews.{AreNodes}
-use Rattle.link_graph.specs.Rows.{AreRowsOf}
+use Rattle.link_graph.specs.Crowds.{Crowds}
+use Rattle.link_graph.specs.Graphs.{network}
+use Rattle.link_graph.specs.Networks.{IsNetworkOf}
 use Rattle.link_graph.specs.Unplaced.{IsUnplaced}
 use Rattle.venue_build.specs.declared.built.Built.{Built}
 use Rattle.venue_build.specs.declared.built.Built.TheVariants as built
@@ -18,11 +19,11 @@ use Rattle.venue_build.specs.declared.ground.Judged.{Judged}
 use Rattle.venue_build.specs.declared.ground.Judged.TheVariants as judged
 use Rattle.venue_build.specs.Report.{IsLaterBroken}
 
--- the units that openings touch, the nodes, and the members of units, all of these rows
+-- the units that openings touch, and the graph, of these rows, in which no limit is passed
 pub record IsGround (features : Features) (settings : Settings) (ground : Ground) : Type 0 where
   pub touches : AreTouches settings.border_tol features ground.touches
-  pub nodes : AreNodes features ground.nodes
-  pub members : AreRowsOf features settings.border_tol ground.members
+  pub graph : IsNetworkOf features settings (network ground.graph)
+  pub roomy : Crowds features settings.border_tol None
 
 -- no later phase finds anything, and this is the ground; or one does, and these are its findings
 abbrev pub IsJudged : Features → Settings → Judged → Type 0

@@ -1,23 +1,23 @@
 //! What the fifth phase makes of the rows of a folder.
 
-ghost use Rattle.std.specs.Prelude.{IfOk};
+ghost use Rattle.std.specs.Prelude.{IfOk, IfErr};
 ghost use Rattle.plane_exact.specs.Figure.{AllClose};
 ghost use Rattle.imdf_read.specs.Figures.{judged_positions};
 ghost use Rattle.imdf_read.specs.Rows.{HaveOwnIds};
 ghost use Rattle.imdf_read.specs.Sound.{AreSound};
+ghost use Rattle.link_graph.specs.Faults.{IsFault};
 ghost use Rattle.venue_build.specs.Ground.{IsGround};
 
-use link_graph::{Nodes, Rows};
-use opening_match::touches;
+use link_graph::{Graph, GraphFault};
+use opening_match::{Matches, touches};
 use std::alloc::Global;
-use venue_types::{Features, Finding, List, OutOfMemory, Settings, Touches};
+use venue_types::{Features, Finding, List, Settings, Touches};
 
-/// The units that openings touch, the nodes, and the members of units.
+/// The units that openings touch, and the graph.
 #[derive(Drop)]
 pub(crate) struct Ground {
     pub touches: Touches,
-    pub nodes: Nodes,
-    pub members: Rows,
+    pub graph: Graph,
 }
 
 /// What the phases after the first make of rows.
@@ -29,23 +29,23 @@ pub(crate) enum Judged {
     Broken(List<Finding>),
 }
 
-/// The ground of rows in which the phases on the plane find nothing.
+/// The ground of rows in which the phases on the plane find nothing, or why there is none.
 pub(crate) fn ground_of(
     alloc: Global,
     features: &Features,
     settings: &Settings,
-) -> Result<Ground, OutOfMemory>
+) -> Result<Ground, GraphFault>
     requires sound { AreSound features.now }
     requires own_ids { HaveOwnIds features.now }
     requires close { AllClose (judged_positions features.now) }
-    ensures { IfOk result (IsGround features.now settings.now) }
+    ensures ground { IfOk result (IsGround features.now settings.now) }
+    ensures fault { IfErr result (IsFault features.now settings.now.border_tol) }
 {
-    let touches = touches(alloc, features, settings)?;
-    let nodes = Nodes::of(alloc, features)?;
-    let members = Rows::of(alloc, features, settings, &touches)?;
-    Ok(Ground {
-        touches,
-        nodes,
-        members,
-    })
+    match touches(alloc, features, settings)? {
+        Matches::Many(counts) => Err(GraphFault::of_counts(alloc, features, counts.as_slice())),
+        Matches::Each(touches) => {
+            let graph = Graph::build(alloc, features, &touches, settings)?;
+            Ok(Ground { touches, graph })
+        }
+    }
 }

@@ -5,10 +5,7 @@ ghost use Rattle.imdf_read.specs.Sound.{AreSound};
 ghost use Rattle.rule_reports.specs.Reports.{IsNoteList};
 ghost use Rattle.link_graph.specs.Unplaced.{IsUnplaced};
 ghost use Rattle.venue_build.specs.Ground.{IsGround, IsJudged, IsLaterBuilt};
-ghost use Rattle.link_graph.specs.Graphs.{network};
-ghost use Rattle.link_graph.specs.Networks.{IsNetworkOf};
 ghost use Rattle.venue_build.specs.Built.{IsBuilt};
-ghost use Rattle.venue_build.specs.Report.{AreValid};
 
 use crate::ground::{Ground, Judged, ground_of};
 use crate::place_table::Places;
@@ -16,7 +13,7 @@ use crate::plane::plane_findings;
 use crate::{Built, Venue};
 use imdf_read::{ReadOut, read_folder, sound_reading_law};
 use imdf_refs::{own_ids_law, reference_findings};
-use link_graph::{Graph, first_crowding, limit_findings, place_notes};
+use link_graph::{limit_law, place_notes};
 use ring_rules::no_spread_law;
 use rule_reports::{notes_in_order, shortened};
 use std::alloc::Global;
@@ -29,6 +26,7 @@ fn judged(alloc: Global, features: &Features, settings: &Settings) -> Result<Jud
 {
     own_ids_law();
     no_spread_law();
+    limit_law();
     let misnamed = reference_findings(alloc, features)?;
     if !misnamed.is_empty() {
         return Ok(Judged::Broken(misnamed));
@@ -37,12 +35,13 @@ fn judged(alloc: Global, features: &Features, settings: &Settings) -> Result<Jud
     if !misplaced.is_empty() {
         return Ok(Judged::Broken(misplaced));
     }
-    let ground = ground_of(alloc, features, settings)?;
-    let crowded = limit_findings(alloc, &ground.members)?;
-    if !crowded.is_empty() {
-        return Ok(Judged::Broken(crowded));
+    match ground_of(alloc, features, settings) {
+        Ok(ground) => Ok(Judged::Sound(ground)),
+        Err(fault) => {
+            let crowded = fault.findings(alloc)?;
+            Ok(Judged::Broken(crowded))
+        }
     }
-    Ok(Judged::Sound(ground))
 }
 
 // What is noted of the files, and what is no place or leads nowhere.
@@ -57,26 +56,9 @@ fn all_notes(
     ensures { IfOk result (IsNoteList (λ x. Contains noted x ⊎ IsUnplaced features.now settings.now.border_tol x)) }
 {
     let mut notes = noted.into_vec();
-    place_notes(features, &ground.touches, &ground.nodes, &mut notes)?;
+    let nodes = ground.graph.node_table();
+    place_notes(features, &ground.touches, nodes, &mut notes)?;
     Ok(notes_in_order(notes))
-}
-
-// The graph of rows that every phase accepts, over the nodes and the members that the last one made.
-fn graph_of(
-    alloc: Global,
-    features: &Features,
-    settings: &Settings,
-    ground: Ground,
-) -> Result<Graph, OutOfMemory>
-    requires valid { AreValid features.now settings.now }
-    requires ground { IsGround features.now settings.now ground }
-    ensures { IfOk result (λ graph. IsNetworkOf features.now settings.now (network graph)) }
-{
-    own_ids_law();
-    no_spread_law();
-    let _none = first_crowding(&ground.members);
-    let graph = Graph::of(alloc, features, ground.nodes, ground.members, settings)?;
-    Ok(graph)
 }
 
 // The venue of rows in which the first phase finds nothing, or the report of a later one.
@@ -93,10 +75,10 @@ fn built(
         Judged::Broken(findings) => Ok(Built::Rejected(shortened(findings))),
         Judged::Sound(ground) => {
             let notes = all_notes(&features, settings, &ground, noted)?;
-            let graph = graph_of(alloc, &features, settings, ground)?;
             let places = Places::of(alloc, &features)?;
             let kept = settings.copy(alloc)?;
-            Ok(Built::Venue(Venue::new(features, kept, notes, graph, places)))
+            let venue = Venue::new(features, kept, notes, ground.graph, places);
+            Ok(Built::Venue(venue))
         }
     }
 }

@@ -22,9 +22,7 @@ use Rattle.venue_types.specs.declared.features.OpeningRow.{OpeningRow}
 use Rattle.venue_types.specs.declared.features.UnitRow.{UnitRow}
 use Rattle.plane_exact.specs.Opening.{Touches}
 use Rattle.imdf_access.specs.Categories.{is_walkable}
-use Rattle.opening_match.specs.Counts.{HasFull, IsTouchedBy, walked_sum}
-use Rattle.opening_match.specs.Kept.{TouchMany}
-use Rattle.opening_match.specs.Places.{AreDistinct}
+use Rattle.venue_nodes.specs.TouchCounts.{HasFull, IsTouchedBy, TouchMany, walked_sum}
 use Rattle.venue_nodes.specs.declared.limits.Crowding.TheVariants.{Members, Squares}
 use Rattle.venue_nodes.specs.declared.members.Rows.{Rows}
 use Rattle.venue_nodes.specs.Crowds.{Crowds, IsFirstOver, IsOver}
@@ -88,7 +86,7 @@ members_counted features border_tol u =
 
 -- ---- how many openings touch a unit
 
-distinct : (xs : List ℕ) → AreDistinct xs → IsDistinct nat_eq xs
+distinct : (xs : List ℕ) → AllPairs (λ (a b : ℕ). a ≢ b) xs → IsDistinct nat_eq xs
 unfolding IsDistinct
 distinct [] apart = tt
 distinct (x ∷ xs) apart = (
@@ -96,7 +94,7 @@ distinct (x ∷ xs) apart = (
   distinct xs (λ i j d under within. apart (suc i) (suc j) d (omega (arith, under)) (omega (arith, within))),
 )
 
-places_distinct : {A : Type 0} (t : A → Bool) (xs : List A) → AreDistinct (places_where t 0 xs)
+places_distinct : {A : Type 0} (t : A → Bool) (xs : List A) → AllPairs (λ (a b : ℕ). a ≢ b) (places_where t 0 xs)
 places_distinct t xs i j d under within same =
     let less = AllPairs-from_increasing (places_where t 0 xs) (IsStrictlyIncreasing-from_sorted (places_where t 0 xs) (places_rise t 0 xs)) i j d under within in
     omega (arith, less, same)

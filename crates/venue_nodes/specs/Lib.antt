@@ -10,6 +10,7 @@ pub mod Standing
 pub mod Filling
 pub mod Rows
 pub mod Crowds
+pub mod TouchCounts
 pub mod Bounds
 pub mod Numbering
 pub mod Views

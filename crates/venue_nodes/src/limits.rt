@@ -6,10 +6,10 @@ ghost use Rattle.venue_types.specs.declared.finding.Finding.{Finding};
 ghost use Rattle.feature_rows.specs.Rows.{HaveOwnIds};
 ghost use Rattle.feature_rows.specs.Sound.{AreSound};
 ghost use Rattle.rule_reports.specs.Reports.{IsReport};
-ghost use Rattle.opening_match.specs.Kept.{TouchMany};
 ghost use Rattle.venue_nodes.specs.Crowds.{Crowds, IsFirstFull, IsFirstOver, IsOver, IsRoomy, limit_finding, square_of};
 ghost use Rattle.venue_nodes.specs.Limits.{BreaksLimit};
 ghost use Rattle.venue_nodes.specs.Rows.{AreRowsOf, row_list};
+ghost use Rattle.venue_nodes.specs.TouchCounts.{TouchMany};
 
 use crate::members::Rows;
 use crate::rules::LimitRule;

@@ -2,6 +2,7 @@
 
 ghost use Rattle.std.specs.Prelude.{◌≡◌, ◌≤◌};
 ghost use Rattle.venue_session.specs.Ends.{connection_between};
+ghost use Rattle.venue_session.specs.Moments.{IsPrompt, reads_between};
 ghost use Rattle.venue_session.specs.Sessions.{IsSession, HasServed};
 ghost use Rattle.venue_service.specs.Guests.{conn_of};
 
@@ -39,6 +40,7 @@ impl<N: HallName, C: Stream> Guest<N, C> {
     ) -> (End, C)
         requires keys { front.now ≡ N.keys }
         ensures session { IsSession front.now seat.old seat.new (connection_between C.Stream (conn_of self) result.1) result.0 }
+        ensures prompt { IsPrompt front.now seat.old (reads_between C.Stream (conn_of self) result.1) }
         ensures hall { HasServed seat.old seat.new }
         ensures link { C.faults (conn_of self) ≤ C.faults result.1 }
     {

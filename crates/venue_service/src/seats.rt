@@ -94,7 +94,9 @@ fn work_each<
         rt,
         seats,
         threads,
-        &|_, seat| work(rt, alloc, seat, desk, front),
+        &|_, seat|
+            requires { front.now ≡ N.keys }
+        { work(rt, alloc, seat, desk, front) },
     );
 }
 

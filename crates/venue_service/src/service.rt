@@ -165,8 +165,8 @@ fn run_seats<
     requires left { HasRoom sitting.left (length sitting.passes.items) }
     requires none { length sitting.left.items ≡ 0 }
     requires keys { front.now ≡ N.keys }
-    ensures count { length result.passes.items ≡ length sitting.passes.items }
-    ensures parts { parts_of result.passes.items ≡ parts_of sitting.passes.items }
+    ensures count { length result.passes.items ≡ length sitting.entry.passes.items }
+    ensures parts { parts_of result.passes.items ≡ parts_of sitting.entry.passes.items }
     ensures ended { (result.desk.left ≡ 0) ⊎ (result.desk.failed ≡ true) }
 {
     let Sitting {

@@ -26,11 +26,10 @@ fn nodes_of(venue: &Venue) -> u32
     venue.graph().nodes()
 }
 
-fn links_of(alloc: Global, venue: &Venue) -> Result<usize, OutOfMemory>
-    ensures { IfOk result (λ count. count ≡ length (links venue.now.features venue.now.settings)) }
+fn links_of(venue: &Venue) -> usize
+    ensures { result ≡ length (links venue.now.features venue.now.settings) }
 {
-    let links = venue.graph().listed(alloc)?;
-    Ok(links.len())
+    venue.graph().link_count()
 }
 
 // The lines of three numbers.
@@ -49,7 +48,6 @@ fn size_lines(
 pub(crate) fn size_of_venue(alloc: Global, venue: &Venue) -> Result<String, OutOfMemory>
     ensures { IfOk result (λ text. string_bytes text ≡ size_lines venue.now) }
 {
-    let links = links_of(alloc, venue)?;
-    let text = size_lines(alloc, features_of(venue), nodes_of(venue), links)?;
+    let text = size_lines(alloc, features_of(venue), nodes_of(venue), links_of(venue))?;
     Ok(text)
 }

@@ -1,7 +1,8 @@
 use Rattle.std.proofs.Common.{◌<◌, ℕ, List, Vec, Global, length, All, sym, subst}
 use Rattle.std.proofs.lemmas.Result.{IfOk-weaker}
 use Rattle.opening_match.specs.Places.{ArePlaces}
-use Rattle.opening_match.specs.Matches.{RunsAlong, AreMatches}
+use Rattle.venue_nodes.specs.TouchCounts.{AreMatches}
+use Rattle.opening_match.specs.Matches.{RunsAlong}
 use Rattle.opening_match.proofs.Touching.{candidates, matches, no_matches, close_shape, all_there, filled, unfilled}
 use Rattle.opening_match.proofs.candidates.matches_of.Goals as goal
 

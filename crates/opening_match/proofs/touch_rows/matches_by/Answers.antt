@@ -1,5 +1,5 @@
 use Rattle.std.proofs.Common.{◌≤◌, ◌<◌, ℕ, List, length, All, subst, sym, refl, ap, ◌∙◌, arith, inl, inr}
-use Rattle.opening_match.specs.Kept.{TouchMany}
+use Rattle.venue_nodes.specs.TouchCounts.{TouchMany}
 use Rattle.opening_match.specs.Rows.{AreRowsBelow}
 use Rattle.opening_match.proofs.Counting.{counted_none, counts_next, full_next, counted_next, not_so}
 use Rattle.opening_match.proofs.Gaining.{below_none, found_there, below_next, below_end}

@@ -3,7 +3,7 @@ use Rattle.imdf_refs.specs.Rules.{IsMisnamed}
 use Rattle.link_graph.specs.Limits.{BreaksLimit}
 use Rattle.venue_build.specs.Phases.{IsPlaneBroken}
 use Rattle.venue_build.proofs.PhaseLemmas.{nothing, not_empty, empty}
-use Rattle.venue_build.proofs.Grounds.{empty_report, names_report, plane_report, limit_report, silent, not_spread}
+use Rattle.venue_build.proofs.Grounds.{empty_report, none_report, names_report, plane_report, limit_report, silent, not_spread}
 use Rattle.venue_build.proofs.phases.judged.Goals as goal
 
 pub returns-then-not-is_empty : goal.returns-then-not-is_empty
@@ -41,21 +41,19 @@ ground_of-requires-clause-close c =
     let none = empty c.is_empty-2.result found c.is_empty-2.ensures c.if-not-is_empty-2.false in
     c.no_spread_law.ensures features (not_spread features settings (empty_report (IsPlaneBroken features settings.contain_tol) found none c.in_ok-misplaced.ensures))
 
-pub returns-then-not-is_empty-3 : goal.returns-then-not-is_empty-3
-returns-then-not-is_empty-3 c =
+pub returns-in-Ok : goal.returns-in-Ok
+returns-in-Ok c =
     let features = c.args.features.now in
     let settings = c.args.settings.now in
     let names = c.in_ok-misnamed.misnamed in
     let plane = c.in_ok-misplaced.misplaced in
-    let found = c.in_ok-crowded.crowded in
     let no_names = empty c.is_empty.result names c.is_empty.ensures c.if-not-is_empty.false in
-    let no_plane = empty c.is_empty-2.result plane c.is_empty-2.ensures c.if-not-is_empty-2.false in
-    let some : found ≢ [] = not_empty c.is_empty-3.result found c.is_empty-3.ensures c.if-not-is_empty-3.true in (
-      some,
-      limit_report features settings found
+    let no_plane = empty c.is_empty-2.result plane c.is_empty-2.ensures c.if-not-is_empty-2.false in (
+      silent features settings
           (empty_report (IsMisnamed features) names no_names c.in_ok-misnamed.ensures)
           (empty_report (IsPlaneBroken features settings.contain_tol) plane no_plane c.in_ok-misplaced.ensures)
-          (c.in_ok-crowded.ensures features settings.border_tol c.in_ok-ground.ensures.members),
+          (none_report (BreaksLimit features settings.border_tol) (λ x. c.limit_law.ensures features settings.border_tol x c.in-Ok.ensures.ground.roomy)),
+      c.in-Ok.ensures.ground,
     )
 
 pub returns : goal.returns
@@ -64,13 +62,12 @@ returns c =
     let settings = c.args.settings.now in
     let names = c.in_ok-misnamed.misnamed in
     let plane = c.in_ok-misplaced.misplaced in
-    let limits = c.in_ok-crowded.crowded in
+    let found = c.in_ok-crowded-in-Err.crowded in
     let no_names = empty c.is_empty.result names c.is_empty.ensures c.if-not-is_empty.false in
-    let no_plane = empty c.is_empty-2.result plane c.is_empty-2.ensures c.if-not-is_empty-2.false in
-    let no_limits = empty c.is_empty-3.result limits c.is_empty-3.ensures c.if-not-is_empty-3.false in (
-      silent features settings
+    let no_plane = empty c.is_empty-2.result plane c.is_empty-2.ensures c.if-not-is_empty-2.false in (
+      c.in_ok-crowded-in-Err.ensures.some,
+      limit_report features settings found
           (empty_report (IsMisnamed features) names no_names c.in_ok-misnamed.ensures)
           (empty_report (IsPlaneBroken features settings.contain_tol) plane no_plane c.in_ok-misplaced.ensures)
-          (empty_report (BreaksLimit features settings.border_tol) limits no_limits (c.in_ok-crowded.ensures features settings.border_tol c.in_ok-ground.ensures.members)),
-      c.in_ok-ground.ensures,
+          (c.in_ok-crowded-in-Err.ensures.all features settings.border_tol c.in-Err.ensures.fault),
     )
