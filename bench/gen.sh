@@ -15,13 +15,13 @@ for levels in 50 200; do
 done
 
 # A repository of its own, with a program that tells the times of the parts.
-lay_out "$work" time_parts building_report test_station
+lay_out "$work" time_parts venue_commands test_station
 cat >"$work/crates/time_parts/src/main.rt" <<'END'
 //! `time_parts` prints the milliseconds of making the text of a building of 200 levels, of making its venue, and of all that `gen` does,
 //! and how many bytes the text has.
 #![tactic(auto)]
 
-use building_report::tell_building;
+use venue_commands::tell_building;
 use gen_text::gen_files;
 use std::io::{self, Error};
 use std::time::Instant;

@@ -8,6 +8,7 @@ use Rattle.version_board.specs.Making.{shelf_of}
 use Rattle.version_board.specs.OneThread.{one_thread}
 use Rattle.venue_session.specs.Openings.{opening_history}
 use Rattle.venue_session.specs.Venues.{SeenVenue as Venue}
+use Rattle.venue_session.specs.Moments.{IsPrompt}
 use Rattle.venue_session.specs.Sessions.{IsSession, HasServed}
 use Rattle.venue_session.specs.declared.ends.End.{End}
 use Rattle.venue_commands.specs.declared.start.Start.{Start}
@@ -17,7 +18,7 @@ use Rattle.venue_commands.specs.Ends.{Ends}
 use Rattle.venue_commands.specs.Openings.{IsOpening}
 use Rattle.venue_commands.specs.Commands.{Session, Asks, AskNoConsole}
 use Rattle.venue_commands.specs.Runs.{Run, NoFault, IsUnread}
-use Rattle.venue_commands.specs.Served.{end_status, console_of, Served}
+use Rattle.venue_commands.specs.Served.{end_status, console_of, reads_of, Served}
 
 -- the files of a shelf
 abbrev stored_of : Option Shelf → Option (List StoredFile)
@@ -50,8 +51,8 @@ ends_as words files run Memory served = inr served
 
 pub ends_served : (words : List (List ℕ)) (files : Option (List StoredFile)) (run : Run) (status : Status) (opening : Start) (front : List (List ℕ)) (old new : Facts) (end : End)
     → IsOpening words files opening → front ≡ (arc_value opening.venue).settings.staff_keys → old ≡ one_thread files opening.base (opening_history opening.venue) run.folders 0
-    → IsSession front old new (console_of run) end → HasServed old new → run.folders_now ≡ new.faults → status ≡ end_status end → Ends words files run status
-ends_served words files run status opening front old new end opens keys facts session hall folders ended =
+    → IsSession front old new (console_of run) end → IsPrompt front old (reads_of run) → HasServed old new → run.folders_now ≡ new.faults → status ≡ end_status end → Ends words files run status
+ends_served words files run status opening front old new end opens keys facts session prompt hall folders ended =
     let venue : Venue = arc_value opening.venue in
     let told = opens.opens in
     ends_as words files run status (record {
@@ -70,6 +71,7 @@ ends_served words files run status opening front old new end opens keys facts se
       closing = new;
       end = end;
       session = subst (λ (ks : List (List ℕ)). IsSession ks old new (console_of run) end) keys session;
+      prompt = subst (λ (ks : List (List ℕ)). IsPrompt ks old (reads_of run)) keys prompt;
       hall = hall;
       folders = folders;
       ended = ended;
@@ -79,13 +81,13 @@ ends_served words files run status opening front old new end opens keys facts se
 pub serves : (words : List (List ℕ)) (files held : Option (List StoredFile)) (run : Run) (failed : ℕ) (status : Status) (opening : Start) (front : List (List ℕ)) (old new : Facts) (end : End)
     → IsOpening words files opening → held ≡ files → failed ≡ run.folders → front ≡ (arc_value opening.venue).settings.staff_keys
     → old ≡ one_thread held opening.base (opening_history opening.venue) failed 0
-    → IsSession front old new (console_of run) end → HasServed old new → run.folders_now ≡ new.faults → status ≡ end_status end → Ends words files run status
-serves words files held run failed status opening front old new end opens same kept keys facts session hall folders ended =
+    → IsSession front old new (console_of run) end → IsPrompt front old (reads_of run) → HasServed old new → run.folders_now ≡ new.faults → status ≡ end_status end → Ends words files run status
+serves words files held run failed status opening front old new end opens same kept keys facts session prompt hall folders ended =
     let held_files : old ≡ one_thread files opening.base (opening_history opening.venue) failed 0 =
     subst (λ (o : Option (List StoredFile)). old ≡ one_thread o opening.base (opening_history opening.venue) failed 0) same facts in
     let failed_so : old ≡ one_thread files opening.base (opening_history opening.venue) run.folders 0 =
     subst (λ (n : ℕ). old ≡ one_thread files opening.base (opening_history opening.venue) n 0) kept held_files in
-    ends_served words files run status opening front old new end opens keys failed_so session hall folders ended
+    ends_served words files run status opening front old new end opens keys failed_so session prompt hall folders ended
 
 pub ends_nothing : (words : List (List ℕ)) (files : Option (List StoredFile)) (run : Run) → run.written_now ≡ run.written → NoFault run → IsUnread run → Ends words files run Memory
 ends_nothing words files run written faultless unread = inl (record { written = written; faultless = faultless; unread = unread })

@@ -1,6 +1,7 @@
 -- What is measured of a run.
 use Rattle.std.specs.Prelude.{◌≡◌, ℕ, List, ◌++◌, Option, Some, None}
 use Rattle.venue_ports.specs.Asked.{AskedFile}
+use Rattle.venue_ports.specs.Starts.{ReadStart}
 use Rattle.venue_ports.specs.declared.folders.Folders.{Ghosts as Shelves}
 use Rattle.venue_ports.specs.declared.stream.Stream.{Ghosts as Consoles}
 
@@ -15,13 +16,15 @@ pub record FoldersRun : Type 0 where
 abbrev pub folders_between : {S : Type 0} → Shelves S → S → S → FoldersRun
 folders_between F old new = record { faults = F.faults old; faults_now = F.faults new; asked = F.asked old; asked_now = F.asked new }
 
--- what was before the run and what is after it: the bytes that the console holds still and those that were written, the counts of faults,
--- and the files that were asked for
+-- what was before the run and what is after it: the bytes that the console holds still and those that were written, what stood when each
+-- of its reads began, the counts of faults, and the files that were asked for
 pub record Run : Type 0 where
   pub left : Option (List ℕ)
   pub left_now : Option (List ℕ)
   pub written : Option (List ℕ)
   pub written_now : Option (List ℕ)
+  pub starts : Option (List ReadStart)
+  pub starts_now : Option (List ReadStart)
   pub console : ℕ
   pub console_now : ℕ
   pub folders : ℕ
@@ -36,6 +39,8 @@ run_between C old new folders = record {
   left_now = C.left new;
   written = C.written old;
   written_now = C.written new;
+  starts = C.starts old;
+  starts_now = C.starts new;
   console = C.faults old;
   console_now = C.faults new;
   folders = folders.faults;

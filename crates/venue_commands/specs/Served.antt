@@ -9,6 +9,7 @@ use Rattle.venue_session.specs.Facts.{Facts}
 use Rattle.version_board.specs.OneThread.{one_thread}
 use Rattle.venue_session.specs.Openings.{opening_history}
 use Rattle.venue_session.specs.Ends.{Measured}
+use Rattle.venue_session.specs.Moments.{Reads, IsPrompt}
 use Rattle.venue_session.specs.Sessions.{IsSession, HasServed}
 use Rattle.venue_session.specs.declared.ends.End.{End}
 use Rattle.venue_commands.specs.declared.status.Status.{Status}
@@ -43,6 +44,10 @@ console_of run = record {
   faults_after = run.console_now;
 }
 
+-- the reads of the console
+abbrev pub reads_of : Run → Reads
+reads_of run = record { left = run.left; written = run.written; before = run.starts; after = run.starts_now }
+
 -- the words ask for a session, the folder makes a venue, and the hall that it opens served the console; nothing else was printed
 pub record Served (words : List (List ℕ)) (files : Option (List StoredFile)) (run : Run) (status : Status) : Type 0 where
   pub base : List ℕ
@@ -56,6 +61,7 @@ pub record Served (words : List (List ℕ)) (files : Option (List StoredFile)) (
   pub closing : Facts
   pub end : End
   pub session : IsSession venue.settings.staff_keys opening closing (console_of run) end
+  pub prompt : IsPrompt venue.settings.staff_keys opening (reads_of run)
   pub hall : HasServed opening closing
   pub folders : run.folders_now ≡ closing.faults
   pub ended : status ≡ end_status end

@@ -6,7 +6,7 @@ pub returns-in-Ok-clause-ends : goal.returns-in-Ok-clause-ends
 returns-in-Ok-clause-ends g c words files before opens same failed =
     let served = c.serve_session-end.ensures in
     serves words files (g.F.Folders.files c.args.folders) _ (g.F.Folders.faults c.args.folders) c.status_of.result c.args.opening c.args.opening.front _ _
-    c.serve_session-end.result opens same failed c.args.opening.keys c.in-Ok.ensures.facts served.session served.hall (ap g.F.Folders.faults c.finish.ensures) c.status_of.ensures
+    c.serve_session-end.result opens same failed c.args.opening.keys c.in-Ok.ensures.facts served.session served.prompt served.hall (ap g.F.Folders.faults c.finish.ensures) c.status_of.ensures
 
 pub returns-in-Ok-clause-files : goal.returns-in-Ok-clause-files
 returns-in-Ok-clause-files g c =
