@@ -258,7 +258,7 @@ def check_others(document, program, base):
     for path, item in document["paths"].items():
         has = [method.upper() for method in ("get", "post") if method in item]
         allowed = {**resolve(document, item["x-other-methods"]), "headers": {"allow": {"schema": {"const": ", ".join(has)}}}}
-        sent = [request("get", re.sub(r"{\w+}", "x", path)).replace(b"GET", method.encode(), 1) for method in ("GET", "POST", "PUT", "HEAD", "get") if method not in has]
+        sent = [request("get", re.sub(r"{\w+}", "x", path)).replace(b"GET", method.encode(), 1) for method in ("GET", "POST", "PUT", "OPTIONS", "get") if method not in has]
         serve(document, program, base, {"405": allowed}, [(it, lambda status: status == "405") for it in sent])
     paths = ("/", "/v2", "/v1/version/", "/V1/version", "/v1/place/", "/v1/place/a/b", "*", "http://a/v1/version")
     serve(document, program, base, {"404": document["x-other-paths"]}, [(request("get", path), lambda status: status == "404") for path in paths])

@@ -1,8 +1,8 @@
 #!/usr/bin/env python3
 """Refuses the program its allocations, one number a run: each one alone, and each one with all later ones (checks/refuse.c). A command that finds
 no memory ends with status 4 behind a front of what it prints. A session may say 503 in place of a reply, and then nothing was changed: the replies
-behind it are those of a session without that request. It may end with 4 before its first reply, at an accepted change whose reply it can't make, and at
-a message whose query or body it can't read.
+behind it are those of a session without that request. It may end with 4 before its first reply, and at an accepted change whose reply it can't make: a
+message whose query or body it can't read is answered 503 like others.
 
 usage: refused_memory.py [--all]   (the program is the one that VENUE names, or else the one that the launcher ./venue runs, which builds it if need be)
 For each command it prints how many allocations it made and how its runs came out, and one line at the end. It ends with status 1 at a fault. Where a
@@ -98,11 +98,6 @@ def is_accepted(request, reply):
     return request.startswith(b"POST") and reply.startswith(b"HTTP/1.1 200 ") and b'"changed":false' not in reply
 
 
-def has_to_be_read(request):
-    """Whether a request has a query or a body: for want of memory to read it a connection may end, and nothing was changed."""
-    return b"?" in request.partition(b"\r\n")[0] or request.startswith(b"POST")
-
-
 class Command:
     """A command that prints one text."""
 
@@ -152,11 +147,9 @@ class Session(Command):
             raise Fault(f"status {ran.status} behind {count} replies, {ran.err!r}")
         if not count:
             return "status 4 before a reply"
-        if is_accepted(self.requests[count], due[count]):
-            return "status 4 at an accepted change"
-        if not has_to_be_read(self.requests[count]):
+        if not is_accepted(self.requests[count], due[count]):
             raise Fault(f"status 4 behind {count} replies, in place of {due[count]!r} or 503")
-        return "status 4 at another message"
+        return "status 4 at an accepted change"
 
 
 class Client:
@@ -277,10 +270,10 @@ class Serve(Command):
             return "a client that waited while the other one held the only worker"
         if is_change_untold:
             return "a connection that ended at an accepted change"
-        if any(turn.client in told and not has_to_be_read(turn.request) for turn in ended):
+        if any(turn.client in told for turn in ended):
             raise Fault(f"a connection ended in place of a reply or 503: {turns}")
         if ended:
-            return "a connection that ended " + ("at another message" if ended[0].client in told else "before a reply")
+            return "a connection that ended before a reply"
         return "503 among the replies" if any(turn.reply == WANT for turn in turns) else "all replies"
 
 

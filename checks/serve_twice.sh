@@ -1,6 +1,6 @@
 #!/bin/bash
-# Serves the example station by `venue serve` with two workers for two connections by curl, one that asks for the version and one that closes
-# the lift, and compares the replies, both lines that are printed, and the status.
+# Serves the example station by `venue serve` with two workers for three connections by curl, one that asks for the version, one that closes
+# the lift and one that sends a HEAD, and compares the replies, both lines that are printed, and the status.
 #
 # usage: serve_twice.sh [PROGRAM]   (without PROGRAM the launcher ./venue, which builds the program if need be)
 # It prints a line for each difference and one at the end, and ends with status 1 at a difference.
@@ -8,12 +8,19 @@ program=${1-$(dirname "$0")/../venue}
 . "$(dirname "$0")/serving.sh"
 need curl
 
-serve 2 2
+serve 2 3
 at=http://127.0.0.1:$port/v1
 compare version "$(curl -s --max-time 20 $at/version)" '{"closed":0,"places":33,"version":1}'
 compare closing "$(curl -s --max-time 20 -H "$key" -d "$closing" $at/closures)" '{"changed":true,"closed":true,"feature":"'$lift'","version":2}'
+compare 'a HEAD' "$(curl -sI --max-time 20 -w '%{size_download}' $at/version | tr -d '\r')" 'HTTP/1.1 405 Method Not Allowed
+content-type: application/json
+content-length: 18
+allow: GET
+connection: close
+
+0'
 wait $server
 compare 'the status' $? 0
 compare 'what was printed' "$(cat "$work/printed")" "listening 127.0.0.1:$port
-workers 2 sessions 2 versions 2 changes 1"
+workers 2 sessions 3 versions 2 changes 1"
 finish

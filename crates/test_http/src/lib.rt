@@ -6,6 +6,8 @@ mod desks;
 #[cfg(test)]
 mod frames;
 #[cfg(test)]
+mod moments;
+#[cfg(test)]
 mod replies;
 #[cfg(test)]
 mod requests;

@@ -8,7 +8,7 @@ use venue_types::{
     Which,
 };
 use wire_frames::{Methods, Refusal};
-use wire_replies::{Response, reply_bytes, want_of_memory};
+use wire_replies::{bare_bytes, refusal_bytes, reply_bytes, want_of_memory};
 
 // The identifier that ends with these digits.
 fn id(last: u16) -> FeatureId {
@@ -102,21 +102,41 @@ fn no_route(alloc: Global, reached: Option<List<FeatureId>>) -> Result<Reply, Al
 #[derive(Clone, Copy)]
 struct Told<'t>(&'t str, usize, &'t str);
 
+// The head of a reply.
+fn head_of(alloc: Global, told: Told<'_>) -> Result<String, AllocError> {
+    let Told(status, length, lines) = told;
+    format!(in alloc;
+        "HTTP/1.1 {status}\r\ncontent-type: application/json\r\ncontent-length: {length}\r\n{lines}\r\n"
+    )
+}
+
 fn sees(
     rt: &impl Abort,
     alloc: Global,
-    answer: &Response,
+    reply: &Reply,
     close: bool,
     told: Told<'_>,
     body: &str,
 ) -> Result<(), AllocError> {
-    let Told(status, length, lines) = told;
-    let body = whole(alloc, body)?;
-    let text = format!(in alloc;
-        "HTTP/1.1 {status}\r\ncontent-type: application/json\r\ncontent-length: {length}\r\n{lines}\r\n{body}"
-    )?;
-    let bytes = reply_bytes(alloc, answer, close).expect(rt, "memory");
+    let mut text = head_of(alloc, told)?;
+    text.push_str(whole(alloc, body)?.as_str())?;
+    let bytes = reply_bytes(alloc, reply, close).expect(rt, "memory");
     assert!(rt; bytes.as_slice() == text.as_bytes(), "{text}");
+    Ok(())
+}
+
+// A refusal, and its head alone, in a session that goes on.
+fn sees_refusal(
+    rt: &impl Abort,
+    alloc: Global,
+    refusal: Refusal,
+    told: Told<'_>,
+    body: &str,
+) -> Result<(), AllocError> {
+    let mut text = head_of(alloc, told)?;
+    assert!(rt; bare_bytes(refusal, false) == text.as_bytes(), "{text}");
+    text.push_str(body)?;
+    assert!(rt; refusal_bytes(refusal, false) == text.as_bytes(), "{text}");
     Ok(())
 }
 
@@ -129,7 +149,7 @@ fn reads(
     body: &str,
 ) -> Result<(), AllocError> {
     let told = Told("200 OK", length, "");
-    sees(rt, alloc, &Response::Of(reply), false, told, body)
+    sees(rt, alloc, &reply, false, told, body)
 }
 
 fn sees_changes(rt: &impl Abort, alloc: Global) -> Result<(), AllocError> {
@@ -231,14 +251,7 @@ fn sees_findings(rt: &impl Abort, alloc: Global) -> Result<(), AllocError> {
     let told = Told("422 Unprocessable Entity", 100, "");
     let body =
         r#"{"error":"rejected","findings":[{"file":"unit.geojson","index":7,"member":0,"rule":"K1"}],"total":1}"#;
-    sees(
-        rt,
-        alloc,
-        &Response::Of(Reply::Rejected(report)),
-        false,
-        told,
-        body,
-    )
+    sees(rt, alloc, &Reply::Rejected(report), false, told, body)
 }
 
 #[test]
@@ -254,11 +267,11 @@ fn answers_have_their_bytes(rt: HostRuntime) -> Result<(), Fail> {
             b"HTTP/1.1 200 OK\r\ncontent-type: application/json\r\ncontent-length: 36\r\nconnection: close\r\n\r\n{\"closed\":0,\"places\":33,\"version\":1}".as_slice(),
         ),
     ] {
-        let version = Response::Of(Reply::Version {
+        let version = Reply::Version {
             number: 1,
             closed: 0,
             places: 33,
-        });
+        };
         let written = reply_bytes(alloc, &version, close).expect(&rt, "memory");
         assert_eq!(rt; written.as_slice(), bytes);
     }
@@ -268,61 +281,61 @@ fn answers_have_their_bytes(rt: HostRuntime) -> Result<(), Fail> {
     assert_eq!(rt; want_of_memory(false).len(), 114);
     let table = [
         (
-            Response::Of(Reply::NoProfile),
+            Reply::NoProfile,
             "404 Not Found",
             27,
             r#"{"error":"no_such_profile"}"#,
         ),
         (
-            Response::Of(Reply::NoPlace(Which::From)),
+            Reply::NoPlace(Which::From),
             "404 Not Found",
             40,
             r#"{"error":"no_such_place","which":"from"}"#,
         ),
         (
-            Response::Of(Reply::NoPlace(Which::To)),
+            Reply::NoPlace(Which::To),
             "404 Not Found",
             38,
             r#"{"error":"no_such_place","which":"to"}"#,
         ),
         (
-            Response::Of(Reply::NoPlace(Which::Id)),
+            Reply::NoPlace(Which::Id),
             "404 Not Found",
             38,
             r#"{"error":"no_such_place","which":"id"}"#,
         ),
         (
-            Response::Of(Reply::NoFeature),
+            Reply::NoFeature,
             "404 Not Found",
             27,
             r#"{"error":"no_such_feature"}"#,
         ),
         (
-            Response::Of(Reply::FolderFault {
+            Reply::FolderFault {
                 before: 1,
                 after: 2,
-            }),
+            },
             "502 Bad Gateway",
             24,
             r#"{"error":"folder_fault"}"#,
         ),
         (
-            Response::Of(Reply::Ahead {
+            Reply::Ahead {
                 since: 9,
                 number: 3,
-            }),
+            },
             "409 Conflict",
             47,
             r#"{"error":"version_ahead","since":9,"version":3}"#,
         ),
         (
-            Response::Of(Reply::HistoryFull { number: 2 }),
+            Reply::HistoryFull { number: 2 },
             "409 Conflict",
             36,
             r#"{"error":"history_full","version":2}"#,
         ),
         (
-            Response::Of(Reply::OutOfMemory),
+            Reply::OutOfMemory,
             "503 Service Unavailable",
             26,
             r#"{"error":"want_of_memory"}"#,
@@ -410,14 +423,7 @@ fn answers_have_their_bytes(rt: HostRuntime) -> Result<(), Fail> {
             r#"{"error":"bad_query"}"#,
         ),
     ] {
-        sees(
-            &rt,
-            alloc,
-            &Response::No(refusal),
-            false,
-            Told(status, length, lines),
-            body,
-        )?;
+        sees_refusal(&rt, alloc, refusal, Told(status, length, lines), body)?;
     }
     sees_changes(&rt, alloc)?;
     sees_closures(&rt, alloc)?;

@@ -28,7 +28,8 @@ enum Outcome<'t> {
     Closure(u128, bool),
     Publish(&'t str),
     Refused(Refusal),
-    OutOfMemory,
+    Bare(Refusal),
+    Unread,
 }
 
 fn what_of(ask: &Ask) -> What<'_> {
@@ -62,6 +63,8 @@ fn message_outcome(message: &Message) -> Outcome<'_> {
         Message::Ask(query) => asked(query),
         Message::Do(change) => changed(change),
         Message::Refused(refusal) => Outcome::Refused(*refusal),
+        Message::Bare(refusal) => Outcome::Bare(*refusal),
+        Message::Unread => Outcome::Unread,
     }
 }
 
@@ -70,7 +73,6 @@ fn come_of(taken: &Taken) -> Outcome<'_> {
         Taken::More { .. } => Outcome::More,
         Taken::Fault(refusal) => Outcome::Fault(*refusal),
         Taken::Message { message, .. } => message_outcome(message),
-        Taken::OutOfMemory => Outcome::OutOfMemory,
     }
 }
 
@@ -169,6 +171,10 @@ fn only(methods: Methods) -> Outcome<'static> {
     Outcome::Refused(Refusal::Method(methods))
 }
 
+fn bare(methods: Methods) -> Outcome<'static> {
+    Outcome::Bare(Refusal::Method(methods))
+}
+
 fn since(version: u32) -> Outcome<'static> {
     Outcome::Ask(Some(version), What::Version)
 }
@@ -232,7 +238,11 @@ fn check_paths(rt: &impl Abort, alloc: Global, front: &Front) -> Result<(), Allo
         ("GET /v1/place/a/b", NO_PATH),
         ("GET http://a/v1/version", NO_PATH),
         ("OPTIONS *", NO_PATH),
-        ("HEAD /v1/version", only(Methods::Get)),
+        ("HEAD /v1/version", bare(Methods::Get)),
+        ("HEAD /v1/publish", bare(Methods::Post)),
+        ("HEAD /v1/closures", bare(Methods::Both)),
+        ("HEAD /v2", Outcome::Bare(Refusal::NoPath)),
+        ("head /v1/version", only(Methods::Get)),
         ("POST /v1/version", only(Methods::Get)),
         ("GET /v1/publish", only(Methods::Post)),
         ("PUT /v1/closures", only(Methods::Both)),

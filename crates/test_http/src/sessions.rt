@@ -21,6 +21,9 @@ const VERSION: &str = "GET /v1/version HTTP/1.1\r\nhost: a\r\n\r\n";
 // It is asked for, and nothing else.
 const LAST: &str = "GET /v1/version HTTP/1.1\r\nhost: a\r\nconnection: close\r\n\r\n";
 
+// The same by a method that no path has.
+const HEAD: &str = "HEAD /v1/version HTTP/1.1\r\nhost: a\r\n\r\n";
+
 // The begin of the same with a field to be filled.
 const PADDED: &str = "GET /v1/version HTTP/1.1\r\nhost: a\r\nx: ";
 
@@ -59,6 +62,10 @@ const AS_ASKED: &str =
 
 const AHEAD: &str =
     "HTTP/1.1 409 Conflict\r\ncontent-type: application/json\r\ncontent-length: 47\r\n\r\n{\"error\":\"version_ahead\",\"since\":9,\"version\":1}";
+
+// The head of what a refused method is told, without the body.
+const BARE: &str =
+    "HTTP/1.1 405 Method Not Allowed\r\ncontent-type: application/json\r\ncontent-length: 18\r\nallow: GET\r\nconnection: close\r\n\r\n";
 
 const TOO_LARGE: &str =
     "HTTP/1.1 431 Request Header Fields Too Large\r\ncontent-type: application/json\r\ncontent-length: 26\r\nconnection: close\r\n\r\n{\"error\":\"head_too_large\"}";
@@ -147,8 +154,8 @@ fn judge_session(
     Ok(())
 }
 
-// A hall of the venue, over no folders.
-fn hall(
+/// A hall of the venue, over no folders.
+pub(crate) fn hall(
     alloc: Global,
     settings: &Arc<Settings>,
     venue: &Arc<Venue>,
@@ -211,6 +218,12 @@ fn sessions_end(rt: HostRuntime) -> Result<(), Fail> {
             "behind the last",
             &[LAST, VERSION],
             &[FIRST_LAST],
+            End::Done,
+        ),
+        telling(
+            "a version behind HEAD",
+            &[HEAD, VERSION],
+            &[BARE],
             End::Done,
         ),
         Row {
