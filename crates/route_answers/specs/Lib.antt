@@ -6,3 +6,4 @@ pub mod Passing
 pub mod Adding
 pub mod Placing
 pub use Rattle.venue_nodes.specs.Nodes
+pub use Rattle.walk_laws.specs.Walks

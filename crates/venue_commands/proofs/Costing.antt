@@ -6,7 +6,7 @@ use Rattle.venue_types.specs.declared.reply.Reply.{Reply}
 use Rattle.venue_types.specs.declared.reply.Reply.TheVariants as reply
 use Rattle.venue_types.specs.declared.reply.Which.TheVariants as which
 use Rattle.venue_types.specs.declared.settings.Profile.{Profile}
-use Rattle.walk_laws.specs.Walks.{IsWalk, HasNoWalk}
+use Rattle.route_answers.specs.Walks.{IsWalk, HasNoWalk}
 use Rattle.version_board.specs.Nodes.{place_of}
 use Rattle.version_board.specs.Views.{link_view}
 use Rattle.version_board.specs.Answers.{Answers, IsTrip}

@@ -8,7 +8,7 @@ use Rattle.venue_types.specs.declared.settings.Profile.{Profile}
 use Rattle.venue_types.specs.declared.settings.Settings.{Settings}
 use Rattle.venue_types.specs.Identifier.{identifier_read}
 use Rattle.line_forms.specs.Lines.{line}
-use Rattle.walk_laws.specs.Walks.{IsLeast, IsWalk}
+use Rattle.route_answers.specs.Walks.{IsLeast, IsWalk}
 use Rattle.imdf_access.specs.Profiles.{built_in_profiles}
 use Rattle.feature_rows.specs.Rows.{feature_count}
 use Rattle.version_board.specs.Nodes.{nodes, place_of}

@@ -9,7 +9,7 @@ use Rattle.venue_types.specs.declared.reply.Reply.{Reply}
 use Rattle.venue_types.specs.declared.reply.Reply.TheVariants as reply
 use Rattle.venue_types.specs.declared.settings.Profile.{Profile}
 use Rattle.line_forms.specs.Lines.{line}
-use Rattle.walk_laws.specs.Walks.{IsLeast, IsWalk}
+use Rattle.route_answers.specs.Walks.{IsLeast, IsWalk}
 use Rattle.feature_rows.specs.Rows.{feature_count}
 use Rattle.version_board.specs.Nodes.{nodes}
 use Rattle.version_board.specs.Links.{links}

@@ -5,3 +5,4 @@ pub mod Settings
 pub mod Sound
 pub mod Table
 pub mod Values
+pub use Rattle.toml.specs.Data
