@@ -7,6 +7,7 @@ pub mod CheckJudging
 pub mod RouteJudging
 pub mod OneText
 pub mod RouteProving
+pub mod Failing
 pub mod Ending
 pub mod Openings
 pub mod Serving
