@@ -1,11 +1,11 @@
 -- What the calls of a disk in memory make of its moments.
-use Rattle.std.proofs.Common.{◌≡◌, inl, inr, ℕ, ◌≤◌, List, [], ◌∷◌, length, take, Bool, true, false, cond, refl, ◌∙◌, ap, subst, arith, length-take}
+use Rattle.std.proofs.Common.{◌≡◌, ◌⊎◌, inl, inr, ℕ, ◌+◌, ◌≤◌, List, [], ◌∷◌, length, take, Bool, true, false, cond, refl, sym, ◌∙◌, ap, subst, arith, length-take}
 use Rattle.std.proofs.lemmas.List.{take_all}
-use Rattle.venue_ports.specs.Moments.{Moment, Now, Goes, GoesOrEnds, HasWritten, MayHaveWritten}
+use Rattle.venue_ports.specs.Moments.{Moment, Now, Goes, GoesOrEnds, HasWritten, MayHaveWritten, with_piece}
 use Rattle.venue_ports.specs.DiskCalls.{DiskRecord, first_moment, after_call, add_call, moments_of, noted_moments, record_moments, content_of, is_full}
 use Rattle.venue_ports.specs.declared.disk_calls.DiskCall.{DiskCall}
 use Rattle.venue_ports.specs.declared.disk_calls.DiskCallKind.TheVariants.{Write}
-use Rattle.venue_ports.proofs.CallLemmas.{some_moment, of_now}
+use Rattle.venue_ports.proofs.CallLemmas.{IsSome, some_moment, of_now}
 use Rattle.venue_ports.proofs.Tears.{torn_by_piece}
 
 goes_of : (step : Moment → Moment → Type 0) (Q : Moment → Type 0) (call : DiskCall) (put : List ℕ) (moments new : List Moment) → new ≡ add_call call put moments → Now Q moments

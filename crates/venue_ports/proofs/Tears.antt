@@ -1,7 +1,7 @@
 -- What torn bytes keep, and what a piece written over bytes is.
-use Rattle.std.proofs.Common.{◌≡◌, ◌⊎◌, inl, inr, ℕ, ◌+◌, ◌-◌, ◌≤◌, ◌<◌, min, max, List, [], ◌∷◌, ◌++◌, length, get_or, take, drop, refl, sym, ◌∙◌, ap, subst, arith, length-append, length-take, length-drop}
-use Rattle.std.proofs.lemmas.List.{take_at, drop_at, take_all, drop-drop, get_or-take, get_or-drop}
-use Rattle.venue_ports.specs.Moments.{Range, Moment, IsTorn, IsLeft, Leaves, IsStep, has_stayed, has_written, may_have_written, has_synced, ReadIsLeft, Now, GoesOrEnds, IsOutside, greatest_end, with_piece}
+use Rattle.std.proofs.Common.{◌≡◌, ◌⊎◌, inl, inr, ⊎_elim, ℕ, ◌+◌, ◌-◌, ◌≤◌, ◌<◌, min, max, List, [], ◌∷◌, ◌++◌, length, get_or, take, drop, refl, sym, ◌∙◌, ap, subst, arith, length-append, length-take, length-drop}
+use Rattle.std.proofs.lemmas.List.{take-append-le, drop-append-le, take_at, drop_at, take_all, drop_all, take-take, drop-drop, get_or-take, get_or-drop, append-nil}
+use Rattle.venue_ports.specs.Moments.{Range, Moment, IsTorn, IsLeft, Leaves, IsStep, has_stayed, has_written, may_have_written, has_synced, HasStayed, HasWritten, MayHaveWritten, HasSynced, ReadIsLeft, Now, Goes, GoesOrEnds, IsOutside, greatest_end, with_piece}
 
 -- how long the bytes are then
 pub length-with_piece : (old : List ℕ) (at : ℕ) (piece : List ℕ) → at ≤ length old → length (with_piece old at piece) ≡ max (length old) (at + length piece)

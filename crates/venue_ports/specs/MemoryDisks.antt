@@ -1,5 +1,5 @@
 -- What a disk in memory and disks in memory tell.
-use Rattle.std.specs.Prelude.{◌⊎◌, ℕ, ◌<◌, List, Option, Some, None, Bool, IsTrue, take, min, slice_get}
+use Rattle.std.specs.Prelude.{◌≡◌, ◌⊎◌, ℕ, ◌<◌, List, Option, Some, None, Bool, IsTrue, length, take, min, slice_get}
 use Rattle.venue_ports.specs.DiskCalls.{DiskRecord, record_moments, is_full, bytes_left}
 use Rattle.venue_ports.specs.Files.{StoredFile}
 use Rattle.venue_ports.specs.Moments.{Moment}

@@ -1,4 +1,4 @@
-use Rattle.std.proofs.Common.{List, sym, subst}
+use Rattle.std.proofs.Common.{ℕ, List, sym, subst}
 use Rattle.venue_ports.specs.Moments.{Moment, Now, ReadIsLeft}
 use Rattle.venue_ports.proofs.Tears.{read_stays_left}
 use Rattle.venue_ports.proofs.disk_laws.read_is_left_law.Goals as goal

@@ -1,7 +1,7 @@
-use Rattle.std.proofs.Common.{◌≡◌, ◌+◌, ◌≤◌, ◌∷◌, ◌++◌, [], ℕ, List, length, take, arith, length-take, length-append, sym, ap, subst, ◌∙◌}
+use Rattle.std.proofs.Common.{◌≡◌, ◌+◌, ◌≤◌, ◌∷◌, ◌++◌, [], ℕ, List, length, take, arith, length-take, length-append, take-append-drop, sym, ap, subst, ◌∙◌}
 use Rattle.std.proofs.lemmas.Grind.{common_steps}
 use Rattle.venue_ports.specs.DiskCalls.{DiskRecord, IsKept, record_of, bytes_left, is_full, noted_moments, record_moments}
-use Rattle.venue_ports.specs.Moments.{Now}
+use Rattle.venue_ports.specs.Moments.{Now, with_piece}
 use Rattle.venue_ports.specs.Plans.{Held}
 use Rattle.venue_ports.proofs.CallLemmas.{all_appended, kept_appended, moments_appended, of_content}
 use Rattle.venue_ports.proofs.disk_calls.CallRecord.write.Goals as goal

@@ -1,4 +1,4 @@
-use Rattle.std.proofs.Common.{◌+◌, ◌≤◌, ℕ, List, length, subst, sym, ◌∙◌}
+use Rattle.std.proofs.Common.{◌+◌, ◌≤◌, ℕ, List, length, ap, subst, sym, ◌∙◌}
 use Rattle.venue_ports.proofs.DiskSteps.{of_told}
 use Rattle.venue_ports.proofs.memory_disk.MemoryDiskDisk.read.Goals as goal
 

@@ -1,5 +1,6 @@
-use Rattle.std.proofs.Common.{◌≡◌, ℕ, length, take, ap, ◌∙◌}
-use Rattle.venue_ports.specs.DiskCalls.{noted_moments, record_moments}
+use Rattle.std.proofs.Common.{◌≡◌, true, false, ℕ, List, length, take, ap, subst, sym, refl, ◌∙◌}
+use Rattle.venue_ports.specs.DiskCalls.{DiskRecord, noted_moments, record_moments}
+use Rattle.venue_ports.specs.Moments.{Moment, Goes, GoesOrEnds, HasWritten, MayHaveWritten}
 use Rattle.venue_ports.specs.declared.disk_calls.DiskCall.{DiskCall}
 use Rattle.venue_ports.specs.declared.disk_calls.DiskCallKind.TheVariants.{Write}
 use Rattle.venue_ports.specs.declared.memory_disk.MemoryDisk.{MemoryDisk}
