@@ -62,32 +62,33 @@ fn failed(_: Failed) -> Error {
 }
 
 fn main(rt: HostRuntime) -> io::Result<()> {
-    let mut args = env::args(&rt).skip(1);
-    let (Some(folder), Some(name)) = (args.next(), args.next()) else {
+    let words: Vec<String> = env::args(&rt)?.collect(rt.alloc())?;
+    if words.len() < 3 {
         return Err(Error::other("usage: time_disk FOLDER NAME"));
-    };
+    }
+    let (folder, name) = (words[1].as_str(), words[2].as_str());
     if folder.len() > 1024 || name.len() > 64 {
         return Err(Error::other("a long name"));
     }
     let mut piece = Vec::with_capacity(rt.alloc(), 32 << 20)?;
     piece.resize(32 << 20, 7)?;
-    let mut disk = FileDisks::new(&rt).open_disk(&folder, &name).map_err(failed)?;
+    let mut disk = FileDisks::new(&rt).open_disk(folder, name).map_err(failed)?;
     let from = Instant::now(&rt)?;
     append(&mut disk, 64, true).map_err(failed)?;
-    println!(rt; "append {:.6}", from.elapsed(&rt)?.as_secs_f64() / 64.0);
+    println!(rt; "append {:.6}", from.elapsed(&rt)?.as_secs_f64() / 64.0)?;
     let from = Instant::now(&rt)?;
     append(&mut disk, 1_000_000, false).map_err(failed)?;
-    println!(rt; "million {:.6}", from.elapsed(&rt)?.as_secs_f64());
+    println!(rt; "million {:.6}", from.elapsed(&rt)?.as_secs_f64())?;
     let from = Instant::now(&rt)?;
     disk.write(0, &piece).map_err(failed)?;
     disk.sync().map_err(failed)?;
-    println!(rt; "large {:.6}", from.elapsed(&rt)?.as_secs_f64());
+    println!(rt; "large {:.6}", from.elapsed(&rt)?.as_secs_f64())?;
     let from = Instant::now(&rt)?;
     read(&mut disk, &mut piece).map_err(failed)?;
-    println!(rt; "reads {:.6}", from.elapsed(&rt)?.as_secs_f64());
+    println!(rt; "reads {:.6}", from.elapsed(&rt)?.as_secs_f64())?;
     let from = Instant::now(&rt)?;
     touch(&mut disk).map_err(failed)?;
-    println!(rt; "sync {:.6}", from.elapsed(&rt)?.as_secs_f64() / 64.0);
+    println!(rt; "sync {:.6}", from.elapsed(&rt)?.as_secs_f64() / 64.0)?;
     Ok(())
 }
 END

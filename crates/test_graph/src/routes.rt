@@ -3,8 +3,6 @@
 
 mod graph_rows;
 mod graphs;
-mod made;
-mod made_folders;
 mod reach_rows;
 mod reaches;
 mod search_rows;

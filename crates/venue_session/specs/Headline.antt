@@ -72,6 +72,7 @@ TellsTheWay seen (Of (reply.Rejected report)) = Unit {0}
 TellsTheWay seen (Of (reply.HistoryFull number)) = Unit {0}
 TellsTheWay seen (Of reply.OutOfMemory) = Unit {0}
 TellsTheWay seen (No refusal) = Unit {0}
+TellsTheWay seen (Bare refusal) = Unit {0}
 
 -- the message stands at the front of the bytes and is answered right, at a legal history that begins with the one before
 pub record IsExchange (keys : List (List ℕ)) (shelf : Option Shelf) (worker : ℕ) (before : List Entry) (bytes : List ℕ) (x : Exchange) : Type 0 where

@@ -51,7 +51,7 @@ pub(super) fn marks_of(
 }
 
 // The potential of a node: that of the list, else the cost.
-pub(super) fn potential(listed: &[Potential], cost: u64, n: u32) -> u64 {
+fn potential(listed: &[Potential], cost: u64, n: u32) -> u64 {
     for one in listed {
         if one.node == n {
             return one.value;
