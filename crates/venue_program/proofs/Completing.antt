@@ -22,17 +22,17 @@ ends_done words files run doors Fault free (inl cut) = absurd (free.console cut.
 ends_done words files run doors Fault free (inr (inl failed)) = absurd (free.folders failed.cause)
 ends_done words files run doors Fault free (inr (inr session)) = absurd (free.console (fault_rose words (Some files) run session.end session refl))
 
-service_done : (words : List (List ℕ)) (files : List StoredFile) (run : Run) (doors : DoorsRun) (address : List ℕ) (terms : HallTerms) (status : Status) → IsUnhindered words files run doors
+service_done : (words : List (List ℕ)) (files : List StoredFile) (run : Run) (doors : DoorsRun) (address : List ℕ) (terms : HallTerms) {status : Status} → IsUnhindered words files run doors
     → IsServiceEnd address terms (console_of run) doors status → IsDone status
-service_done words files run doors address terms Fault free (unbound accepted rose told) = absurd (free.doors_kept rose)
-service_done words files run doors address terms Fault free (unheard nobody told) = absurd (free.console told.cause)
-service_done words files run doors address terms Memory free (unserved nobody told) = inr (inr refl)
-service_done words files run doors address terms Done free (served counts were sound told) = inl refl
-service_done words files run doors address terms Fault free (failing counts were failed told) = absurd (free.doors_kept (were.failed failed))
-service_done words files run doors address terms Fault free (cut_short counts were told) = absurd (free.console told.cause)
-service_done words files run doors address terms Memory free (untold counts were told) = inr (inr refl)
+service_done words files run doors address terms free (unbound accepted rose told) = absurd (free.doors_kept rose)
+service_done words files run doors address terms free (unheard nobody told) = absurd (free.console told.cause)
+service_done words files run doors address terms free (unserved nobody told) = inr (inr refl)
+service_done words files run doors address terms free (served counts were sound told) = inl refl
+service_done words files run doors address terms free (failing counts were failed told) = absurd (free.doors_kept (were.failed failed))
+service_done words files run doors address terms free (cut_short counts were told) = absurd (free.console told.cause)
+service_done words files run doors address terms free (untold counts were told) = inr (inr refl)
 
 pub is_done : (words : List (List ℕ)) (files : List StoredFile) (run : Run) (doors : DoorsRun) (status : Status) → IsUnhindered words files run doors
     → RunEnds words (Some files) run doors status → IsDone status
 is_done words files run doors status free (inl alone) = ends_done words files run doors status free alone.ends
-is_done words files run doors status free (inr service) = service_done words files run doors service.address service.terms status free service.ends
+is_done words files run doors status free (inr service) = service_done words files run doors service.address service.terms free service.ends

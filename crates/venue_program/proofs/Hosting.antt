@@ -28,7 +28,7 @@ use Rattle.venue_program.specs.Steps.{IsReadyOf, IsReadyFor}
 use Rattle.venue_types.specs.declared.memory.OutOfMemory.{OutOfMemory}
 use Rattle.venue_service.specs.Services.{HallTerms}
 use Rattle.venue_service.specs.Venues.{SeenVenue as Venue}
-use Rattle.venue_program.specs.Doors.{DoorsRun, NobodyCame}
+use Rattle.venue_program.specs.Doors.{DoorsRun, AreBoundAt, NobodyCame}
 use Rattle.venue_program.specs.Services.{closing_line, listening_line, service_text, IsTold, IsToldInPart, WereServed, IsServiceEnd, unheard, unserved, served, failing, cut_short, untold}
 use Rattle.venue_program.specs.Steps.{IsClosing, IsServedOn, nobody, closed}
 
@@ -193,3 +193,11 @@ service_headline words told run status service asks base' folder' files came bef
 -- and they ask for doors
 pub asks_doors : (words : List (List ℕ)) (service : ServiceOf) → Asks words (service_asked service) → AskNoDoors words → ⊥
 asks_doors words service asks none = let same : true ≡ false = none (service_asked service) asks in absurd cc
+
+-- what was bound and served at an address, where it is told otherwise
+pub bound_as : (address named : List ℕ) (doors : DoorsRun) → address ≡ named → AreBoundAt address doors → AreBoundAt named doors
+bound_as address named doors same bound = subst (λ (a : List ℕ). AreBoundAt a doors) same bound
+
+pub ends_as : (address named : List ℕ) (terms : HallTerms) (console : Measured) (doors : DoorsRun) (status : Status) → address ≡ named
+    → IsServiceEnd address terms console doors status → IsServiceEnd named terms console doors status
+ends_as address named terms console doors status same ends = subst (λ (a : List ℕ). IsServiceEnd a terms console doors status) same ends

@@ -4,6 +4,7 @@
 mod exit;
 mod laws;
 mod outcome;
+mod plans;
 mod program;
 mod ready;
 mod serve_command;

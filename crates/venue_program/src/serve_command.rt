@@ -20,7 +20,8 @@ ghost use Rattle.venue_program.specs.Services.{door_fault, closing_line, IsTold,
 ghost use Rattle.venue_program.specs.Steps.{IsClosing, IsReadyFor, IsServedOn};
 
 use crate::outcome::Outcome;
-use crate::ready::{Ready, ready_of};
+use crate::plans::ready_of;
+use crate::ready::Ready;
 use std::alloc::{AllocError, Global};
 use std::marker::Brand;
 use std::sync::Wait;

@@ -1,5 +1,6 @@
 use Rattle.std.proofs.Common.{refl, inl}
 use Rattle.std.specs.Prelude.{string_bytes, map}
+use Rattle.venue_commands.specs.Runs.{folders_between, run_between}
 use Rattle.venue_program.proofs.Hosting.{service_headline, asks_doors}
 use Rattle.venue_program.proofs.program.run.Goals as goal
 
@@ -8,7 +9,8 @@ returns-in-Serve-clause-ends g c = c.serve.ensures.ends (map string_bytes c.args
 
 pub returns-in-Serve-clause-headline : goal.returns-in-Serve-clause-headline
 returns-in-Serve-clause-headline g c =
-    service_headline (map string_bytes c.args.words.now) (g.F.Folders.files c.args.folders) _ c.serve.result.status c.in-Serve.service (rw c.in-Serve.is at c.read_command.ensures)
+    service_headline (map string_bytes c.args.words.now) (g.F.Folders.files c.args.folders)
+    (run_between g.C.Stream c.args.console.now c.serve.new.console (folders_between g.F.Folders c.args.folders c.serve.result.folders)) c.serve.result.status c.in-Serve.service (rw c.in-Serve.is at c.read_command.ensures)
 
 pub returns-in-Serve-clause-doors : goal.returns-in-Serve-clause-doors
 returns-in-Serve-clause-doors g c none = absurd (asks_doors (map string_bytes c.args.words.now) c.in-Serve.service (rw c.in-Serve.is at c.read_command.ensures) none)

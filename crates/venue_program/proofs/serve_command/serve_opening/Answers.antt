@@ -1,7 +1,7 @@
-use Rattle.std.proofs.Common.{refl, inl, inr, subst}
+use Rattle.std.proofs.Common.{refl, inl, inr}
 use Rattle.venue_commands.proofs.Serving.{ends_nothing}
-use Rattle.venue_program.specs.Doors.{AreBoundAt}
-use Rattle.venue_program.specs.Services.{IsServiceEnd}
+use Rattle.venue_service.specs.Services.{terms_of}
+use Rattle.venue_program.proofs.Hosting.{bound_as, ends_as}
 use Rattle.venue_program.proofs.serve_command.serve_opening.Goals as goal
 
 pub returns-in-Ok-clause-ends : goal.returns-in-Ok-clause-ends
@@ -17,11 +17,11 @@ returns-in-Ok-clause-ends g c words files before base folder address workers con
       asks = asks;
       venue = venue;
       made = made;
-      terms = _;
+      terms = terms_of c.in-Ok.ready.plan;
       terms_are = here.terms;
       unread = served.left;
-      bound = subst (λ a. AreBoundAt a _) here.address_is served.bound;
-      ends = subst (λ a. IsServiceEnd a _ _ _ _) here.address_is served.ends;
+      bound = bound_as _ _ _ here.address_is served.bound;
+      ends = ends_as _ _ _ _ _ _ here.address_is served.ends;
     })
 
 pub returns-in-Err-clause-ends : goal.returns-in-Err-clause-ends
