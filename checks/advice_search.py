@@ -80,8 +80,8 @@ class Made(Venue):
         its |= {"access_control": ["outofservice"]} if self.chance(0.05) else {}
         its |= {"category": "emergencyexit"} if self.chance(0.05) else {}
         name = self.add(f"door {k} {one} {other}", "opening", shape, **its)
-        inside = [self[it]["category"] for it in self.cells[k].get(one, []) + self.cells[k].get(other, [])]
-        if is_outer and its["category"] != "emergencyexit" and set(inside) - {"column", "movingwalkway"}:
+        inside = {self[it]["category"] for it in self.cells[k].get(one, []) + self.cells[k].get(other, [])}
+        if is_outer and its["category"] != "emergencyexit" and inside - {"column", "movingwalkway"}:
             self.outside.add(name)
 
     def places_of_level(self, k):
@@ -166,8 +166,9 @@ class Search:
         if self.kind(name) == "opening":
             i, j = (map(int, it.strip("()").split(", ")) for it in self.word(name).split(" ", 2)[2].split(") ("))
             level = int(self.word(name).split()[1])
-            words = [self.venue.cells[level].get(tuple(it), []) for it in (i, j)]
-            units = [self.venue.id(word) for word in sum(words, [])]
+            one, other = (set(self.venue.cells[level].get(tuple(it), [])) for it in (i, j))
+            # A hall on both sides has no wall there.
+            units = [self.venue.id(word) for word in one ^ other]
             return [it for it in units if self.its(it)["category"] not in ("column", "movingwalkway")]
         return its["unit_ids"] if self.kind(name) == "amenity" else [its["unit_id"]]
 

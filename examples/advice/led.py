@@ -39,7 +39,7 @@ class Led:
 
     def roots_of(self, doors):
         """Where ways begin: the entrances that the profile can pass. Where the largest part has none, its unit with most members too."""
-        doors = [it for it in doors if self.graph.next[it]]
+        doors = [it for it in doors if self.graph.next[it] or self.back[it]]
         parts = parts_of(self.graph.next, self.back, b"\1" * len(self.graph.next))
         parts = [sorted(it for it in part if it < len(self.table.nodes)) for part in parts]
         largest = max(parts, key=len, default=[])
