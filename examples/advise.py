@@ -34,6 +34,11 @@ def progress(what, started=time.monotonic()):
         print(f"advise: {time.monotonic() - started:5.1f} s, {what}", file=sys.stderr)
 
 
+def all_of(program, base, name, profile):
+    """All advice on an accepted folder."""
+    return advice_of(program, Folder(base, name), profile)
+
+
 def touching_of(folder, table):
     """The units that each opening touches, as the table has them for who may go everywhere."""
     found = {}

@@ -180,7 +180,8 @@ class Visitors:
 
     def what(self, it):
         if it.kind == "opening":
-            return self.staff_door(it), "give it `access_control` `outofservice`, which takes it out of all ways, or close it by staff; else draw another way"
+            free = "write another category, as `pedestrian`" if it.category in DOORS else "take that out of `access_control`"
+            return self.staff_door(it), f"where visitors may pass, {free}; else add `outofservice` to `access_control`, which takes it out of all ways"
         if it.kind == "unit":
             return f"a unit of category `{it.its['category']}`", "write a `restriction`, as `employeesonly`, or another category where visitors may walk"
         return f"a {it.kind} with a restriction, of which no rule takes account", "write the `restriction` into its units, which keeps visitors out"
@@ -199,8 +200,12 @@ class Visitors:
         for it, (start, end) in sorted(self.found().items(), key=lambda row: (row[0].kind, row[0].index)):
             what, mend = self.what(it)
             words = {"what": what, "mend": mend, "profile": self.led.profile}
-            names = [called(self.folder, self.led.node(k)) for k in (start, end)]
+            names = [self.place_told(self.led.node(k)) for k in (start, end)]
             yield Advice("not for visitors", "way", it, map(self.led.node, (start, end)), start=names[0], end=names[1], **words)
+
+    def place_told(self, it):
+        """A place within a sentence: of an anchor who is there."""
+        return called(self.folder, self.led.occupants.get(it.id, [it])[0])
 
     def found(self):
         """What isn't for visitors and lies on a cheapest way between two public places, each with the first such places."""
