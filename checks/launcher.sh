@@ -48,8 +48,8 @@ a picture: docs/pictures/K1.svg' rule k1
 expect_all 2 '' rule K9
 expect_all 2 '' rule
 # By the radii of curvature of WGS 84: pi / 180 a cos 45 / w and pi / 180 a (1 - e^2) / w^3, w^2 = 1 - e^2 / 2.
-expect_all 0 'kx = 7884681
-ky = 11113174' scale 45
+expect_all 0 'kx = 7884684
+ky = 11113178' scale 45
 expect_all 2 '' scale 91
 expect_all 2 '' advise examples
 expect_all 2 words odd words

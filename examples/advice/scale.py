@@ -1,13 +1,15 @@
 """How long a degree is."""
-from math import cos, radians
+from math import cos, radians, sin, sqrt
+
+# Of the ellipsoid of WGS 84: the centimetres of a degree along the equator and, there, towards the pole; the square of its eccentricity.
+ALONG, ACROSS, SQUARE = 11_131_949.08, 11_057_427.58, 0.00669437999
 
 
 def degree(latitude):
-    """The centimetres of a degree of longitude and of one of latitude, on the ellipsoid of WGS 84, by the first terms of its series."""
+    """The centimetres of a degree of longitude and of one of latitude, by the ellipsoid's radii of curvature."""
     at = radians(latitude)
-    x = 11_141_284 * cos(at) - 9_350 * cos(3 * at) + 11.8 * cos(5 * at)
-    y = 11_113_292 - 55_982 * cos(2 * at) + 117.5 * cos(4 * at) - 0.23 * cos(6 * at)
-    return max(1, round(x)), round(y)
+    w = sqrt(1 - SQUARE * sin(at) ** 2)
+    return max(1, round(ALONG * cos(at) / w)), round(ACROSS / w**3)
 
 
 def lines(latitude):
