@@ -9,6 +9,7 @@ Ways are those of the profile, `wheelchair` where none is named. The second form
 latitude in degrees. The program is that of the variable VENUE, else the launcher ./venue.
 Status 0 without advice, 1 with some, 2 where the folder is rejected or the words, the settings or a file stop it.
 """
+import gc
 import json
 import os
 import subprocess
@@ -107,7 +108,8 @@ def advise(base, name, profile, is_json):
     folder = Folder(base, name)
     if flags_of(folder.settings, profile) is None:
         names = ["walk", "wheelchair"] + [it["name"] for it in folder.settings.get("profile", [])]
-        return f"no such profile {profile}; there are: {' '.join(names)}", 2
+        why = f"no such profile {profile}; there are: {' '.join(names)}"
+        return json.dumps({"stopped": why}) if is_json else why, 2
     found = advice_of(PROGRAM, folder, profile)
     return (as_json(folder, profile, found) if is_json else as_text(folder, found)), 1 if found else 0
 
@@ -138,4 +140,6 @@ def main(words):
 
 
 if __name__ == "__main__":
+    # What is read stays until the end, so nothing is gained by looking for what could be let go: it took two thirds of the time.
+    gc.disable()
     sys.exit(main(sys.argv[1:]))
