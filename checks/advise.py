@@ -17,6 +17,7 @@ TOP = os.path.join(os.path.dirname(os.path.abspath(__file__)), "..")
 PROGRAM = os.path.abspath(sys.argv[1]) if len(sys.argv) > 1 else os.path.join(TOP, "crates", "venue_cli", "out", "venue_cli")
 VENUES = int(sys.argv[2]) if len(sys.argv) > 2 else 1_000
 
+import advice_broken
 import advice_cases
 import advice_search
 
@@ -66,9 +67,46 @@ NOLIFT = [it for it in STATION if it[1] != "lift"] + [("closings", "opening", "1
 NOLIFT += [("closings", "passage", "024")]
 
 
+# By kind, case and the last digits of the identifier; docs/RULES.md says of each when it is told.
+ARCADE = [("across levels", "relationship", "602"), ("unreachable", "part", "502"), ("not for visitors", "over", "504"), ("not for visitors", "way", "207")]
+ARCADE += [("far openings", "opening", "204"), ("unnamed", "equal", "104"), ("unnamed", "stairs", "112")]
+# The gate in the east has a revolving door, so a wheelchair has the one in the west alone; and one lift, on whose relationship nothing hangs,
+# since the amenity leads past it.
+ARCADE_WHEELCHAIR = ARCADE + [("closings", "opening", str(k)) for k in (200, 208, 211)] + [("closings", "passage", str(k)) for k in (107, 111)]
+ARCADE_WALK = ARCADE + [("not for visitors", "way", str(k)) for k in (210, 213)]
+
+
+def arcade_differs(profile, wanted):
+    found = [(kind, case, it[-3:]) for kind, case, it in advised(os.path.join(TOP, "examples", "arcade"), "hall", profile)]
+    return None if sorted(found) == sorted(wanted) else f"arcade: {found}"
+
+
+def broken_differs(word):
+    """What is wrong with the words on a broken folder, None where nothing is."""
+    change, words, lines = advice_broken.CASES[word]
+    with tempfile.TemporaryDirectory() as base:
+        files = advice_broken.Files(os.path.join(base, "base"))
+        change(files)
+        status, text, error = run(files.base, "hall")
+        wrong = error or (None if status == 2 else f"status {status}: {text}") or advice_broken.wrong(text, words, lines)
+        is_json = isinstance(json.loads(run(files.base, "hall", "--json")[1]), dict)
+        return f"{word}: {wrong}" if wrong or not is_json else None
+
+
+def page_differs():
+    """Whether docs/RULES.md has the kinds that there are, in their order."""
+    with open(os.path.join(TOP, "docs", "RULES.md"), encoding="utf-8") as file:
+        told = re.findall(r"(?m)^\| ([a-z ]+) \|", file.read().partition("\n| kind |")[2])
+    from advice.kinds import CASES, KINDS
+
+    return None if told == KINDS == list(dict.fromkeys(kind for kind, _ in CASES)) else f"docs/RULES.md has the kinds {told}"
+
+
 def main():
     tasks = [(differs, (word,)) for word in advice_cases.CASES] + [(station_differs, ("station", "wheelchair", STATION))]
     tasks += [(station_differs, ("station", "walk", STATION)), (station_differs, ("nolift", "wheelchair", NOLIFT))]
+    tasks += [(arcade_differs, ("wheelchair", ARCADE_WHEELCHAIR)), (arcade_differs, ("walk", ARCADE_WALK)), (page_differs, ())]
+    tasks += [(broken_differs, (word,)) for word in advice_broken.CASES]
     tasks += [(advice_search.differ, (PROGRAM, first, min(VENUES, first + 20))) for first in range(0, VENUES, 20)]
     if len(sys.argv) < 2:
         subprocess.run([os.path.join(TOP, "venue"), "build"], check=True)
@@ -76,7 +114,7 @@ def main():
         wrong = [it for it in [task.get() for task in [pool.apply_async(*task) for task in tasks]] if it]
     for line in wrong:
         print(line, file=sys.stderr)
-    print(f"advise: {len(advice_cases.CASES)} cases and as many mended, {VENUES} made venues, {len(wrong)} differences")
+    print(f"advise: {len(advice_cases.CASES)} cases and as many mended, {len(advice_broken.CASES)} broken folders, {VENUES} made venues, {len(wrong)} differences")
     return 1 if wrong else 0
 
 

@@ -27,6 +27,8 @@ PROPERTIES = {
     15: ("display_point", 'null or an object as {"type":"Point","coordinates":[10.5,50.25]}', None),
     16: ("name", 'null or an object of texts, as {"en":"Tickets","de":"Kasse"}', None),
 }
+# What these rules judge is a file or the whole folder, and no feature.
+OF_FILES = set("F1 F2 F3 F4 M1 M2 M3 C1 V1 S1 S2 G6".split())
 SETTINGS = {
     "1": "venue.toml is no TOML document",
     "2": "a key that is needed is missing in venue.toml",
@@ -101,8 +103,10 @@ class Finding:
 
     def __init__(self, raw, rule, file, index, member):
         self.rule, self.file, self.index, self.member = rule, file, int(index), int(member)
-        self.item, self.its = raw.item(file, self.index), raw.properties(file, self.index)
-        self.id, self.name = self.item.get("id"), raw.named(file, self.index)
+        has_item = rule not in OF_FILES
+        self.item = raw.item(file, self.index) if has_item else {}
+        self.its = raw.properties(file, self.index) if has_item else {}
+        self.id, self.name = self.item.get("id"), raw.named(file, self.index) if has_item else None
         self.property, self.value, self.wanted = None, None, None
         if rule in ("C6", "X1", "X2") and self.member % 64 in PROPERTIES:
             self.find_property(*PROPERTIES[self.member % 64])
