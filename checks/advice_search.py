@@ -14,7 +14,7 @@ from advice import drawn
 from advice.folder import Folder
 from advice.led import Led
 from advice.table import tables_of
-from advice_cases import Venue, at, box, line, point
+from advice_cases import Venue, box, line, point
 
 SIDE = 10
 UPWARD = ["elevator", "escalator", "ramp", "stairs", "movingwalkway"]

@@ -8,6 +8,25 @@ import tomllib
 from advice.plane import is_inside, to_border
 from advice.scale import degree
 
+# Of each property by its number: its name, the form that C6 asks for, and the type of feature that it names.
+PROPERTIES = {
+    1: ("address_id", "null or a UUID", "address"),
+    2: ("building_ids", "null or a list of UUIDs", "building"),
+    3: ("level_id", "a UUID; of a fixture, a kiosk or a detail it may be null", "level"),
+    4: ("unit_id", "a UUID", "unit"),
+    5: ("unit_ids", "a list of UUIDs, not empty", "unit"),
+    6: ("anchor_id", "a UUID; of a fixture or a kiosk it may be null", "anchor"),
+    7: ("origin", 'null or an object as {"id":"..","feature_type":"unit"}', None),
+    8: ("intermediary", 'null or a list of objects as {"id":"..","feature_type":"opening"}', None),
+    9: ("destination", 'null or an object as {"id":"..","feature_type":"unit"}', None),
+    10: ("category", "a text", None),
+    11: ("restriction", "null or a text", None),
+    12: ("accessibility", 'null or a list of texts, as ["wheelchair"]', None),
+    13: ("access_control", 'null or a list of texts, as ["badgereader"]', None),
+    14: ("door", 'null or an object whose `type` is null or a text, as {"type":"sliding"}', None),
+    15: ("display_point", 'null or an object as {"type":"Point","coordinates":[10.5,50.25]}', None),
+    16: ("name", 'null or an object of texts, as {"en":"Tickets","de":"Kasse"}', None),
+}
 FORMS = {kind: "a Point" for kind in ("amenity", "anchor")} | {"opening": "a LineString"}
 FORMS |= {kind: "null" for kind in ("address", "building", "occupant")}
 
@@ -105,8 +124,6 @@ def geometry(raw, it):
 
 
 def of_form(raw, it):
-    from advice.findings import PROPERTIES
-
     form = PROPERTIES[it.member % 64][1]
     has = f"it is {shown(it.value)}" if it.is_there else "it isn't there"
     return f"{has}, and is to be {form}"
