@@ -16,6 +16,8 @@ import subprocess
 import sys
 import time
 
+sys.dont_write_bytecode = True  # so that a clone stays as it is
+
 from advice import drawn, findings, plain
 from advice.folder import Folder, flags_of
 from advice.kinds import KINDS

@@ -18,6 +18,8 @@ import subprocess
 import sys
 import textwrap
 
+sys.dont_write_bytecode = True  # so that a clone stays as it is
+
 import advise
 
 HERE = os.path.dirname(os.path.abspath(__file__))

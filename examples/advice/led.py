@@ -9,7 +9,7 @@ STAFF_UNITS = {"nonpublic", "kitchen", "mailroom", "serverroom", "storage"}
 DOORS = {"emergencyexit": "an emergency exit", "automobile": "a door for cars", "service": "a door for staff"}
 PLACES = ("anchor", "amenity", "opening")
 # So many steps are spent on cheapest ways: from each public place of a venue of some thousand nodes, of a larger one from some of them.
-MOST_STEPS = 6_000_000
+MOST_STEPS = 2_000_000
 
 
 def is_stop(feature):
