@@ -13,10 +13,12 @@ import subprocess
 import sys
 import tempfile
 
+sys.dont_write_bytecode = True
 TOP = os.path.join(os.path.dirname(os.path.abspath(__file__)), "..")
 PROGRAM = os.path.abspath(sys.argv[1]) if len(sys.argv) > 1 else os.path.join(TOP, "crates", "venue_cli", "out", "venue_cli")
 VENUES = int(sys.argv[2]) if len(sys.argv) > 2 else 1_000
 
+# After the line on compiled files.
 import advice_broken
 import advice_cases
 import advice_search
