@@ -214,9 +214,11 @@ def main(words):
         differences += [f"a crowd: {crowd}"] if crowd else []
     tall = is_other("tall", draw(program, os.path.join(TOP, "examples"), "0", "tall"), write)
     differences += [f"tall: {tall}"] if tall else []
+    arcade = is_other("arcade", draw(program, os.path.join(TOP, "examples", "arcade"), "0", "hall"), write)
+    differences += [f"arcade: {arcade}"] if arcade else []
     for line in differences:
         print(line, file=sys.stderr)
-    print(f"map_pictures: {len(EXAMPLES)} examples, {len(KEPT) + 1} kept pictures, {len(differences)} differences ({', '.join(LEFT_OUT)} left out)")
+    print(f"map_pictures: {len(EXAMPLES)} examples, {len(KEPT) + 2} kept pictures, {len(differences)} differences ({', '.join(LEFT_OUT)} left out)")
     return 1 if differences else 0
 
 
