@@ -103,6 +103,16 @@ CASES = {
         [f"G2: unit.geojson 3 {name(103)}: ring 0 begins at [", "and ends at [", "Close the ring, or draw what is missing."],
         1,
     ),
+    "a point as a list": (
+        lambda f: f.its("unit.geojson", 13, display_point=[11.56, 48.14]),
+        [f'C6: unit.geojson 13 {name(113)} "Fluchttreppe", display_point: it is [11.56,48.14], and is to be null or', "What to do: Write display_point in this form, or leave it out."],
+        1,
+    ),
+    "another type of feature": (
+        lambda f: f.change("opening.geojson", 5, lambda it: it.update(feature_type="door")),
+        [f'C4: opening.geojson 5 {name(205)}: `feature_type` is "door", and is to be "opening"', 'Write "opening", or move the feature'],
+        1,
+    ),
     "two features of one identifier": (
         lambda f: f.change("occupant.geojson", 4, lambda it: it.update(id=name(500))),
         [f'C7: occupant.geojson 4 {name(500)} "Sommermarkt": occupant.geojson 0 "Bäckerei Huber" has the identifier {name(500)} too'],
@@ -131,7 +141,8 @@ CASES = {
     "a ring whose edges cross": (
         lambda f: f.change("unit.geojson", 3, lambda it: it["geometry"]["coordinates"][0].insert(1, it["geometry"]["coordinates"][0].pop(2))),
         [f"G3: unit.geojson 3 {name(103)}: ring 0: the edge from [", "crosses that from [", "Put the positions into the order in which one walks round."],
-        1,
+        # The two halves of the bow have equal areas, so it has none, and the anchor isn't in either.
+        3,
     ),
     "an anchor beyond its room": (
         # Of a room that ends 10 m north of the corner; so 3 m are 0.00002698 degrees of latitude.

@@ -75,7 +75,9 @@ def unreadable(raw, it):
     try:
         json.loads(text)
     except json.JSONDecodeError as error:
-        return f"{at(text, error.pos)}: {error.msg[0].lower() + error.msg[1:]}, and there stands {shown(text[error.pos : error.pos + 20]) if text[error.pos :] else 'the end of the file'}"
+        rest = text[error.pos : error.pos + 20].split("\n")[0]
+        stands = f"and there stands {rest}" if rest else "and the line ends there" if text[error.pos :] else "and the file ends there"
+        return f"{at(text, error.pos)}: {error.msg[0].lower() + error.msg[1:]}, {stands}"
     except RecursionError:
         return "it nests too deep"
     odd = re.search(r"-?(?:NaN|Infinity)", re.sub(r'"(?:[^"\\]|\\.)*"', lambda m: '"' * len(m[0]), text))
@@ -278,7 +280,7 @@ BY_RULE = {
     "C1": collection,
     "C2": feature,
     "C3": member("id"),
-    "C4": member("feature_type"),
+    "C4": lambda raw, it: f'{member("feature_type")(raw, it)}, and is to be "{it.file.split(".")[0]}"',
     "C5": geometry,
     "C6": of_form,
     "V1": venues,

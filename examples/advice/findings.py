@@ -9,6 +9,7 @@ from advice.folder import TYPES, canonical, read_json
 
 DOCS = os.path.join(os.path.dirname(os.path.abspath(__file__)), "..", "..", "docs")
 FILES = ["manifest.json"] + [f"{kind}.geojson" for kind in TYPES]
+LISTS = ("building_ids", "unit_ids", "intermediary", "accessibility", "access_control")
 # What these rules judge is a file or the whole folder, and no feature.
 OF_FILES = set("F1 F2 F3 F4 M1 M2 M3 C1 V1 S1 S2 G6".split())
 SETTINGS = {
@@ -97,7 +98,7 @@ class Finding:
     def find_property(self, name, _, wanted):
         value, place = self.its.get(name), self.member // 64
         self.is_there = name in self.its
-        if isinstance(value, list) and (place or self.rule != "C6" or all_right(name, value, place)):
+        if name in LISTS and isinstance(value, list) and (place or self.rule != "C6" or is_wrong(name, value, place)):
             value = value[place] if place < len(value) else None
             name = f"{name}[{place}]"
         self.property, self.value = name, value
@@ -108,6 +109,17 @@ class Finding:
         """The identifier that the property names."""
         return self.value.get("id") if isinstance(self.value, dict) else self.value
 
+    def mend(self):
+        """How this very finding is mended, None where docs/RULES.md tells it."""
+        kind = self.file.split(".")[0]
+        if self.rule == "C4":
+            return f'Write "{kind}", or move the feature to the file of its type.'
+        if self.rule == "C5":
+            return f"Draw it as {amiss.FORMS.get(kind, 'a Polygon or a MultiPolygon')}; null is a geometry that isn't drawn."
+        if self.rule == "C6":
+            return f"Write {self.property} in this form" + (", or leave it out." if "null" in PROPERTIES[self.member % 64][1] else "; it has to be there.")
+        return None
+
     def where(self):
         return f"{self.file} {self.index}" if self.item else self.file
 
@@ -117,9 +129,11 @@ class Finding:
         return self.where() + known + (f" {json.dumps(self.name, ensure_ascii=False)}" if self.name else "")
 
 
-def all_right(name, value, place):
-    """Whether of a list the item is meant, and not the list: 0 may be either, and of an empty list it is the list."""
-    return place < len(value) and not (name in ("accessibility", "access_control") and isinstance(value[place], str) or is_reference(value[place]))
+def is_wrong(name, value, place):
+    """Whether an item of a list isn't as it has to be: the number of a list's first item is that of the list, which may be empty."""
+    if place >= len(value):
+        return False
+    return not (name in ("accessibility", "access_control") and isinstance(value[place], str) or is_reference(value[place]))
 
 
 def is_reference(value):
@@ -170,6 +184,8 @@ class Report:
         for (kind, what), its in groups.items():
             first = its[0]
             asks, mend = asked.get(first.rule, ("", "See docs/RULES.md."))
+            # Where the page names its example, or a table, the feature's own case is told.
+            mend = first.mend() or mend
             row = {"rule": first.rule, "file": first.file, "index": first.index, "member": first.member, "id": first.id, "name": first.name}
             row |= {"property": first.property, "value": first.value, "findings": len(its)}
             who, told = first.who() + (f", {first.property}" if first.property else ""), first.amiss
