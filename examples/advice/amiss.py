@@ -12,10 +12,10 @@ from advice.scale import degree
 PROPERTIES = {
     1: ("address_id", "null or a UUID", "address"),
     2: ("building_ids", "null or a list of UUIDs", "building"),
-    3: ("level_id", "a UUID; of a fixture, a kiosk or a detail it may be null", "level"),
+    3: ("level_id", "a UUID", "level"),
     4: ("unit_id", "a UUID", "unit"),
     5: ("unit_ids", "a list of UUIDs, not empty", "unit"),
-    6: ("anchor_id", "a UUID; of a fixture or a kiosk it may be null", "anchor"),
+    6: ("anchor_id", "a UUID", "anchor"),
     7: ("origin", 'null or an object as {"id":"..","feature_type":"unit"}', None),
     8: ("intermediary", 'null or a list of objects as {"id":"..","feature_type":"opening"}', None),
     9: ("destination", 'null or an object as {"id":"..","feature_type":"unit"}', None),
@@ -125,8 +125,15 @@ def geometry(raw, it):
     return f"its geometry is {shown(found.get('type')) if isinstance(found, dict) else shown(found)}, and {it.file} asks for {asked}"
 
 
+def form_of(it):
+    """The form that a finding of C6 asks for."""
+    name, form, _ = PROPERTIES[it.member % 64]
+    is_free = name in ("level_id", "anchor_id") and it.file.split(".")[0] in ("fixture", "kiosk", "detail")
+    return f"null or {form}" if is_free else form
+
+
 def of_form(raw, it):
-    form = PROPERTIES[it.member % 64][1]
+    form = form_of(it)
     has = f"it is {shown(it.value)}" if it.is_there else "it isn't there"
     return f"{has}, and is to be {form}"
 

@@ -117,7 +117,7 @@ class Finding:
         if self.rule == "C5":
             return f"Draw it as {amiss.FORMS.get(kind, 'a Polygon or a MultiPolygon')}; null is a geometry that isn't drawn."
         if self.rule == "C6":
-            return f"Write {self.property} in this form" + (", or leave it out." if "null" in PROPERTIES[self.member % 64][1] else "; it has to be there.")
+            return f"Write {self.property} in this form" + (", or leave it out." if amiss.form_of(self).startswith("null") else "; it has to be there.")
         return None
 
     def where(self):
