@@ -191,7 +191,7 @@ class Report:
             who, told = first.who() + (f", {first.property}" if first.property else ""), first.amiss
             if kind == "file":
                 who = what
-                told = f"the file isn't there, and {count(its, 'property')} name its features, first {first.property} of {first.who()}"
+                told = f"the file isn't there, and {count(its, 'property')} name its features, first {first.property} of {first.who()}, which names {amiss.shown(first.named_id)}"
                 mend = f"Add {what}" + "".join(f", for which {name} may be meant: files of other names aren't read" for name, meant in self.raw.passed_over() if meant == what) + "."
             elif kind == "feature" and len(its) > 1:
                 told += f"; so do {len(its) - 1} more, as {its[1].property} of {its[1].who()}"
