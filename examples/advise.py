@@ -15,6 +15,7 @@ import os
 import subprocess
 import sys
 import time
+import tomllib
 
 sys.dont_write_bytecode = True  # so that a clone stays as it is
 
@@ -136,7 +137,11 @@ def main(words):
     if len(words) not in (2, 3) or any(word.startswith("--") for word in words):
         print(__doc__, file=sys.stderr)
         return 2
-    text, status = advise(words[0], words[1], words[2] if len(words) == 3 else "wheelchair", is_json)
+    try:
+        text, status = advise(words[0], words[1], words[2] if len(words) == 3 else "wheelchair", is_json)
+    except (OSError, tomllib.TOMLDecodeError) as error:
+        print(f"venue: {error}", file=sys.stderr)
+        return 2
     sys.stdout.buffer.write(text.encode() + b"\n")
     return status
 

@@ -1,4 +1,6 @@
 """The table that `links` prints, read as what it is made of: the members of each unit, and the links of each relationship."""
+import collections
+import itertools
 import os
 import subprocess
 import tempfile
@@ -16,7 +18,8 @@ class Table:
 
 
 def read_table(stream, folder):
-    """Reads a table line by line. Of a unit's links only the first member's are looked at, since they lead to each other member."""
+    """Reads a table line by line. Of a unit's links only the first member's are looked at, since they lead to each other member; as many
+    begin at each of the others, and are passed over."""
     table, lines = Table(), iter(stream)
     line = next(lines, b"")
     for line in lines:
@@ -34,10 +37,8 @@ def read_table(stream, folder):
         while line.startswith(head) and line.endswith(tail):
             members.append(int(line.split(b" ", 3)[2]))
             line = next(lines, b"")
-        if line.endswith(tail):
-            for line in lines:
-                if not line.endswith(tail):
-                    break
+        collections.deque(itertools.islice(lines, (len(members) - 1) ** 2 - 1), maxlen=0)
+        line = next(lines, b"")
         table.areas[name] = members
     return table
 
