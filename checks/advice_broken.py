@@ -47,6 +47,36 @@ class Files:
         os.remove(self.path(file))
 
 
+def mend(files):
+    """Does what is told to be done of each line of advice on the sound folder."""
+    files.its("amenity.geojson", 2, unit_ids=[name(107)])
+    files.its("opening.geojson", 7, access_control=None)
+    files.its("occupant.geojson", 4, validity=None)
+    files.change("opening.geojson", 4, lambda it: it["geometry"].update(coordinates=[[11.5603897, 48.1400899], [11.5604165, 48.1400899]]))
+    files.its("unit.geojson", 4, name={"de": "WC Damen"})
+    files.its("unit.geojson", 5, name={"de": "WC Herren"})
+    files.its("unit.geojson", 12, name={"de": "Haupttreppe"})
+    # A second way in for wheelchairs, and a second lift, north of the halls between the main stairs and the fire stairs.
+    files.its("opening.geojson", 1, door={"type": "sliding"})
+    found = {file: json.loads(files.read(file)) for file in ("unit.geojson", "opening.geojson", "relationship.geojson")}
+    low, high, west, east = 48.1402248, 48.1402518, 11.5603225, 11.5603628
+    shaft = [[[west, low], [east, low], [east, high], [west, high], [west, low]]]
+    for level in (0, 1):
+        its = {"level_id": name(10 + level), "category": "elevator", "name": {"de": "Zweiter Aufzug"}}
+        found["unit.geojson"]["features"].append(feature("unit", 114 + level, {"type": "Polygon", "coordinates": shaft}, its))
+        line = {"type": "LineString", "coordinates": [[west + 0.00001, low], [east - 0.00001, low]]}
+        found["opening.geojson"]["features"].append(feature("opening", 214 + level, line, {"level_id": name(10 + level)}))
+    ends = [{"id": name(114 + level), "feature_type": "unit"} for level in (0, 1)]
+    its = {"category": "elevator", "direction": "undirected", "origin": ends[0], "destination": ends[1]}
+    found["relationship.geojson"]["features"].append(feature("relationship", 303, None, its))
+    for file, content in found.items():
+        files.write(file, json.dumps(content))
+
+
+def feature(kind, digits, geometry, its):
+    return {"type": "Feature", "id": name(digits), "feature_type": kind, "geometry": geometry, "properties": its}
+
+
 # Of each case the change, what has to be told in one line, and how many lines tell what is wrong.
 CASES = {
     "a file that is missing": (

@@ -1,6 +1,7 @@
 #!/usr/bin/env python3
 """Compares what `./venue advise` tells: of a small venue that is changed once for each kind of advice, and mended; of the folders of
-examples/; of made venues, with a plain search; and that each broken folder is told in words that name what is wrong.
+examples/ as they are, and of the arcade when all is mended; of made venues, with a plain search; and that each broken folder is told in words
+that name what is wrong.
 
 usage: advise.py [PROGRAM [VENUES]]   (without PROGRAM the launcher ./venue, which builds the program if need be; 1,000 venues)
 It prints a line for each difference and one at the end, and ends with status 1 at a difference.
@@ -83,6 +84,15 @@ def arcade_differs(profile, wanted):
     return None if sorted(found) == sorted(wanted) else f"arcade: {found}"
 
 
+def mended_differs():
+    """What is still told of the arcade when all advice was followed, None where nothing is."""
+    with tempfile.TemporaryDirectory() as base:
+        files = advice_broken.Files(os.path.join(base, "base"))
+        advice_broken.mend(files)
+        found = advised(files.base, "hall")
+        return f"arcade, mended: {found}" if found else None
+
+
 def broken_differs(word):
     """What is wrong with the words on a broken folder, None where nothing is."""
     change, words, lines = advice_broken.CASES[word]
@@ -107,7 +117,7 @@ def page_differs():
 def main():
     tasks = [(differs, (word,)) for word in advice_cases.CASES] + [(station_differs, ("station", "wheelchair", STATION))]
     tasks += [(station_differs, ("station", "walk", STATION)), (station_differs, ("nolift", "wheelchair", NOLIFT))]
-    tasks += [(arcade_differs, ("wheelchair", ARCADE_WHEELCHAIR)), (arcade_differs, ("walk", ARCADE_WALK)), (page_differs, ())]
+    tasks += [(arcade_differs, ("wheelchair", ARCADE_WHEELCHAIR)), (arcade_differs, ("walk", ARCADE_WALK)), (page_differs, ()), (mended_differs, ())]
     tasks += [(broken_differs, (word,)) for word in advice_broken.CASES]
     tasks += [(advice_search.differ, (PROGRAM, first, min(VENUES, first + 20))) for first in range(0, VENUES, 20)]
     if len(sys.argv) < 2:
