@@ -47,6 +47,11 @@ how to mend it: Move the vertex, widen the level, or correct `level_id`.
 a picture: docs/pictures/K1.svg' rule k1
 expect_all 2 '' rule K9
 expect_all 2 '' rule
+# By the radii of curvature of WGS 84: pi / 180 a cos 45 / w and pi / 180 a (1 - e^2) / w^3, w^2 = 1 - e^2 / 2.
+expect_all 0 'kx = 7884684
+ky = 11113178' scale 45
+expect_all 2 '' scale 91
+expect_all 2 '' advise examples
 expect_all 2 words odd words
 expect 0 'commit ' --version
 case $found in
@@ -72,6 +77,8 @@ session 0 - examples station
 serve 3 fault examples station nowhere 1 1
 gen 0 features 1
 rule 0 F1, F1
+advise 1 advice examples station
+scale 0 kx 50
 build 0 -
 --version 0 commit
 TEXT

@@ -1,10 +1,12 @@
 #!/usr/bin/env python3
 """Makes the examples of docs/RULES.md from the station, has examples/map.py draw each, and compares: the program finds what the page says, the
-picture is well-formed, and has as many red rings as there are findings with a place. The kept pictures in docs/pictures are those drawn now.
+picture is well-formed, has as many red rings as there are findings with a place, and no label covers another. The kept pictures in
+docs/pictures are those drawn now.
 
 usage: map_pictures.py [PROGRAM] [--write]   (without PROGRAM the launcher ./venue, which builds the program if need be)
 With --write the pictures are kept anew. It prints one line, and ends with status 1 at a difference.
 """
+import itertools
 import json
 import os
 import re
@@ -142,12 +144,49 @@ def differs(program, base, rule, wanted, write):
         return f"the picture isn't well-formed: {error}"
     heading, *texts = [it.firstChild.data for it in document.getElementsByTagName("text") if it.firstChild]
     rows = [(a, b.split(" (")[0]) for a, b in zip(texts, texts[1:]) if re.fullmatch(r"[A-Z]\d", a)]
-    if not heading.endswith("notes 1" if is_note else "rejected 1") or rows != [tuple(wanted.split(" ", 1))]:
+    if not re.search("notes 1( · advice [0-9]+)?$" if is_note else "rejected 1$", heading) or rows != [tuple(wanted.split(" ", 1))]:
         return f"{heading}: {rows} and not {wanted}"
+    if covered(document):
+        return f"labels cover each other: {covered(document)}"
     rings = [it.getAttribute("class") for it in document.getElementsByTagName("circle")]
     if (rings.count("ring"), rings.count("note")) != ((0, has_place) if is_note else (has_place, 0)):
         return f"{rings.count('ring')} rings, {rings.count('note')} dashed ones"
     return is_other(rule, draw(program, base, KEPT[rule]), write) if rule in KEPT else None
+
+
+def covered(document):
+    """Labels of a level that cover each other, where a letter is taken to be as wide as those of common fonts are on average."""
+    found = []
+    for level in document.getElementsByTagName("g"):
+        texts = [it for it in level.getElementsByTagName("text") if it.firstChild] if level.hasAttribute("transform") else []
+        boxes = [box_of(it) for it in texts]
+        found += [f"{a[4]} and {b[4]}" for a, b in itertools.combinations(boxes, 2) if a[0] < b[2] and b[0] < a[2] and a[1] < b[3] and b[1] < a[3]]
+    return found
+
+
+def box_of(it):
+    is_small, text = it.getAttribute("class") == "name", it.firstChild.data
+    x, y, wide = float(it.getAttribute("x")), float(it.getAttribute("y")), (5.5 if is_small else 7) * len(text)
+    left = x - (wide / 2 if is_small else wide if it.hasAttribute("text-anchor") else 0)
+    return left, y - (9 if is_small else 11), left + wide, y + 2, text
+
+
+def crowd_differs(program, base):
+    """What is wrong where thirty anchors stand close together beyond their room, and with the advice on examples/arcade, None where nothing is."""
+    station = Station()
+    for k in range(30):
+        station.more("anchor", 1, {"type": "Point", "coordinates": at(24 + k % 6 / 2, 14 + k // 6 / 2)}, unit_id=NAME.format(305))
+        station.list("anchor")[-1]["id"] = NAME.format(8_000_000_000 + k)
+    folder = os.path.join(base, "crowd")
+    os.mkdir(folder)
+    station.write(folder)
+    pictures = [draw(program, base, None, "crowd"), draw(program, os.path.join(TOP, "examples", "arcade"), None, "hall")]
+    documents = [xml.dom.minidom.parseString(it) for it in pictures]
+    counts = [[it.getAttribute("class") for it in document.getElementsByTagName("circle")] for document in documents]
+    # Of the twelve lines of advice on examples/arcade all have a place.
+    wrong = [] if counts[0].count("ring") == 30 and counts[1].count("hint") == 12 and "ring" not in counts[1] else [f"{counts}"]
+    wrong += [it for document in documents for it in covered(document)]
+    return "; ".join(wrong[:5]) if wrong else None
 
 
 def is_other(name, picture, write):
@@ -171,11 +210,15 @@ def main(words):
         for rule in EXAMPLES:
             wrong = differs(program, base, rule, rules.get(rule), write)
             differences += [f"{rule}: {wrong}"] if wrong else []
+        crowd = crowd_differs(program, base)
+        differences += [f"a crowd: {crowd}"] if crowd else []
     tall = is_other("tall", draw(program, os.path.join(TOP, "examples"), "0", "tall"), write)
     differences += [f"tall: {tall}"] if tall else []
+    arcade = is_other("arcade", draw(program, os.path.join(TOP, "examples", "arcade"), "0", "hall"), write)
+    differences += [f"arcade: {arcade}"] if arcade else []
     for line in differences:
         print(line, file=sys.stderr)
-    print(f"map_pictures: {len(EXAMPLES)} examples, {len(KEPT) + 1} kept pictures, {len(differences)} differences ({', '.join(LEFT_OUT)} left out)")
+    print(f"map_pictures: {len(EXAMPLES)} examples, {len(KEPT) + 2} kept pictures, {len(differences)} differences ({', '.join(LEFT_OUT)} left out)")
     return 1 if differences else 0
 
 

@@ -7,13 +7,14 @@
 program=${1-$(dirname "$0")/../venue}
 . "$(dirname "$0")/serving.sh"
 PATH=$PATH:/usr/sbin
-need nginx openssl curl
+need nginx openssl curl python3
 
 # Starts nginx at the port that follows the server's.
 proxy() {
     openssl req -x509 -newkey rsa:2048 -nodes -days 1 -subj /CN=localhost -keyout "$work/key.pem" -out "$work/certificate.pem" 2>/dev/null || exit 1
+    "$here/examples/serve/staff_keys.py" "$here/examples" >"$work/venue-keys.conf" || exit 1
     sed -e "s#127.0.0.1:7070#127.0.0.1:$port#; s#listen 443#listen 127.0.0.1:$((port + 1))#; s#10.0.0.0/8#127.0.0.2#; /^user /d" \
-        -e "s#/etc/ssl/venue/#$work/#; s#/run/#$work/#; s#/var/log/nginx/#$work/#" \
+        -e "s#/etc/ssl/venue/#$work/#; s#/etc/nginx/#$work/#; s#/run/#$work/#; s#/var/log/nginx/#$work/#" \
         -e "s#^http {#&\n$(printf "%s_temp_path $work/%s;" client_body client_body proxy proxy fastcgi fastcgi uwsgi uwsgi scgi scgi)#" \
         "$here/examples/serve/nginx.conf" >"$work/nginx.conf"
     nginx -t -q -e "$work/early.log" -c "$work/nginx.conf" || exit 1
@@ -39,8 +40,11 @@ compare 'a closing without a key' "$(ask $staff closures -d "$closing")" '{"erro
 compare 'a closing' "$(ask $staff closures -H "$key" -d "$closing")" '{"changed":true,"closed":true,"feature":"'$lift'","version":2} 200'
 compare 'a rejected folder' "$(ask $staff publish -H "$key" -d '{"folder":"tall"}')" '{"error":"rejected",*} 422'
 compare 'a publication' "$(ask $staff publish -H "$key" -d '{"folder":"station"}')" '{"dropped":\[\],"version":3} 200'
-compare 'what is closed then' "$(ask $visitor 'closures?since=3')" '{"closures":\["'$lift'"\],"version":3} 200'
-compare 'a version to come' "$(ask $visitor 'version?since=4')" '{"error":"version_ahead","since":4,"version":3} 409'
+compare 'an opening again' "$(ask $staff closures -H "$key" -d '{ "closed": false, "feature": "'$lift'" }')" '{"changed":true,"closed":false,*} 200'
+compare 'another body' "$(ask $staff closures -H 'x-staff-key: none-of-them' -d '{"feature":"","x":1}')" '*403'
+compare 'a closing again' "$(ask $staff closures -H "$key" -d "$closing")" '{"changed":true,"closed":true,*} 200'
+compare 'what is closed then' "$(ask $visitor 'closures?since=5')" '{"closures":\["'$lift'"\],"version":5} 200'
+compare 'a version to come' "$(ask $visitor 'version?since=6')" '{"error":"version_ahead","since":6,"version":5} 409'
 compare 'a HEAD' "$(ask $visitor version -I)" '*text/html*405'
 compare 'a PUT' "$(ask $staff closures -X PUT -d x)" '<html>*405'
 compare 'another path' "$(ask $visitor ../../index.html --path-as-is)" '*400'
@@ -49,6 +53,18 @@ head -c 65536 /dev/zero >"$work/large"
 compare 'a body of 65,536 bytes' "$(ask $staff closures -H "$key" --data-binary "@$work/large")" '{"error":"bad_body"} 400'
 printf x >>"$work/large"
 compare 'a large body' "$(ask $staff closures -H "$key" --data-binary "@$work/large")" '<html>*413'
+# Each change so far, as the log tells it: address, key, what was asked and the status. No key stands there.
+logged() { # line
+    sed -n "$1 s/.*\"address\":\"\([^\"]*\)\",\"key\":\"\([^\"]*\)\".*\"asked\":\"\(.*\)\",\"status\":\([0-9]*\)}/\1 \2 \3 \4/p" "$work/venue-changes.log"
+}
+compare 'the log of a visitor' "$(logged 1)" "$visitor 0 - 403"
+compare 'the log without a key' "$(logged 3)" "$staff - close $lift 403"
+compare 'the log of a closing' "$(logged 4)" "$staff 0 close $lift 200"
+compare 'the log of a rejected folder' "$(logged 5)" "$staff 0 publish tall 422"
+compare 'the log of a publication' "$(logged 6)" "$staff 0 publish station 200"
+compare 'the log of an opening' "$(logged 7)" "$staff 0 open $lift 200"
+compare 'the log of another body' "$(logged 8)" "$staff - body {*x*:1} 403"
+compare 'keys in logs and settings' "$(grep -rlF desk-key-1 "$work"/*.log "$work"/*.conf)" ''
 # At a rate of 10 a second with 40 at once, most of three hundred questions are refused.
 many=$(printf "$at/version %.0s" {1..300})
 compare 'many questions' "$(curl -ks --max-time 20 -w '\n%{http_code}\n' $many | grep -x '[0-9]\+' | sort -u | tr '\n' ' ')" '200 429 '

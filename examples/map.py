@@ -1,6 +1,7 @@
 #!/usr/bin/env python3
 """Draws a venue's folder as it stands, broken or not, as one SVG, level under level. Where `venue check` finds something, each finding that
-has a place is ringed in red, each note in a dashed ring, and a table beneath tells them all, with what stands there enlarged.
+has a place is ringed in red, each note in a dashed ring, and what advise.py tells of an accepted folder for a wheelchair in violet; a table
+beneath tells them all, with what stands there enlarged. Labels that would cover others are left out, so the table alone has all.
 
 usage: map.py BASE FOLDER [--level N] > map.svg
 N is an ordinal; without it all levels are drawn. The program is that of the variable VENUE, else the launcher ./venue. What has no place,
@@ -17,6 +18,10 @@ import subprocess
 import sys
 import textwrap
 
+sys.dont_write_bytecode = True  # so that a clone stays as it is
+
+import advise
+
 HERE = os.path.dirname(os.path.abspath(__file__))
 PROGRAM = os.environ.get("VENUE") or os.path.join(HERE, "..", "venue")
 DRAWN = ["level", "unit", "opening", "anchor", "amenity"]
@@ -29,7 +34,8 @@ STYLE = """text{font:13px "Segoe UI",Roboto,Arial,sans-serif;fill:#17202b}.soft{
 path,circle{vector-effect:non-scaling-stroke;fill:none}.level{fill:#f7f8fa;stroke:#9aa5b3}.frame{fill:none;stroke:#9aa5b3}.loose{stroke-dasharray:4 3}
 .unit{fill:#f6ead6;stroke:#a8987b;fill-rule:evenodd}.walk{fill:#fff;stroke:#97a2b0}.up{fill:#e2e4f2;stroke:#8d95b5}.solid{fill:#a7b0bc;stroke:#7c8795}
 .opening{stroke:#0b4fb3;stroke-width:3}.anchor,.amenity{fill:#526070;stroke:#fff}.name{text-anchor:middle;font-size:11px;fill:#526070}
-.ring{stroke:#c5221f;stroke-width:3}.note{stroke:#b06000;stroke-width:3;stroke-dasharray:5 4}.tag{font-weight:700;paint-order:stroke;stroke:#fff;stroke-width:4px}"""
+.ring{stroke:#c5221f;stroke-width:3}.note{stroke:#b06000;stroke-width:3;stroke-dasharray:5 4}.hint{stroke:#7b3fb5;stroke-width:3}
+.tag{font-weight:700;paint-order:stroke;stroke:#fff;stroke-width:4px}"""
 
 
 def escape(text):
@@ -132,11 +138,15 @@ def middle(points):
     return complex(min(xs) + max(xs), min(ys) + max(ys)) / 2
 
 
-def spot(venue, rule, file, index, member):
+def spot(venue, rule, file, index, member, look):
     """Where a finding is, and of which feature: the corner that sticks out, the crossing, else its middle. None where it has no place."""
+    if look == "hint" and file.split(".")[0] not in DRAWN[1:] + ["occupant", "fixture", "kiosk"]:
+        return None
     if rule == "G6":
         return max(((p, key) for key, parts in venue.parts.items() for p in points_of(parts)), key=lambda it: abs(it[0]), default=None)
     key = file.split(".")[0], index
+    if key[0] == "occupant":
+        key = venue.holder(*key, "anchor") or key
     points, rings = points_of(venue.parts.get(key, [])), [(part, ring) for part in venue.parts.get(key, []) for ring in part]
     if not points:
         return None
@@ -149,11 +159,20 @@ def spot(venue, rule, file, index, member):
 
 
 def findings(base, folder):
-    """What check prints: rule, name of the file, index, member, and whether it is a note; and the lines of another form."""
+    """What check prints: rule, name of the file, index, member, and how it is ringed; and the lines of another form."""
     lines = subprocess.run([PROGRAM, "check", base, folder], capture_output=True, text=True).stdout.splitlines()
     rows = [(line, re.fullmatch(r"(finding|note) (\S+) (\S+) (\d+) (\d+)", line)) for line in lines]
-    found = [(row[2], row[3], int(row[4]), int(row[5]), row[1] == "note") for _, row in rows if row]
+    found = [(row[2], row[3], int(row[4]), int(row[5]), "note" if row[1] == "note" else "ring") for _, row in rows if row]
     return found, [line for line, row in rows if not row]
+
+
+def hints(base, folder, lines):
+    """What is advised of an accepted folder, as rows like those of findings, and the sentence of each row."""
+    if not lines or not lines[0].startswith("accepted"):
+        return [], {}
+    found = advise.all_of(PROGRAM, base, folder, "wheelchair")
+    rows = [(it.kind, it.feature.file, it.feature.index, k, "hint") for k, it in enumerate(found)]
+    return rows, {row: f"{it.says[0].upper()}{it.says[1:]}. What to do: {it.mend}." for row, it in zip(rows, found)}
 
 
 def sentences():
@@ -180,7 +199,24 @@ class Picture:
         return round((x - self.left) * self.scale + EDGE, 1), round((y - self.top) * self.scale + EDGE, 1), far
 
 
-def drawn(venue, picture, name, index, is_loose):
+class Labels:
+    """The boxes of the labels of a level, none of which covers another."""
+
+    def __init__(self):
+        self.boxes = [(EDGE, -14, EDGE + 120, 5)]
+
+    def take(self, x, y, anchor, text, wide):
+        """Whether a text fits at a place, which is then taken."""
+        long = wide * len(text)
+        left = x - {"start": 0, "middle": long / 2, "end": long}[anchor]
+        box = (left, y - 13, left + long, y + 4)
+        if box[0] < 0 or box[2] > WIDTH or any(a < box[2] and c > box[0] and b < box[3] and d > box[1] for a, b, c, d in self.boxes):
+            return False
+        self.boxes.append(box)
+        return True
+
+
+def drawn(venue, picture, name, index, is_loose, labels):
     """One feature; `loose` is one whose level nothing tells."""
     parts, kind = venue.parts[name, index], str(venue.features[name][index]["properties"].get("category") or "").split(".")[0]
     x, y, _ = picture.at(middle(points_of(parts)))
@@ -188,16 +224,22 @@ def drawn(venue, picture, name, index, is_loose):
     if name in ("anchor", "amenity"):
         return f'<circle class="{looks}" cx="{x:g}" cy="{y:g}" r="4"/>'
     lines = ["L".join("{:g} {:g}".format(*picture.at(p)) for p in ring) for part in parts for ring in part if ring]
-    is_named = name == "unit" and kind and kind not in SOLID
+    is_named = name == "unit" and kind and kind not in SOLID and labels.take(x, y + 4, "middle", kind, 6.6)
     text = f'<text class="name" x="{x:g}" y="{y + 4:g}">{escape(kind)}</text>' if is_named else ""
     return f'<path class="{looks}" d="M{"M".join(lines)}"/>{text}'
 
 
-def ring(row, at):
-    (x, y, far), is_left = at, at[0] < WIDTH * 0.8
-    side = f'x="{x + 20:g}"' if is_left else f'x="{x - 20:g}" text-anchor="end"'
-    tag = f'<text class="tag" {side} y="{y + 5:g}">{escape(row[0])} {row[1].split(".")[0]} {row[2]}{far}</text>'
-    return f'<circle class="{"note" if row[4] else "ring"}" cx="{x:g}" cy="{y:g}" r="14"/>{tag}'
+def ring(row, at, labels):
+    """A ring round a place, and beside it a label where one fits."""
+    x, y, far = at
+    text = f'{row[0]} {row[1].split(".")[0]} {row[2]}{far}'
+    spots = [(x + side * 20, y + 5 + 17 * down, anchor) for down in (0, 1, -1, 2, -2, 3, -3) for side, anchor in ((1, "start"), (-1, "end"))]
+    free = next((it for it in spots if labels.take(*it, text, 8.2)), None)
+    tag = ""
+    if free:
+        end = ' text-anchor="end"' if free[2] == "end" else ""
+        tag = f'<text class="tag" x="{free[0]:g}"{end} y="{free[1]:g}">{escape(text)}</text>'
+    return f'<circle class="{row[4]}" cx="{x:g}" cy="{y:g}" r="14"/>{tag}'
 
 
 def lens(level, at, top, scale):
@@ -210,28 +252,32 @@ def lens(level, at, top, scale):
 
 def draw(base, folder, wanted):
     venue, asked, (rows, others) = Folder(base, folder), sentences(), findings(base, folder)
+    advised, says = hints(base, folder, others)
+    others, rows = others + ([f"advice {len(advised)}"] if advised else []), rows + advised
     picture, top = Picture(venue), 70
     told = {key: venue.ordinal(*key) for key in venue.parts if key[0] in DRAWN and venue.parts[key]}
     levels = sorted(set(told.values()) - {None}) or [0]
     shown = [level for level in levels if wanted in (None, level)]
     level_of = lambda key: levels[0] if told.get(key) is None else told[key]
-    found = [(row, spot(venue, *row[:4])) for row in rows]
+    found = [(row, spot(venue, *row)) for row in rows]
     found = [(row, it and level_of(it[1]), it and picture.at(it[0])) for row, it in found]
     out = [f'<text class="bold" x="{EDGE}" y="30">{escape(" · ".join([folder] + others))}</text>']
     for level in shown:
+        labels = Labels()
+        rings = [ring(row, at, labels) for row, on, at in found if at and on == level]
         out += [f'<g transform="translate(0 {top:g})"><text class="soft" x="{EDGE}" y="0">level {level:g}</text><g id="level{level:g}">']
-        out += [drawn(venue, picture, *key, told[key] is None) for key in told if level_of(key) == level] + ["</g>"]
-        out += [ring(row, at) for row, on, at in found if at and on == level] + ["</g>"]
+        out += [drawn(venue, picture, *key, told[key] is None, labels) for key in told if level_of(key) == level] + ["</g>", *rings, "</g>"]
         top += picture.height + 30
     lenses = 0
     for row, level, at in found:
         rule, (name, index, member) = row[0], row[1:4]
-        its, text = venue.features.get(name.split(".")[0], []), textwrap.wrap(asked.get(rule, ""), 88)
+        its, text = venue.features.get(name.split(".")[0], []), textwrap.wrap(says.get(row) or asked.get(rule, ""), 88)
         has_lens = at and level in shown and lenses < MOST_LENSES
         lenses += bool(has_lens)
         out += [lens(level, at, top, picture.scale)] if has_lens else []
-        called = f"{name} {index} {member}" + (f" (#{str(its[index].get('id'))[-4:]})" if index < len(its) else "")
-        out.append(f'<text class="bold" x="{EDGE + LENS + 16}" y="{top + 16:g}">{escape(rule)}</text>')
+        is_hint = row[4] == "hint"
+        called = (f"{rule}: {name} {index}" if is_hint else f"{name} {index} {member}") + (f" (#{str(its[index].get('id'))[-4:]})" if index < len(its) else "")
+        out.append(f'<text class="bold" x="{EDGE + LENS + 16}" y="{top + 16:g}">{"·" if is_hint else escape(rule)}</text>')
         lines = [("", called)] + [("soft", line) for line in text]
         out += [f'<text class="{it}" x="{EDGE + LENS + 48}" y="{top + 16 + 19 * k:g}">{escape(line)}</text>' for k, (it, line) in enumerate(lines)]
         top += max(LENS if has_lens else 0, 24 + 19 * len(text)) + 14

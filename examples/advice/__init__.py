@@ -1,0 +1,1 @@
+"""What advise.py tells, kind by kind."""
