@@ -4,9 +4,9 @@ levels that `venue serve` serves behind nginx: ways by keyboard alone, what is c
 are missing or broken, two languages, a publication, print, and no network. And has check.js judge the made answers of compare_checkers.py,
 and replies with their certificates, beside the checkers in Python.
 
-usage: web_page.py [PROGRAM [large]]   (without PROGRAM the launcher ./venue, which builds the program if need be)
-With `large` it takes a venue of 100,000 features alone, and prints how long the page takes for it. It prints one line else, and ends with
-status 1 at a difference. Pictures of the page go to out/pages. Where chromium, its driver, nginx or Debian's python3-selenium is missing it
+usage: web_page.py [PROGRAM [large | LOOK ..]]   (without PROGRAM the launcher ./venue, which builds the program if need be)
+With `large` it takes a venue of 100,000 features alone, and prints how long the page takes for it. With names of looks, as is_printed, it
+takes these alone, and prints how long each took. It prints one line, and ends with status 1 at a difference. Pictures of the page go to out/pages. Where chromium, its driver, nginx or Debian's python3-selenium is missing it
 says so, and ends with status 0.
 """
 import base64
@@ -652,13 +652,29 @@ def is_renewed(page):
     page.picture("renewing")
     page.site.venue = "other"
     page.site.write(page.site.address)
-    page.until("the new map comes by itself", lambda: "ATM" in page.type("from", "atm"), 15)
+    page.until("the new map comes by itself", lambda: page.script("return import('./store.js').then(({ site }) => site.mark)") == page.site.about["mark"], 15)
+    page.says("answer", "60 m", "Checked: no shorter way without steps")
+    page.check("and nothing is told of it any more", not page.text("trouble") and "ATM" in page.type("from", "atm"))
     page.open(f"#from={ID.format(39)}&to={TICKETS}&profile=wheelchair")
     page.says("answer", "Start at ATM.", "Checked: no shorter way without steps")
 
 
-def goes_far(page, base):
+def goes_far(page):
     """A venue of fifty levels: a way from the lowest to the highest is there soon, its ride is one step, the chooser has them all."""
+    station = page.site
+    with tempfile.TemporaryDirectory() as folder:
+        base = os.path.join(folder, "base")
+        subprocess.run([sys.executable, os.path.join(TOP, "bench", "levels.py"), "50", base], check=True)
+        page.site = Site(station.program, folder, "levels", base)
+        try:
+            times = climbs(page, base)
+        finally:
+            page.site.stop()
+            page.site = station
+    return [f"a way over fifty levels in {times['way told'] - times['way asked']} ms"]
+
+
+def climbs(page, base):
     units = json.loads(read(os.path.join(base, "levels", "unit.geojson")))["features"]
     fragment = f"#from={units[1]['id']}&to={units[-3]['id']}&profile=wheelchair"
     page.open(fragment)
@@ -767,7 +783,7 @@ def judged_alike(page):
             page.check(f"{json.dumps(reply)}: check.js says {one!r}, route_reply.py {others}", len(set(verdicts)) == 1)
         for profile, table in whole.items():
             page.check(f"the parts of {profile} have the links of its table", links_of(table) == links_of_parts(links, profile))
-    return len(bases), len(rows)
+    return [f"{len(bases)} made answers and {len(rows)} replies judged alike"]
 
 
 def links_of(table):
@@ -856,41 +872,34 @@ def main(words):
     if words[1:] == ["large"]:
         return measures_large(program)
     with tempfile.TemporaryDirectory() as folder:
-        site, high, base = Site(program, os.path.join(folder, "station")), None, os.path.join(folder, "high")
-        subprocess.run([sys.executable, os.path.join(TOP, "bench", "levels.py"), "50", base], check=True)
+        site, told, only = Site(program, os.path.join(folder, "station")), [], words[1:]
         try:
             for size in SIZES:
                 page = Page(size)
                 page.site = site
                 try:
                     for look in LOOKS[size]:
+                        if only and look.__name__ not in only:
+                            continue
                         begun = time.monotonic()
-                        look(page)
-                        if os.environ.get("TIMES"):
+                        told += look(page) or []
+                        if only:
                             print(f"{size} {look.__name__}: {time.monotonic() - begun:.1f} s, {len(page.differences)} differences", flush=True)
-                    if size == "desk":
-                        judged = judged_alike(page)
-                        high = page.site = Site(program, os.path.join(folder, "fifty"), "levels", base)
-                        times = goes_far(page, base)
-                        page.site = site
-                        is_renewed(page)
                 finally:
                     page.quit()
                     checks, differences = checks + page.checks, differences + page.differences
         finally:
-            for served in (site, high):
-                if served:
-                    served.stop()
+            site.stop()
     for line in differences:
         print(line, file=sys.stderr)
-    print(f"web_page: {checks} checks at two sizes, {judged[0]} made answers and {judged[1]} replies judged alike, a way over fifty levels in {times['way told'] - times['way asked']} ms, {len(differences)} differences")
+    print(f"web_page: {', '.join([f'{checks} checks at two sizes', *told, f'{len(differences)} differences'])}")
     return 1 if differences else 0
 
 
 # What is looked at with a phone and at a desk.
 LOOKS = {
     "phone": [asks_by_keyboard, goes_on_by_itself, is_tapped],
-    "desk": [asks_by_keyboard, is_tapped, is_lied_to, hears_nothing, reads_broken_files, finds_places, speaks_german, has_all_sentences, tells_turns, fits_everywhere, looks_otherwise, is_slow, is_printed, has_no_network],
+    "desk": [asks_by_keyboard, is_tapped, is_lied_to, hears_nothing, reads_broken_files, finds_places, speaks_german, has_all_sentences, tells_turns, fits_everywhere, looks_otherwise, is_slow, is_printed, has_no_network, judged_alike, goes_far, is_renewed],
 }
 
 if __name__ == "__main__":

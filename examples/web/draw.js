@@ -4,7 +4,7 @@ import { SOLID, ALONG, isPassage, iconOf, labelOf, noun } from "./names.js";
 
 const LOOKS = { walkway: "walk", platform: "walk", lobby: "walk", elevator: "lift", stairs: "treads", steps: "treads", escalator: "treads", ramp: "treads", movingwalkway: "treads", restroom: "wet" };
 export const lookOf = ({ category }) => (SOLID.has(category) ? "solid" : LOOKS[category] ?? "room");
-const FONT = "system-ui, -apple-system, 'Segoe UI', Roboto, 'Helvetica Neue', Arial, sans-serif", CELL = 6;
+const FONT = "-apple-system, 'Segoe UI', Roboto, 'Helvetica Neue', Arial, sans-serif", CELL = 6;
 
 // ---- Colours and pictures
 

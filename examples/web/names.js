@@ -15,8 +15,9 @@ export const signed = (ordinal) => String(ordinal).replace("-", "−");
 export const levelName = (ordinal) => say("level", { level: signed(ordinal) });
 
 export function levelTitle(ordinal) {
-  const names = new Set(site.levels.filter((level) => level.ordinal === ordinal).map(({ name }) => label(name, site.language)?.text).filter(Boolean));
-  return names.size && names.size < 4 ? say("level.of", { level: signed(ordinal), names: list([...names]) }) : say("level.title", { level: signed(ordinal) });
+  const plain = say("level.title", { level: signed(ordinal) }), names = new Set(site.levels.filter((level) => level.ordinal === ordinal).map(({ name }) => label(name, site.language)?.text));
+  for (const idle of [undefined, plain]) names.delete(idle);
+  return names.size && names.size < 4 ? say("level.of", { level: signed(ordinal), names: list([...names]) }) : plain;
 }
 
 /** A feature's own name, or that of who is in it; a hall or a lift isn't called after a shop in it. */

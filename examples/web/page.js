@@ -8,7 +8,7 @@ import { drawAnew, drawLevels, drawNews, fit, listenToMap, ordinals, pictureOf, 
 import { indexPlaces, listenToField, placeAt, titleAt } from "./search.js";
 import { exactLength, legsOf, sentenceOf, spokenLength, spokenTime, stepsOf, sumOf } from "./way.js";
 
-const EVERY = 10_000, SOON = 3_000, TRIES = 3;
+const EVERY = 10_000, SOON = 3_000, RARELY = 60_000, TRIES = 3;
 const $ = (id) => document.getElementById(id);
 
 /** Makes elements with attributes, of which null and false are none and a function is what an event calls, and children, of which null is none. */
@@ -168,9 +168,10 @@ async function ready(answer) {
   await passagesOf();
   const levelAt = (id) => table.partOf[table.numbers.get(id)], ordinalAt = (id) => site.levels[levelAt(id)]?.ordinal;
   answer.legs = legsOf({ start: reply.start, steps: reply.steps ?? [] }, ordinalAt);
-  answer.steps = stepsOf(answer.legs);
-  const ends = answer.steps.flatMap((step) => [step.from, step.to, ...step.legs.filter(({ passage }, k) => passage && (k === 0 || k === step.legs.length - 1)).flatMap(({ from, to }) => [from, to])]);
-  await Promise.all([...new Set(ends.map(levelAt))].filter((level) => level !== undefined).map(levelOf));
+  // Of a ride over many levels only its ends are told and drawn.
+  const { legs } = answer, told = legs.flatMap(({ passage, from, to }, k) => [...(passage && passage === legs[k - 1]?.passage ? [] : [from]), ...(passage && passage === legs[k + 1]?.passage ? [] : [to])]);
+  await Promise.all([...new Set([reply.start, ...told].map(levelAt))].filter((level) => level !== undefined).map(levelOf));
+  answer.steps = stepsOf(legs);
   return answer;
 }
 
@@ -342,7 +343,7 @@ function tellLive() {
   const { silent, faults, isRenewing } = state, { version } = server.closures;
   const last = silent && server.heard && !state.isOld ? ` ${say("seen", { time: clock(server.heard), version })}` : "";
   const isTold = [...$("answer").querySelectorAll(".failed")].some((it) => it.textContent === say("renewing"));
-  $("trouble").textContent = [...faults, silent && !state.isOld ? `${sentence(silent)}${last}` : "", isRenewing && !isTold ? say("renewing") : ""].join(" ").trim();
+  $("trouble").textContent = [...faults, silent && !state.isOld && !faults.includes(sentence(silent)) ? `${sentence(silent)}${last}` : "", isRenewing && !isTold ? say("renewing") : ""].join(" ").trim();
   $("trouble").hidden = !$("trouble").textContent;
   $("live").textContent = state.isLoading ? say("loading") : silent ? say(state.isOld ? "offline" : "no.answer") : version ? say("live.version", { version }) : say("live");
   $("live").className = state.isLoading ? "busy" : silent ? "off" : "on";
@@ -351,8 +352,14 @@ function tellLive() {
 /** Whether the server's folder is still this site's. Between a publication and its site it isn't, and the page says so until there is another site. */
 async function compareSite() {
   state.isRenewing = !(await isOfSite().catch(() => true));
+  await takeNewSite();
+}
+
+/** Begins anew where there is another site, but not while a list of places is open. */
+async function takeNewSite() {
+  state.compared = Date.now();
   const { mark } = await readSite().catch(() => site);
-  if (mark !== site.mark) location.reload();
+  if (mark !== site.mark && !document.querySelector("[aria-expanded=true]")) location.reload();
 }
 
 /** Asks what is closed; where the version went on, the way is asked for anew, and whether the folder is still this site's. */
@@ -363,6 +370,8 @@ async function poll() {
     const { places } = await ask("/v1/version");
     if (places !== site.places || state.isRenewing) await compareSite();
   }
+  const isFailed = state.shownAnswer?.line && !state.answer;
+  if (isOther || isFailed || Date.now() - (state.compared ?? 0) > RARELY) await takeNewSite();
   if (!isSame) await drawClosures();
   if (state.waiting || (state.isOld && state.from && state.to)) return findWay();
   if (isOther && state.isBegun && state.from && state.to) await findWay(state.answer ?? { reply: {} });

@@ -25,9 +25,17 @@ export async function indexPlaces() {
   for (const it of all) {
     it.rank = ORDER.indexOf(it.type) - (it.name ? 2.5 : 0) + (ALONG.has(it.category) && !it.name ? 3 : 0);
     it.title = titleOfPlace(it);
-    it.found = fold([...Object.values(it.name ?? {}), ...Object.values(it.alt ?? {}), wordsOf(it.category), it.type === "occupant" ? wordsOf("occupant") : "", levelName(it.ordinal)].join(" "));
+    it.found = null;
   }
   all.sort((one, other) => one.rank - other.rank);
+  (self.requestIdleCallback ?? setTimeout)(() => fillWords());
+}
+
+/** What is searched of each place: all its names, what it is in all languages, and its level. */
+function fillWords() {
+  for (const it of all) {
+    it.found ??= fold([...Object.values(it.name ?? {}), ...Object.values(it.alt ?? {}), wordsOf(it.category), it.type === "occupant" ? wordsOf("occupant") : "", levelName(it.ordinal)].join(" "));
+  }
 }
 
 /** Whether one letter more, less, exchanged or swapped with its neighbour makes of a word the beginning of the other. */
@@ -41,6 +49,7 @@ export function isNear(word, other) {
 
 /** The likeliest places for a text. Where none has all its words as they are, one mistake in each word of four letters or more is passed over. */
 export function search(text) {
+  fillWords();
   const words = fold(text).split(/\s+/).filter(Boolean), starts = (it) => (words.length && fold(it.title).startsWith(words[0]) ? 0 : 1);
   const exact = all.filter(({ found }) => words.every((word) => found.includes(word)));
   const near = exact.length ? exact : all.filter(({ found }) => { const parts = found.split(" "); return words.every((word) => found.includes(word) || (word.length > 3 && parts.some((part) => isNear(word, part)))); });
@@ -55,7 +64,7 @@ export function detailsOf(rows) {
     const level = upper(levelName(it.ordinal));
     if (same.get(`${it.title} ${it.level}`) < 2) return level;
     const off = ({ point: [x, y] }) => Math.hypot(x - it.point[0], y - it.point[1]);
-    const near = all.reduce((best, other) => (other.level === it.level && other.name && other.title !== it.title && !(best && off(best) <= off(other)) ? other : best), null);
+    const near = all.reduce((best, other) => (other.level === it.level && other.title !== it.title && (other.name || !best?.name) && !(best && Boolean(best.name) === Boolean(other.name) && off(best) <= off(other)) ? other : best), null);
     return near ? `${level}, ${say("near", { name: near.title })}` : level;
   });
 }

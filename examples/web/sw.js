@@ -6,7 +6,7 @@ self.addEventListener("install", (event) => event.waitUntil(caches.open(KEPT).th
 self.addEventListener("activate", (event) => event.waitUntil(self.clients.claim()));
 
 async function answer(request, isOfPage) {
-  const store = await caches.open(KEPT), ofKept = () => store.match(request, { ignoreSearch: true });
+  const store = await caches.open(KEPT), ofKept = () => store.match(request.mode === "navigate" ? "./" : request, { ignoreSearch: true });
   try {
     const reply = await fetch(request);
     if (reply.ok && isOfPage) await store.put(request.url, reply.clone());
