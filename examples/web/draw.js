@@ -4,7 +4,7 @@ import { SOLID, ALONG, isPassage, iconOf, labelOf, noun } from "./names.js";
 
 const LOOKS = { walkway: "walk", platform: "walk", lobby: "walk", elevator: "lift", stairs: "treads", steps: "treads", escalator: "treads", ramp: "treads", movingwalkway: "treads", restroom: "wet" };
 export const lookOf = ({ category }) => (SOLID.has(category) ? "solid" : LOOKS[category] ?? "room");
-const FONT = "-apple-system, 'Segoe UI', Roboto, 'Helvetica Neue', Arial, sans-serif", CELL = 6;
+const FONT = "-apple-system, 'Segoe UI', Roboto, 'Helvetica Neue', Arial, sans-serif", CELL = 6, MANY = 300, MOST_STAMPS = 600, PER_TEXT = 8_000; // pixels
 
 // ---- Colours and pictures
 
@@ -21,6 +21,7 @@ export function readColours() {
   }));
   probe.remove();
   patterns.clear();
+  stamps.clear();
 }
 
 const patterns = new Map();
@@ -87,11 +88,10 @@ class Room {
 
   /** Whether no square of this box is taken; with `takes` they then are. */
   isFree([a, b, c, d], takes = false) {
-    const [left, right] = [Math.max(0, Math.floor(a / CELL)), Math.min(this.wide - 1, Math.floor(c / CELL))];
-    for (let y = Math.max(0, Math.floor(b / CELL)); y <= Math.min(this.high - 1, Math.floor(d / CELL)); y += 1) {
-      const row = this.taken.subarray(y * this.wide + left, y * this.wide + right + 1);
-      if (takes) row.fill(1);
-      else if (row.includes(1)) return false;
+    const left = Math.max(0, Math.floor(a / CELL)), right = Math.min(this.wide - 1, Math.floor(c / CELL)), last = Math.min(this.high - 1, Math.floor(d / CELL));
+    for (let y = Math.max(0, Math.floor(b / CELL)); y <= last; y += 1) for (let k = y * this.wide + left; k <= y * this.wide + right; k += 1) {
+      if (takes) this.taken[k] = 1;
+      else if (this.taken[k]) return false;
     }
     return true;
   }
@@ -101,14 +101,14 @@ class Room {
 
 // ---- Drawing
 
-/** Adds rings or a line to the path, leaving out what lies within a pixel of the point before it. */
-function trace(context, rings, { x, y, scale, left, top }, isClosed) {
+/** Adds rings or a line to the path, leaving out what lies within so many pixels of the point before it. */
+function trace(context, rings, { x, y, scale, left, top, grain }, isClosed) {
   for (const ring of rings) {
     let [u, v] = [(ring[0] - x) * scale + left, (ring[1] - y) * scale + top];
     context.moveTo(u, v);
     for (let k = 2; k < ring.length; k += 2) {
       const p = (ring[k] - x) * scale + left, q = (ring[k + 1] - y) * scale + top;
-      if (Math.abs(p - u) + Math.abs(q - v) < 1 && k < ring.length - 2) continue;
+      if (Math.abs(p - u) + Math.abs(q - v) < grain && k < ring.length - 2) continue;
       context.lineTo(p, q);
       [u, v] = [p, q];
     }
@@ -119,10 +119,10 @@ function trace(context, rings, { x, y, scale, left, top }, isClosed) {
 /** Draws levels of one ordinal, and returns what marks can be tapped and how much was drawn. `view` has the point in the middle and the pixels of a
     centimetre, `news` what is closed and reached, the lines of a way and further marks. */
 export function drawScene(context, [width, height], view, { levels, marks, news }) {
-  const frame = { ...view, left: width / 2, top: height / 2 }, at = (x, y) => [(x - view.x) * view.scale + width / 2, (y - view.y) * view.scale + height / 2];
+  const frame = { ...view, left: width / 2, top: height / 2, grain: 1 }, at = (x, y) => [(x - view.x) * view.scale + width / 2, (y - view.y) * view.scale + height / 2];
   const seen = [view.x - width / 2 / view.scale, view.y - height / 2 / view.scale, view.x + width / 2 / view.scale, view.y + height / 2 / view.scale];
   const pixels = ([a, b, c, d]) => Math.max(c - a, d - b) * view.scale, isSeen = (box, least) => box[0] < seen[2] && box[2] > seen[0] && box[1] < seen[3] && box[3] > seen[1] && pixels(box) > least;
-  const count = { units: 0, doors: 0, lines: 0, closed: 0, reached: 0, marks: [], texts: [] };
+  const count = { marks: [], texts: [] };
   [context.lineJoin, context.lineCap] = ["bevel", "butt"];
   context.fillStyle = colours.sheet;
   context.fillRect(0, 0, width, height);
@@ -149,12 +149,14 @@ export function drawScene(context, [width, height], view, { levels, marks, news 
     context.stroke();
   };
   for (const level of levels) shape(level, "ground", 1.5);
-  for (const level of levels) for (const it of level.features) {
-    if (it.type !== "unit" || !isSeen(it.box, 1.5)) continue;
-    count.units += 1;
-    if (pixels(it.box) < 14) box(it, lookOf(it));
-    else shape(it, lookOf(it), pixels(it.box) < 40 ? 1 : 1.6);
+  const units = levels.flatMap(({ features }) => features.filter((it) => it.type === "unit" && isSeen(it.box, 1.5))), isMany = units.length > MANY;
+  // The more rooms are in view the coarser their walls.
+  frame.grain = isMany ? 4 : units.length > MANY / 3 ? 2.5 : 1;
+  for (const it of units) {
+    if (pixels(it.box) < (isMany ? 20 : 10)) box(it, lookOf(it));
+    else shape(it, lookOf(it), units.length > MANY / 3 && pixels(it.box) < 150 ? 1 : 1.6);
   }
+  frame.grain = 1;
   const reached = news.reached.filter((it) => isSeen(it.box, 1)), doors = levels.flatMap(({ features }) => features.filter((it) => it.type === "opening" && isSeen(it.box, 3)));
   for (const it of reached) shape(it, "reach");
   for (const it of news.closed) if (it.rings) shape(it, "shut");
@@ -164,7 +166,7 @@ export function drawScene(context, [width, height], view, { levels, marks, news 
   strokes(news.lines.map(({ points }) => points), colours["way-edge"], 10);
   strokes(news.lines.map(({ points }) => points), colours.way, 6);
   strokes(news.lines.filter(({ isPicked }) => isPicked).map(({ points }) => points), colours.picked, 8);
-  Object.assign(count, { doors: doors.length, reached: reached.length, closed: news.closed.length, lines: news.lines.length });
+  Object.assign(count, { units: units.length, doors: doors.length, reached: reached.length, closed: news.closed.length, lines: news.lines.length });
 
   const room = new Room(width, height), shown = [];
   for (const { points: [a, b, c, d] } of news.lines) for (let k = 0; k <= 32; k += 1) { const [x, y] = at(a + ((c - a) * k) / 32, b + ((d - b) * k) / 32); room.take([x - 5, y - 5, x + 5, y + 5]); }
@@ -177,42 +179,57 @@ export function drawScene(context, [width, height], view, { levels, marks, news 
     shown.push({ ...mark, x, y, radius });
   }
   for (const mark of shown) if (mark.radius) picture(context, mark);
+  const most = (width * height) / PER_TEXT;
   for (const mark of shown) {
-    if (!mark.text) continue;
+    if (!mark.text || (count.texts.length > most && mark.rank > 0)) continue;
     const { x, y, radius } = mark, wide = widthOf(mark.text), spots = radius ? [[-wide / 2, radius + 2], [radius + 3, -8], [-radius - 3 - wide, -8], [-wide / 2, -radius - 18]] : [[-wide / 2, -8]];
     const boxes = spots.map(([left, top]) => [x + left, y + top, x + left + wide, y + top + 16]);
     const box = boxes.find((it) => it[0] > 2 && it[2] < width - 2 && room.isFree(it)) ?? (mark.rank === 0 ? boxes[0] : null);
     if (!box) continue;
     room.take(box);
-    context.font = `${mark.look === "area" ? 500 : 600} 13px ${FONT}`;
-    context.lineWidth = 3.5;
-    context.strokeStyle = colours.halo;
-    context.fillStyle = colours[{ area: "area", shop: "shop", from: "picked", turn: "picked", to: "shut-line", shut: "shut-line" }[mark.look] ?? "text"];
-    context.strokeText(mark.text, box[0] + 2, box[1] + 12.5);
-    context.fillText(mark.text, box[0] + 2, box[1] + 12.5);
+    stamp(context, `${mark.look} ${mark.text}`, [box[0], box[1], wide + 4, 18], (pen) => {
+      pen.font = `${mark.look === "area" ? 500 : 600} 13px ${FONT}`;
+      [pen.lineWidth, pen.lineJoin, pen.strokeStyle] = [3.5, "round", colours.halo];
+      pen.fillStyle = colours[{ area: "area", shop: "shop", from: "picked", turn: "picked", to: "shut-line", shut: "shut-line" }[mark.look] ?? "text"];
+      pen.strokeText(mark.text, 2, 12.5);
+      pen.fillText(mark.text, 2, 12.5);
+    });
     count.texts.push(mark.text);
   }
   count.marks = shown.filter(({ it, radius }) => it && radius).map(({ it, x, y, radius }) => ({ it, x, y, radius }));
   return count;
 }
 
-function picture(context, { x, y, look, picture: name, text, rank }) {
+const stamps = new Map();
+/** Draws what is drawn often and is costly, as a text with its halo, from a picture that was drawn once. */
+function stamp(context, name, [x, y, width, height], draws) {
+  const dense = context.getTransform().a, key = `${name} ${dense}`;
+  if (!stamps.has(key)) {
+    if (stamps.size > MOST_STAMPS) stamps.clear();
+    const paper = Object.assign(document.createElement("canvas"), { width: Math.ceil(width * dense), height: Math.ceil(height * dense) }), pen = paper.getContext("2d");
+    pen.scale(dense, dense);
+    draws(pen);
+    stamps.set(key, paper);
+  }
+  const paper = stamps.get(key), whole = (value) => Math.round(value * dense) / dense;
+  context.drawImage(paper, whole(x), whole(y), paper.width / dense, paper.height / dense);
+}
+
+function picture(context, { x, y, look, picture: name }) {
   const isRound = ["shop", "from", "to", "shut"].includes(look), drawn = icons.get(name);
-  context.fillStyle = colours[{ shop: "shop", from: "from", turn: "from", to: "to", shut: "to" }[look] ?? "mark"];
-  context.strokeStyle = colours.halo;
-  context.lineWidth = 1.5;
-  context.beginPath();
-  if (isRound) context.arc(x, y, 12, 0, 7);
-  else context.roundRect(x - 12, y - 12, 24, 24, 6);
-  context.fill();
-  context.stroke();
-  if (!drawn) return;
-  context.save();
-  context.translate(x - 9, y - 9);
-  context.scale(0.75, 0.75);
-  context.strokeStyle = context.fillStyle = colours["mark-ink"];
-  context.lineWidth = 2.4;
-  context.stroke(drawn.stroke);
-  context.fill(drawn.fill);
-  context.restore();
+  stamp(context, `${look} ${name} icon`, [x - 14, y - 14, 28, 28], (pen) => {
+    pen.fillStyle = colours[{ shop: "shop", from: "from", turn: "from", to: "to", shut: "to" }[look] ?? "mark"];
+    [pen.strokeStyle, pen.lineWidth, pen.lineCap, pen.lineJoin] = [colours.halo, 1.5, "round", "round"];
+    pen.beginPath();
+    if (isRound) pen.arc(14, 14, 12, 0, 7);
+    else pen.roundRect(2, 2, 24, 24, 6);
+    pen.fill();
+    pen.stroke();
+    if (!drawn) return;
+    pen.translate(5, 5);
+    pen.scale(0.75, 0.75);
+    [pen.strokeStyle, pen.fillStyle, pen.lineWidth] = [colours["mark-ink"], colours["mark-ink"], 2.4];
+    pen.stroke(drawn.stroke);
+    pen.fill(drawn.fill);
+  });
 }
