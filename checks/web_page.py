@@ -487,6 +487,21 @@ def speaks_german(page):
     page.speak("en-GB")
 
 
+def refuses_in_words(page):
+    """What site.py can't serve it says in words, and writes nothing."""
+    cases = [
+        ((EXAMPLES, "tall"), "finding K1 unit.geojson 7 0", "is rejected, as `venue check"),
+        ((EXAMPLES, "nothing"), "rejected ", "is rejected, as `venue check"),
+        ((HERE, "station"), "", "can't be read"),
+    ]
+    with tempfile.TemporaryDirectory() as folder:
+        for words, *told in cases:
+            ran = subprocess.run([sys.executable, os.path.join(EXAMPLES, "web", "site.py"), *words, os.path.join(folder, "site")], capture_output=True, text=True, env=os.environ | {"VENUE": page.site.program})
+            page.check(f"site.py refuses {words[1]}: {ran.stderr}", ran.returncode == 1 and all(text in ran.stderr for text in (*told, "nothing is written")))
+        page.check("nothing is written", not os.listdir(folder))
+    page.check(f"site.py tells what it wrote: {page.site.written}", re.match(r"site: 2 levels, 33 places, 2 profiles with 425 links; 13 files of \d+ bytes, the largest part of a table \d+; for http", page.site.written))
+
+
 def has_all_sentences(page):
     """Both tables have the same keys, with the same values in them and all forms of a number; each key that the page says is there, each that is there is said."""
     tables = page.driver.execute_async_script("const done = arguments[0]; Promise.all([import('./en.js'), import('./de.js')]).then((all) => done(all.map((it) => ({ sentences: it.default.sentences, nouns: it.default.nouns }))))")
@@ -899,7 +914,7 @@ def main(words):
 # What is looked at with a phone and at a desk.
 LOOKS = {
     "phone": [asks_by_keyboard, goes_on_by_itself, is_tapped],
-    "desk": [asks_by_keyboard, is_tapped, is_lied_to, hears_nothing, reads_broken_files, finds_places, speaks_german, has_all_sentences, tells_turns, fits_everywhere, looks_otherwise, is_slow, is_printed, has_no_network, judged_alike, goes_far, is_renewed],
+    "desk": [asks_by_keyboard, is_tapped, is_lied_to, hears_nothing, reads_broken_files, finds_places, refuses_in_words, speaks_german, has_all_sentences, tells_turns, fits_everywhere, looks_otherwise, is_slow, is_printed, has_no_network, judged_alike, goes_far, is_renewed],
 }
 
 if __name__ == "__main__":

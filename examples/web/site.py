@@ -187,33 +187,36 @@ def box(rings):
     return [min(xs), min(ys), max(xs), max(ys)]
 
 
-def cut_of(base, folder, profile, part_of, number_of):
-    """The parts of a profile's table, read line by line, since a whole one may have hundreds of megabytes."""
+def run(*words):
     try:
-        ran = subprocess.Popen([PROGRAM, "links", base, folder, profile], stdout=subprocess.PIPE)
+        return subprocess.Popen([PROGRAM, *words], stdout=subprocess.PIPE)
     except OSError as error:
         raise Refused(f"the program {PROGRAM} can't be run: {error}") from error
-    with ran.stdout as lines:
-        first = lines.readline()
-        if first != b"imdf-links 1\n":
-            sys.stderr.buffer.write(first + lines.read())
-            raise Refused(f"the folder {folder} is rejected, as `venue check {base} {folder}` tells")
-        try:
-            return Cut(iter_of(first, lines), part_of, number_of)
-        except (KeyError, ValueError, IndexError) as error:
-            raise Refused(f"the table of links of {profile} isn't that of the folder: {error}") from error
-        finally:
-            lines.read()
-            ran.wait()
 
 
-def iter_of(first, lines):
-    yield first
-    yield from lines
+def need_accepted(base, folder):
+    said = run("check", base, folder).communicate()[0]
+    if not said.startswith(b"accepted "):
+        sys.stderr.buffer.write(said)
+        raise Refused(f"the folder {os.path.join(base, folder)} is rejected, as `venue check {base} {folder}` tells")
+
+
+def cut_of(base, folder, profile, part_of, number_of):
+    """The parts of a profile's table, read line by line, since a whole one may have hundreds of megabytes."""
+    ran = run("links", base, folder, profile)
+    try:
+        return Cut(ran.stdout, part_of, number_of)
+    except (KeyError, ValueError, IndexError) as error:
+        raise Refused(f"the table of links of {profile} isn't that of the folder: {error}") from error
+    finally:
+        ran.stdout.read()
+        ran.stdout.close()
+        ran.wait()
 
 
 def files_of(base, folder, told):
     """The files of one publication by name, and how many links and how large a part there are."""
+    need_accepted(base, folder)
     venue = Venue(os.path.join(base, folder), told)
     part_of, links, largest = venue.part_of(), 0, 0
     _, number_of = nodes_text(part_of, len(venue.levels), "")
