@@ -360,33 +360,46 @@ def raise_first(reply):
     mark["value"] += 1
 
 
+def less_other_level(reply):
+    """Leaves out the highest potential of a node that isn't on the level of the start, so it counts as `cost`, and a link from a lower one breaks that."""
+    there = [mark for mark in reply["potentials"] if int(mark["node"][-12:]) in range(201, 205) or int(mark["node"][-12:]) in range(400, 405)]
+    reply["potentials"].remove(min(there, key=lambda mark: mark["value"]))
+
+
 def lower_end(reply):
     """Says of the end of a way that it lies lower than the way costs."""
     if reply["result"] == "route" and reply["steps"]:
         reply["potentials"].append({"node": reply["steps"][-1]["to"], "value": reply["cost"] - 1})
 
 
+# What is exchanged of a reply, the clause that then fails, and the sentence of the page where it is asked for it.
 SPOILS = {
-    "a cost off by one": (lambda reply: reply.update(cost=reply["cost"] + 1), "its steps don't add up to its cost"),
-    "a step off by one": (lambda reply: reply["steps"][1].update(cost=3006), "one of its steps is no link that is open"),
-    "a step left out": (lambda reply: reply["steps"].pop(), "its steps don't lead to the end"),
-    "potentials without the start": (less_start, "it doesn't begin at the start"),
-    "a potential off by one": (raise_first, "by its own numbers a shorter way may be there"),
-    "the end lower than the cost": (lower_end, "what it says of the end contradicts itself"),
-    "a potential twice": (lambda reply: reply["potentials"].append(reply["potentials"][0]), "its potentials aren't whole numbers, one a place"),
-    "another end": (lambda reply: reply.update(to=RESTROOM), "it is an answer to another question"),
-    "no way told of a way": (lambda reply: reply.update(result="none", reached=[reply["start"]]), "by its own numbers a shorter way may be there"),
-    "the end among what is reached": (lambda reply: reply.update(result="none", reached=[reply["start"], ID.format(42)]), "what it says of the end contradicts itself"),
-    "steps that are no list": (lambda reply: reply.update(steps=7), "it isn't of its form"),
+    "a cost off by one": (lambda reply: reply.update(cost=reply["cost"] + 1), "sum", "its steps don't add up to its cost"),
+    "a step off by one": (lambda reply: reply["steps"][1].update(cost=3006), "step 2", "one of its steps is no link that is open"),
+    "a step left out": (lambda reply: reply["steps"].pop(), "end", None),
+    "potentials without the start": (less_start, "start", None),
+    "a potential off by one": (raise_first, "link", "by its own numbers a shorter way may be there"),
+    "the end lower than the cost": (lower_end, "finish", None),
+    "a potential twice": (lambda reply: reply["potentials"].append(reply["potentials"][0]), "potentials", None),
+    "a potential that is a text": (lambda reply: reply["potentials"][0].update(value="0"), "potentials", None),
+    "a potential left out on another level": (less_other_level, "link of part between", None),
+    "another end": (lambda reply: reply.update(to=RESTROOM), "asked", None),
+    "another version": (lambda reply: reply.update(version=0), "version", None),
+    "no way told of a way": (lambda reply: reply.update(result="none", reached=[reply["start"]]), "link", "by its own numbers a shorter way may be there"),
+    "the end among what is reached": (lambda reply: reply.update(result="none", reached=[reply["start"], ID.format(42)]), "finish", None),
+    "the start not among what is reached": (lambda reply: reply.update(result="none", reached=[]), "start", None),
+    "steps that are no list": (lambda reply: reply.update(steps=7), "form", "it isn't of its form"),
+    "a result of another name": (lambda reply: reply.update(result="way"), "form", None),
 }
 
 
 def is_lied_to(page):
     """Of replies with something exchanged the page says what fails, and draws no way."""
-    page.site.between.change = spoil_of("a cost off by one")
+    told = {kind: sentence for kind, (_, _, sentence) in SPOILS.items() if sentence}
+    page.site.between.change = spoil_of(next(iter(told)))
     page.open(WHEELCHAIR)
     page.says("answer", "Not proved: ")
-    for kind, (_, sentence) in SPOILS.items():
+    for kind, sentence in told.items():
         page.site.between.change = spoil_of(kind)
         page.ask_again()
         page.says("answer", "Not proved: ", sentence)
@@ -395,7 +408,7 @@ def is_lied_to(page):
     page.site.between.change = lambda path, body: b"<html>" if path.startswith("/v1/route") else body
     page.ask_again()
     page.says("answer", "The server's reply isn't JSON.")
-    page.site.between.change = lambda path, body: re.sub(rb'"version":\d+', b'"version":1', body) if path.startswith("/v1/closures") else body
+    page.site.between.change = lambda path, body: re.sub(rb'"version":\d+', b'"version":0', body) if path.startswith("/v1/closures") else body
     page.ask_again()
     page.says("answer", "The venue changes faster than an answer can be checked.")
     page.site.between.change = None
@@ -504,6 +517,7 @@ def refuses_in_words(page):
 
 def has_all_sentences(page):
     """Both tables have the same keys, with the same values in them and all forms of a number; each key that the page says is there, each that is there is said."""
+    page.open()
     tables = page.driver.execute_async_script("const done = arguments[0]; Promise.all([import('./en.js'), import('./de.js')]).then((all) => done(all.map((it) => ({ sentences: it.default.sentences, nouns: it.default.nouns }))))")
     english, german = tables
     web = os.path.join(EXAMPLES, "web")
@@ -512,6 +526,8 @@ def has_all_sentences(page):
     said = set(re.findall(r"""(?:say|Trouble|hint:)\s*\(?"([a-z_.]+)\"""", code)) | {part.split("@")[0] for value in re.findall(r'data-say="([^"]+)"', code) for part in value.split()}
     said |= {key for key in english["sentences"] if re.search(r"""["'`]""" + re.escape(key) + r"""["'`]""", code)}
     said |= {key for key in english["sentences"] for start in re.findall(r"say\((?:\w+\.)?`([a-z.]+)\$", code) if key.startswith(start)} | {f"{key}.here" for key in ("from", "to")}
+    clauses = set(re.findall(r"""need\(.*?, ["`]([a-z]+)""", texts["check.js"])) | {"link"}
+    page.check(f"each clause has its sentence: {sorted(clauses)}", clauses == {key[6:] for key in english["sentences"] if key.startswith("fails.")})
     values = lambda text: sorted(set(re.findall(r"\{(\w+)\}", text)))
     for kind in ("sentences", "nouns"):
         page.check(f"equal keys of {kind}: {sorted(set(english[kind]) ^ set(german[kind]))}", set(english[kind]) == set(german[kind]))
@@ -573,7 +589,7 @@ def fits_everywhere(page):
                 found = sum(boxes(page, "#view", "#levels", "#caption" if levels < 7 else "#none", "#zoom"), [])
                 page.check(f"{levels} levels at {width} x {height}: nothing covers anything {found}", apart(found) and len(found) >= 3)
                 page.check(f"{levels} levels at {width} x {height}: nothing runs over the side", page.script("return document.documentElement.scrollWidth <= innerWidth"))
-                if levels == 200 or (width, height) == (360, 225):
+                if (levels, width) in ((10, 390), (50, 1440), (200, 320), (200, 720)):
                     page.picture(f"levels-{levels}-{width}")
     finally:
         with open(path, "w", encoding="utf-8") as file:
@@ -643,10 +659,9 @@ def has_no_network(page):
     page.until("the way is kept", lambda: page.driver.execute_async_script(kept))
     page.until("the worker is there", lambda: page.script("return navigator.serviceWorker.controller !== null"))
     page.site.stop(1)
-    for fragment in ("", WHEELCHAIR):
-        page.open(fragment)
-        page.says("answer", "The server doesn't answer. This is the way of ", "60 m", "Checked: no shorter way without steps")
-        page.check("the map is there, and the server's silence is told once", page.drawn("lines") == 3 and page.text("trouble") == "" and page.text("live") == "Kept copy")
+    page.open()
+    page.says("answer", "The server doesn't answer. This is the way of ", "60 m", "Checked: no shorter way without steps")
+    page.until("the map is there, and the server's silence is told once", lambda: page.drawn("lines") == 3 and page.text("trouble") == "" and page.text("live") == "Kept copy")
     page.picture("offline")
     page.open(WHEELCHAIR.replace("wheelchair", "walk"))
     page.says("answer", "The way is asked for as soon as it does.")
@@ -796,6 +811,14 @@ def judged_alike(page):
             others = [printed(os.path.join(EXAMPLES, "route_reply.py"), [files[0], table, files[2], occupants]) for table in (files[1], os.path.join(links, asked["profile"]))]
             verdicts = [one == "proved proved", *(other == "proved" for other in others)]
             page.check(f"{json.dumps(reply)}: check.js says {one!r}, route_reply.py {others}", len(set(verdicts)) == 1)
+        asked = {"from": BAKERY, "to": TICKETS, "profile": "wheelchair"}
+        reply, closures = (json.loads(ask(page.site.server, target)[1]) for target in (f"/v1/route?from={BAKERY}&to={TICKETS}&profile=wheelchair&certificate=yes", "/v1/closures"))
+        spoiled = [copy.deepcopy(reply) for _ in SPOILS]
+        for it, (spoil, _, _) in zip(spoiled, SPOILS.values()):
+            spoil(it)
+        anchors = [[BAKERY, ID.format(41)], [TICKETS, ID.format(42)]]
+        for (kind, (_, clause, _)), one in zip(SPOILS.items(), in_browser(page, "check.js", call, [[asked, it, closures, anchors, parts] for it in spoiled])):
+            page.check(f"{kind}: {one}", re.fullmatch(f"(fails {clause}( .*)?) (fails {clause}( .*)?)", one))
         for profile, table in whole.items():
             page.check(f"the parts of {profile} have the links of its table", links_of(table) == links_of_parts(links, profile))
     return [f"{len(bases)} made answers and {len(rows)} replies judged alike"]
