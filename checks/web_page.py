@@ -453,6 +453,7 @@ def reads_broken_files(page):
         ((f"{data}/links/parts.txt",), "answer", "The table of links isn't there, so no way can be checked."),
         ((f"{data}/links/parts.txt", "imdf-parts 1", "imdf-parts 2"), "answer", "The table of links is of another version than this page reads"),
         ((f"{data}/links/parts.txt", ID.format(301), ID.format(302)), "answer", "The table of links can't be read (form parts.txt twice)"),
+        ((f"{data}/links/parts.txt", f"node {ID.format(404)}", f"node {ID.format(405)}"), "answer", "The map is being renewed."),
         ((f"{data}/links/wheelchair/between.txt",), "answer", "The table of links isn't there, so no way can be checked."),
         ((f"{data}/links/wheelchair/0.txt", page.site.about["mark"], "0" * 16), "answer", "The map is being renewed. Load the page again."),
         ((f"{data}/links/wheelchair/0.txt", "costs ", "costs 0"), "answer", "The table of links can't be read (form 0.txt 3)"),
@@ -526,7 +527,7 @@ def has_all_sentences(page):
     said = set(re.findall(r"""(?:say|Trouble|hint:)\s*\(?"([a-z_.]+)\"""", code)) | {part.split("@")[0] for value in re.findall(r'data-say="([^"]+)"', code) for part in value.split()}
     said |= {key for key in english["sentences"] if re.search(r"""["'`]""" + re.escape(key) + r"""["'`]""", code)}
     said |= {key for key in english["sentences"] for start in re.findall(r"say\((?:\w+\.)?`([a-z.]+)\$", code) if key.startswith(start)} | {f"{key}.here" for key in ("from", "to")}
-    clauses = set(re.findall(r"""need\(.*?, ["`]([a-z]+)""", texts["check.js"])) | {"link"}
+    clauses = set(re.findall(r"""need\(.*, ["`]([a-z]+)""", texts["check.js"])) | {"link", "table"}
     page.check(f"each clause has its sentence: {sorted(clauses)}", clauses == {key[6:] for key in english["sentences"] if key.startswith("fails.")})
     values = lambda text: sorted(set(re.findall(r"\{(\w+)\}", text)))
     for kind in ("sentences", "nouns"):
@@ -679,6 +680,7 @@ def is_renewed(page):
     page.site.post("/v1/publish", {"folder": "other"})
     page.nudge()
     page.until("it says that the map is being renewed", lambda: "The map is being renewed." in page.text("trouble") + page.text("answer"))
+    page.until("no way is drawn meanwhile", lambda: page.drawn("lines") == 0 and "Checked" not in page.text("answer"))
     page.picture("renewing")
     page.site.venue = "other"
     page.site.write(page.site.address)

@@ -31,7 +31,7 @@ export default {
     "table.missing": "Die Tabelle der Verbindungen fehlt, daher lässt sich kein Weg prüfen.", "table.version": "Die Tabelle der Verbindungen hat eine andere Version, als diese Seite liest; daher lässt sich kein Weg prüfen.",
     "table.unread": "Die Tabelle der Verbindungen ist nicht lesbar ({stop}), daher lässt sich kein Weg prüfen.", "table.mark": "Die Karte wird gerade erneuert. Laden Sie die Seite neu.",
     "not.proved": "Nicht bewiesen: {why}. Es wird kein Weg gezeichnet.", "fails.version": "die Antwort ist nicht vom Stand der genannten Sperrungen", "fails.asked": "sie antwortet auf eine andere Frage",
-    "fails.place": "die Tabelle der Verbindungen kennt einen der beiden Orte nicht", "fails.part": "ein Teil der Tabelle fehlt", "fails.form": "die Antwort hat nicht ihre Form",
+    "fails.place": "die Tabelle der Verbindungen kennt einen der beiden Orte nicht", "fails.table": "die Tabelle der Verbindungen ist von einem anderen Stand des Ortes", "fails.part": "ein Teil der Tabelle fehlt", "fails.form": "die Antwort hat nicht ihre Form",
     "fails.potentials": "ihre Potentiale sind nicht ganze Zahlen, eine für jeden Ort", "fails.step": "einer ihrer Schritte ist keine offene Verbindung", "fails.end": "ihre Schritte führen nicht ans Ziel",
     "fails.sum": "ihre Schritte ergeben nicht ihre Kosten", "fails.start": "sie beginnt nicht am Start", "fails.finish": "was sie vom Ziel sagt, widerspricht sich", "fails.link": "nach ihren eigenen Zahlen kann es einen kürzeren Weg geben",
     "checked.walk": "Geprüft: kein kürzerer Weg", "checked.wheelchair": "Geprüft: kein kürzerer Weg ohne Stufen", "checked.other": "Geprüft: kein kürzerer Weg für {profile}", "checked.none": "Geprüft: es gibt keinen",

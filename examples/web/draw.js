@@ -170,8 +170,8 @@ export function drawScene(context, [width, height], view, { levels, marks, news 
 
   const room = new Room(width, height), shown = [];
   for (const { points: [a, b, c, d] } of news.lines) for (let k = 0; k <= 32; k += 1) { const [x, y] = at(a + ((c - a) * k) / 32, b + ((d - b) * k) / 32); room.take([x - 5, y - 5, x + 5, y + 5]); }
-  // Seen from afar, marks keep further apart.
-  const apart = view.scale < 0.02 ? 22 : 0;
+  // Seen from afar, many marks keep further apart.
+  const apart = view.scale < 0.02 && marks.length > MANY ? 22 : 0;
   for (const mark of [...news.marks, ...marks]) {
     const x = (mark.point[0] - view.x) * view.scale + width / 2, y = (mark.point[1] - view.y) * view.scale + height / 2, radius = mark.picture ? 13 : 0, own = radius + apart;
     if (x < -50 || y < -50 || x > width + 50 || y > height + 50 || (radius && mark.rank > 1 && !room.isFree([x - own, y - own, x + own, y + own]))) continue;

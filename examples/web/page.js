@@ -8,7 +8,7 @@ import { drawAnew, drawLevels, drawNews, fit, listenToMap, ordinals, pictureOf, 
 import { indexPlaces, listenToField, placeAt, titleAt } from "./search.js";
 import { exactLength, legsOf, sentenceOf, spokenLength, spokenTime, stepsOf, sumOf } from "./way.js";
 
-const EVERY = 10_000, SOON = 3_000, RARELY = 60_000, TRIES = 3;
+const EVERY = 10_000, SOON = 3_000, RARELY = 60_000, TRIES = 3, MOST_COMPARED = 5_000;
 const $ = (id) => document.getElementById(id);
 
 /** Makes elements with attributes, of which null and false are none and a function is what an event calls, and children, of which null is none. */
@@ -27,7 +27,7 @@ const icon = (name) => draw("svg", { class: "icon", "aria-hidden": "true" }, dra
 
 // What is asked for, what was answered, and what is wrong.
 const state = { from: null, to: null, profile: null, turn: 0, answer: null, faults: [], silent: null, isLoading: false, isBegun: false, isRenewing: false, isOld: null, waiting: null,
-  shownAnswer: null };
+  shownAnswer: null, compared: { version: 0, time: Date.now() } };
 
 // ---- The words of the page around
 
@@ -154,9 +154,9 @@ async function askForProof(asked) {
     performance.mark("way asked");
     const reply = await ask("/v1/route", { ...asked, certificate: "yes" });
     performance.mark("way answered");
-    const [{ table, parts }, closures] = await Promise.all([tableFor(asked.profile, reply), ask("/v1/closures", {}, "closures")]);
-    if (closures.version !== reply.version) continue;
-    return ready({ asked, reply, closures, table, line: judgeReply(asked, reply, closures, table, parts, anchors), time: Date.now() });
+    const [{ table, parts }, closures, isSame] = await Promise.all([tableFor(asked.profile, reply), ask("/v1/closures", {}, "closures"), isSiteOf(reply.version)]);
+    if (closures.version !== reply.version || isSame === null) continue;
+    return ready({ asked, reply, closures, table, line: isSame ? judgeReply(asked, reply, closures, table, parts, anchors) : "fails table", time: Date.now() });
   }
   throw new Trouble("changes");
 }
@@ -349,7 +349,18 @@ function tellLive() {
   $("live").className = state.isLoading ? "busy" : silent ? "off" : "on";
 }
 
-/** Whether the server's folder is still this site's. Between a publication and its site it isn't, and the page says so until there is another site. */
+/** Whether the server's folder is this site's at a version: by the number of its places, and where that is another one or they aren't too many, by all of
+    them. Null where the version went on. Between a publication and its site it isn't, and the page says so until there is another site. */
+async function isSiteOf(version) {
+  if (state.compared.version !== version || state.isRenewing) {
+    const now = await ask("/v1/version");
+    if (now.version !== version) return null;
+    if (now.places !== site.places || now.places <= MOST_COMPARED || state.isRenewing) await compareSite();
+    state.compared.version = version;
+  }
+  return !state.isRenewing;
+}
+
 async function compareSite() {
   state.isRenewing = !(await isOfSite().catch(() => true));
   await takeNewSite();
@@ -357,7 +368,7 @@ async function compareSite() {
 
 /** Begins anew where there is another site, but not while a list of places is open. */
 async function takeNewSite() {
-  state.compared = Date.now();
+  state.compared.time = Date.now();
   const { mark } = await readSite().catch(() => site);
   if (mark !== site.mark && !document.querySelector("[aria-expanded=true]")) location.reload();
 }
@@ -366,12 +377,9 @@ async function takeNewSite() {
 async function poll() {
   const told = await ask("/v1/closures", {}, "closures"), isSame = String(told.closures) === String(server.closures.closures), isOther = told.version !== server.closures.version;
   server.closures = told;
-  if (isOther || state.isRenewing) {
-    const { places } = await ask("/v1/version");
-    if (places !== site.places || state.isRenewing) await compareSite();
-  }
+  await isSiteOf(told.version);
   const isFailed = state.shownAnswer?.line && !state.answer;
-  if (isOther || isFailed || Date.now() - (state.compared ?? 0) > RARELY) await takeNewSite();
+  if (isOther || isFailed || Date.now() - state.compared.time > RARELY) await takeNewSite();
   if (!isSame) await drawClosures();
   if (state.waiting || (state.isOld && state.from && state.to)) return findWay();
   if (isOther && state.isBegun && state.from && state.to) await findWay(state.answer ?? { reply: {} });

@@ -166,7 +166,7 @@ export async function ask(path, keys = {}, list = null) {
 /** Whether the server's places are those of this site, by their identifiers. */
 export async function isOfSite() {
   const [{ byId }, table, told] = await Promise.all([placesOf(), nodesOf(), ask("/v1/places", {}, "places")]);
-  return told.places.length === site.places && told.places.every(({ id }) => table.numbers.has(id) || byId.has(id));
+  return told.places.length === site.places && told.places.every(({ id, kind }) => (kind === "occupant" ? byId.has(id) : table.numbers.has(id)));
 }
 
 // ---- What is there without a network
