@@ -235,6 +235,7 @@ function showAnswer(answer, before) {
   $("answer").removeAttribute("aria-busy");
   $("answer").replaceChildren(...(hint ? [make("p", { class: "hint" }, say(hint))] : !isProved ? failure(answer) : isRoute ? wayInWords(answer) : noWay(answer)));
   $("answer").querySelectorAll("button")[focused]?.focus();
+  tellLive();
   drawClosures();
   if (isProved && !isRoute) fit();
   if (isRoute && answer.steps.length && JSON.stringify(before?.steps) !== JSON.stringify(answer.reply.steps)) pick(answer, null);
