@@ -75,8 +75,8 @@ export const readNodes = (text) => orStop(() => {
   const mark = lines.lines[0].slice(-16);
   let parts = 0;
   for (; lines.take(/^part$/); parts += 1) {
-    for (let words; nodes.length < MOST_NODES && (words = lines.take(NODE)); ) {
-      nodes.push(words[0]);
+    for (; nodes.length < MOST_NODES && NODE.test(lines.lines[lines.at]); lines.at += 1) {
+      nodes.push(lines.lines[lines.at].slice(5));
       partOf.push(parts);
     }
   }
@@ -130,18 +130,18 @@ function hasLink(parts, isOpen, from, to, cost, via) {
   }));
 }
 
-/** That no open link of these parts breaks what `holds` says of its two ends and its cost. */
-function needLinks(parts, isOpen, isListed, holds) {
+/** That no open link of these parts breaks what `holds` says of the values of its two ends and its cost. */
+function needLinks(parts, isOpen, isListed, valueOf, holds) {
   for (const { name, rooms, links } of parts) {
     for (const { via, members, costs } of rooms) {
       if (!members.some(isListed)) continue;
-      const isIn = Array.from(members, (node) => isOpen(node, node, via));
-      costs.forEach((row, i) => isIn[i] && row.forEach((cost, k) => {
-        const j = i + k + 1;
-        need(!isIn[j] || (holds(members[i], members[j], cost) && holds(members[j], members[i], cost)), `link of part ${name}`);
-      }));
+      const isIn = Array.from(members, (node) => isOpen(node, node, via)), values = Array.from(members, valueOf);
+      for (let i = 0; i < costs.length; i += 1) for (let k = 0, j = i + 1; isIn[i] && j < values.length; k += 1, j += 1) {
+        const cost = costs[i][k];
+        need(!isIn[j] || (holds(values[i], values[j], cost) && holds(values[j], values[i], cost)), `link of part ${name}`);
+      }
     }
-    for (const [from, to, cost, via] of links) need(!isOpen(from, to, via) || holds(from, to, cost), `link of part ${name}`);
+    for (const [from, to, cost, via] of links) need(!isOpen(from, to, via) || holds(valueOf(from), valueOf(to), cost), `link of part ${name}`);
   }
 }
 
@@ -165,7 +165,8 @@ export function judgeReply(asked, reply, closures, table, parts, anchors) {
       const reached = new Set(list(reply.reached).map((id) => numbers.get(id)));
       need(reached.has(start), "start");
       need(!reached.has(end), "finish");
-      return needLinks(wanted, isOpen, (node) => reached.has(node), (from, to) => !reached.has(from) || reached.has(to));
+      const isReached = (node) => reached.has(node);
+      return needLinks(wanted, isOpen, isReached, isReached, (from, to) => !from || to);
     }
     const { cost } = reply, marks = list(reply.potentials);
     need(reply.result === "route" && whole(cost), "form");
@@ -183,6 +184,6 @@ export function judgeReply(asked, reply, closures, table, parts, anchors) {
     need(total === cost, "sum");
     need(potential(start) === 0, "start");
     need(potential(end) === cost, "finish");
-    needLinks(wanted, isOpen, (node) => listed.has(node), (from, to, length) => potential(to) <= potential(from) + length);
+    needLinks(wanted, isOpen, (node) => listed.has(node), potential, (from, to, length) => to <= from + length);
   });
 }

@@ -4,7 +4,7 @@ import { SOLID, ALONG, isPassage, iconOf, labelOf, noun } from "./names.js";
 
 const LOOKS = { walkway: "walk", platform: "walk", lobby: "walk", elevator: "lift", stairs: "treads", steps: "treads", escalator: "treads", ramp: "treads", movingwalkway: "treads", restroom: "wet" };
 export const lookOf = ({ category }) => (SOLID.has(category) ? "solid" : LOOKS[category] ?? "room");
-const FONT = "-apple-system, 'Segoe UI', Roboto, 'Helvetica Neue', Arial, sans-serif", CELL = 6, MANY = 300, MOST_STAMPS = 600, PER_TEXT = 8_000; // pixels
+const FONT = "-apple-system, 'Segoe UI', Roboto, 'Helvetica Neue', Arial, sans-serif", CELL = 6, MANY = 300, MOST_STAMPS = 600, PER_TEXT = 8_000, AT_ONCE = 12; // pixels, milliseconds
 
 // ---- Colours and pictures
 
@@ -122,7 +122,8 @@ export function drawScene(context, [width, height], view, { levels, marks, news 
   const frame = { ...view, left: width / 2, top: height / 2, grain: 1 }, at = (x, y) => [(x - view.x) * view.scale + width / 2, (y - view.y) * view.scale + height / 2];
   const seen = [view.x - width / 2 / view.scale, view.y - height / 2 / view.scale, view.x + width / 2 / view.scale, view.y + height / 2 / view.scale];
   const pixels = ([a, b, c, d]) => Math.max(c - a, d - b) * view.scale, isSeen = (box, least) => box[0] < seen[2] && box[2] > seen[0] && box[1] < seen[3] && box[3] > seen[1] && pixels(box) > least;
-  const count = { marks: [], texts: [] };
+  const count = { marks: [], texts: [], isWhole: true };
+  readyBy = performance.now() + AT_ONCE;
   [context.lineJoin, context.lineCap] = ["bevel", "butt"];
   context.fillStyle = colours.sheet;
   context.fillRect(0, 0, width, height);
@@ -187,7 +188,7 @@ export function drawScene(context, [width, height], view, { levels, marks, news 
     const box = boxes.find((it) => it[0] > 2 && it[2] < width - 2 && room.isFree(it)) ?? (mark.rank === 0 ? boxes[0] : null);
     if (!box) continue;
     room.take(box);
-    stamp(context, `${mark.look} ${mark.text}`, [box[0], box[1], wide + 4, 18], (pen) => {
+    count.isWhole &= stamp(context, `${mark.look} ${mark.text}`, [box[0], box[1], wide + 4, 18], (pen) => {
       pen.font = `${mark.look === "area" ? 500 : 600} 13px ${FONT}`;
       [pen.lineWidth, pen.lineJoin, pen.strokeStyle] = [3.5, "round", colours.halo];
       pen.fillStyle = colours[{ area: "area", shop: "shop", from: "picked", turn: "picked", to: "shut-line", shut: "shut-line" }[mark.look] ?? "text"];
@@ -201,10 +202,13 @@ export function drawScene(context, [width, height], view, { levels, marks, news 
 }
 
 const stamps = new Map();
-/** Draws what is drawn often and is costly, as a text with its halo, from a picture that was drawn once. */
+let readyBy = 0;
+/** Draws what is drawn often and is costly, as a text with its halo, from a picture that was drawn once. Whether it is there: where much is new, the rest
+    comes with the next picture. */
 function stamp(context, name, [x, y, width, height], draws) {
   const dense = context.getTransform().a, key = `${name} ${dense}`;
   if (!stamps.has(key)) {
+    if (performance.now() > readyBy) return false;
     if (stamps.size > MOST_STAMPS) stamps.clear();
     const paper = Object.assign(document.createElement("canvas"), { width: Math.ceil(width * dense), height: Math.ceil(height * dense) }), pen = paper.getContext("2d");
     pen.scale(dense, dense);
@@ -213,6 +217,7 @@ function stamp(context, name, [x, y, width, height], draws) {
   }
   const paper = stamps.get(key), whole = (value) => Math.round(value * dense) / dense;
   context.drawImage(paper, whole(x), whole(y), paper.width / dense, paper.height / dense);
+  return true;
 }
 
 function picture(context, { x, y, look, picture: name }) {

@@ -35,6 +35,7 @@ function draw() {
   const context = canvas.getContext("2d", { alpha: false });
   context.setTransform(dense, 0, 0, dense, 0, 0);
   shown.drawn = drawScene(context, [width, height], view, shown);
+  if (!shown.drawn.isWhole) look();
   const { units, doors, lines, closed, reached, texts } = shown.drawn;
   Object.assign($("view").dataset, { level: shown.ordinal, units, doors, lines, closed, reached, texts: texts.length });
   const bar = [1, 2, 5, 10, 20, 50, 100, 200, 500].find((length) => length * 100 * view.scale >= 40) ?? 1000;
@@ -49,7 +50,7 @@ export async function pictureOf(ordinal, box, [width, height]) {
   context.setTransform(2, 0, 0, 2, 0, 0);
   document.documentElement.classList.add("paper");
   readColours();
-  drawScene(context, [width, height], viewOf(box, [width, height], 0.6), { levels, marks, news: newsOf(ordinal, levels) });
+  while (!drawScene(context, [width, height], viewOf(box, [width, height], 0.6), { levels, marks, news: newsOf(ordinal, levels) }).isWhole);
   document.documentElement.classList.remove("paper");
   readColours();
   return Object.assign(paper, { className: "paper", ariaLabel: levelTitle(ordinal) });

@@ -26,7 +26,7 @@ const draw = maker((name) => document.createElementNS("http://www.w3.org/2000/sv
 const icon = (name) => draw("svg", { class: "icon", "aria-hidden": "true" }, draw("use", { href: `icons.svg#${name}` }));
 
 // What is asked for, what was answered, and what is wrong.
-const state = { from: null, to: null, profile: null, turn: 0, answer: null, faults: [], silent: null, isLoading: false, isBegun: false, isRenewing: false, isOld: null, waiting: null,
+const state = { from: null, to: null, profile: null, turn: 0, answer: null, faults: [], silent: null, isLoading: false, isRenewing: false, isOld: null, waiting: null,
   shownAnswer: null, compared: { version: 0, time: Date.now() } };
 
 // ---- The words of the page around
@@ -147,16 +147,17 @@ function askAnew() {
   return findWay();
 }
 
+const anchorsOf = (places) => ({ get: (id) => (places.get(id)?.type === "occupant" ? places.get(id).node : undefined) });
+
 /** An answer with its verdict, of one version: what is closed is asked after the reply, and all anew where the version went on meanwhile. */
 async function askForProof(asked) {
-  const { byId } = await placesOf(), anchors = { get: (id) => (byId.get(id)?.type === "occupant" ? byId.get(id).node : undefined) };
   for (let tries = 0; tries < TRIES; tries += 1) {
     performance.mark("way asked");
     const reply = await ask("/v1/route", { ...asked, certificate: "yes" });
     performance.mark("way answered");
-    const [{ table, parts }, closures, isSame] = await Promise.all([tableFor(asked.profile, reply), ask("/v1/closures", {}, "closures"), isSiteOf(reply.version)]);
+    const [{ table, parts }, closures, isSame, { byId }] = await Promise.all([tableFor(asked.profile, reply), ask("/v1/closures", {}, "closures"), isSiteOf(reply.version), placesOf()]);
     if (closures.version !== reply.version || isSame === null) continue;
-    return ready({ asked, reply, closures, table, line: isSame ? judgeReply(asked, reply, closures, table, parts, anchors) : "fails table", time: Date.now() });
+    return ready({ asked, reply, closures, table, line: isSame ? judgeReply(asked, reply, closures, table, parts, anchorsOf(byId)) : "fails table", time: Date.now() });
   }
   throw new Trouble("changes");
 }
@@ -183,7 +184,7 @@ async function findWay(before = null) {
   if (!asked.from || !asked.to) return showAnswer(null);
   if (!before) showAnswer({ hint: "looking" });
   $("answer").setAttribute("aria-busy", "true");
-  const answer = await askForProof(asked).catch((trouble) => ({ trouble }));
+  const [answer] = await Promise.all([askForProof(asked).catch((trouble) => ({ trouble })), state.names]);
   if (turn !== state.turn) return;
   const isSilent = answer.trouble?.key === "silent";
   if (isSilent || answer.trouble?.key === "version_ahead") state.waiting = asked;
@@ -204,7 +205,7 @@ async function showKept(asked, turn) {
   if (!told || ["from", "to", "profile"].some((key) => told.asked[key] !== asked[key])) return false;
   try {
     const { byId } = await placesOf(), { table, parts } = await tableFor(asked.profile, told.reply);
-    const answer = await ready({ ...told, table, line: judgeReply(asked, told.reply, told.closures, table, parts, { get: (id) => byId.get(id)?.node }) });
+    const answer = await ready({ ...told, table, line: judgeReply(asked, told.reply, told.closures, table, parts, anchorsOf(byId)) });
     if (turn !== state.turn || answer.line !== "proved") return false;
     state.isOld = told.time;
     server.closures = told.closures;
@@ -383,7 +384,8 @@ async function poll() {
   if (isOther || isFailed || Date.now() - state.compared.time > RARELY) await takeNewSite();
   if (!isSame) await drawClosures();
   if (state.waiting || (state.isOld && state.from && state.to)) return findWay();
-  if (isOther && state.isBegun && state.from && state.to) await findWay(state.answer ?? { reply: {} });
+  const { reply, trouble } = state.shownAnswer ?? {}, isLate = reply ? reply.version !== told.version : trouble;
+  if (isOther && isLate && state.from && state.to) await findWay(state.answer ?? { reply: {} });
 }
 
 /** Asks now, and again after a while: soon where something is to come back. */
@@ -418,12 +420,13 @@ async function start() {
     state.isLoading = false;
     tellLive();
   }
-  const names = indexPlaces().then(() => { for (const key of ["from", "to"]) $(key).value = titleHere(state[key]); }, note);
-  await listen();
-  await names;
-  state.isBegun = true;
-  if (state.from || state.to) await askAnew();
-  else if (state.silent) await openKept();
+  state.names = indexPlaces().then(() => { for (const key of ["from", "to"]) $(key).value = titleHere(state[key]); }, note);
+  if (state.from && state.to) nodesOf().catch(() => null);
+  if (state.from || state.to) await Promise.all([askAnew(), listen()]);
+  else await listen();
+  await state.names;
+  if (state.from || state.to) return;
+  if (state.silent) await openKept();
 }
 
 /** Where nothing answers and nothing is asked for, the last way that was kept. */

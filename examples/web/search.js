@@ -8,26 +8,28 @@ const ORDER = ["occupant", "amenity", "unit", "anchor", "opening"];
 let all = [], byId = new Map();
 
 export const fold = (text) => text.normalize("NFD").replace(/\p{M}/gu, "").replaceAll("ß", "ss").toLowerCase();
-export const titleOfPlace = (it) => label(it.name, site.language)?.text ?? it.guest ?? upper(noun(it));
+export const titleOfPlace = (it) => (it.title ??= label(it.name, site.language)?.text ?? it.guest ?? upper(noun(it)));
 export const placeAt = (id) => byId.get(id);
 export const titleAt = (id) => (byId.has(id) ? titleOfPlace(byId.get(id)) : "");
 
 /** Makes what is searched, in the language that is spoken now. Who is in a room, or at an anchor, stands for it, unless it has another name. */
 export async function indexPlaces() {
-  const told = await placesOf(), guests = new Map(), room = ({ level, unit }) => `${level} ${unit}`, nameOf = (it) => label(it.name, site.language)?.text;
+  const told = await placesOf(), atAnchor = new Map(), inRoom = new Map(), room = ({ level, unit }) => level * 2 ** 20 + unit;
+  const nameOf = (it) => label(it.name, site.language)?.text, push = (map, key, name) => (map.has(key) ? map.get(key).push(name) : map.set(key, [name]));
   byId = told.byId;
-  for (const it of told.all) if (it.type === "occupant") for (const host of [it.node, room(it)]) guests.set(host, [...(guests.get(host) ?? []), nameOf(it) ?? upper(noun(it))]);
-  all = told.all.filter((it) => {
-    const isHall = it.type === "unit" && (ALONG.has(it.category) || isPassage(it)), its = isHall ? null : guests.get(it.type === "anchor" ? it.id : it.type === "unit" ? room(it) : null);
-    it.guest = its?.join(", ") ?? null;
-    return !its || (it.name && !its.includes(nameOf(it)));
-  });
-  for (const it of all) {
-    it.rank = ORDER.indexOf(it.type) - (it.name ? 2.5 : 0) + (ALONG.has(it.category) && !it.name ? 3 : 0);
-    it.title = titleOfPlace(it);
-    it.found = null;
+  for (const it of told.all) if (it.type === "occupant") {
+    push(atAnchor, it.node, nameOf(it) ?? upper(noun(it)));
+    push(inRoom, room(it), nameOf(it) ?? upper(noun(it)));
   }
-  all.sort((one, other) => one.rank - other.rank);
+  const ranked = new Map();
+  for (const it of told.all) {
+    const isHall = it.type === "unit" && (ALONG.has(it.category) || isPassage(it)), its = it.type === "anchor" ? atAnchor.get(it.id) : it.type === "unit" && !isHall ? inRoom.get(room(it)) : null;
+    [it.guest, it.title, it.found] = [its?.join(", ") ?? null, null, null];
+    if (its && (!it.name || its.includes(nameOf(it)))) continue;
+    it.rank = ORDER.indexOf(it.type) - (it.name ? 2.5 : 0) + (ALONG.has(it.category) && !it.name ? 3 : 0);
+    push(ranked, it.rank, it);
+  }
+  all = [...ranked].sort(([one], [other]) => one - other).flatMap(([, places]) => places);
   (self.requestIdleCallback ?? setTimeout)(() => fillWords());
 }
 
@@ -50,7 +52,7 @@ export function isNear(word, other) {
 /** The likeliest places for a text. Where none has all its words as they are, one mistake in each word of four letters or more is passed over. */
 export function search(text) {
   fillWords();
-  const words = fold(text).split(/\s+/).filter(Boolean), starts = (it) => (words.length && fold(it.title).startsWith(words[0]) ? 0 : 1);
+  const words = fold(text).split(/\s+/).filter(Boolean), starts = (it) => (words.length && fold(titleOfPlace(it)).startsWith(words[0]) ? 0 : 1);
   const exact = all.filter(({ found }) => words.every((word) => found.includes(word)));
   const near = exact.length ? exact : all.filter(({ found }) => { const parts = found.split(" "); return words.every((word) => found.includes(word) || (word.length > 3 && parts.some((part) => isNear(word, part)))); });
   return words.length ? [...near].sort((one, other) => starts(one) - starts(other) || one.rank - other.rank) : near;
@@ -58,14 +60,14 @@ export function search(text) {
 
 /** What tells a place of a list from others: its level, and where others there have the same name on it, what with a name is nearest. */
 export function detailsOf(rows) {
-  const same = new Map();
-  for (const it of rows) same.set(`${it.title} ${it.level}`, (same.get(`${it.title} ${it.level}`) ?? 0) + 1);
+  const same = new Map(), name = (it) => titleOfPlace(it);
+  for (const it of rows) same.set(`${name(it)} ${it.level}`, (same.get(`${name(it)} ${it.level}`) ?? 0) + 1);
   return rows.map((it) => {
     const level = upper(levelName(it.ordinal));
-    if (same.get(`${it.title} ${it.level}`) < 2) return level;
+    if (same.get(`${name(it)} ${it.level}`) < 2) return level;
     const off = ({ point: [x, y] }) => Math.hypot(x - it.point[0], y - it.point[1]);
-    const near = all.reduce((best, other) => (other.level === it.level && other.title !== it.title && (other.name || !best?.name) && !(best && Boolean(best.name) === Boolean(other.name) && off(best) <= off(other)) ? other : best), null);
-    return near ? `${level}, ${say("near", { name: near.title })}` : level;
+    const near = all.reduce((best, other) => (other.level === it.level && name(other) !== name(it) && (other.name || !best?.name) && !(best && Boolean(best.name) === Boolean(other.name) && off(best) <= off(other)) ? other : best), null);
+    return near ? `${level}, ${say("near", { name: name(near) })}` : level;
   });
 }
 
@@ -84,7 +86,7 @@ export function listenToField(key, { make, icon, chosen, choose }) {
     const text = input.value === titleAt(chosen()) ? "" : input.value, found = search(text), note = (words) => make("li", { role: "option", "aria-disabled": "true" }, words);
     rows = found.slice(0, LISTED);
     const details = detailsOf(rows);
-    const option = (it, k) => make("li", { role: "option", id: `${key}-${k}` }, icon(iconOf(it)), make("span", { lang: label(it.name, site.language)?.lang ?? null }, it.title), make("small", {}, details[k]));
+    const option = (it, k) => make("li", { role: "option", id: `${key}-${k}` }, icon(iconOf(it)), make("span", { lang: label(it.name, site.language)?.lang ?? null }, titleOfPlace(it)), make("small", {}, details[k]));
     const notes = !all.length ? [note(say("loading.places"))] : !rows.length ? [note(say("no.place"))] : found.length > LISTED ? [note(say("more.places", { n: LISTED }))] : [];
     options.replaceChildren(...rows.map(option), ...notes);
     open(true);
