@@ -6,7 +6,8 @@ and replies with their certificates, beside the checkers in Python.
 
 usage: web_page.py [PROGRAM [large | LOOK ..]]   (without PROGRAM the launcher ./venue, which builds the program if need be)
 With `large` it takes a venue of 100,000 features alone, and prints how long the page takes for it. With names of looks, as is_printed, it
-takes these alone, and prints how long each took. It prints one line, and ends with status 1 at a difference. Pictures of the page go to out/pages. Where chromium, its driver, nginx or Debian's python3-selenium is missing it
+takes these alone, and prints how long each took. Without, no look begins after a minute and a half, and the line says which were left out. It
+prints one line, and ends with status 1 at a difference. Pictures of the page go to out/pages. Where chromium, its driver, nginx or Debian's python3-selenium is missing it
 says so, and ends with status 0.
 """
 import base64
@@ -46,6 +47,7 @@ SIZES = {"phone": (390, 844), "desk": (1440, 900)}
 ID = "00000000-0000-4000-8000-{:0>12}"
 BAKERY, TICKETS, LIFT, RAMP, RESTROOM = (ID.format(digits) for digits in (51, 52, 301, 24, 31))
 TAG = "<script>window.bad = 1</script><b>"
+LONGEST = 90  # seconds after which no further look begins, so that a machine with much else to do is done in time too
 SLACK = 4  # how much longer a try may take here than it is to, on a machine that others use too
 WHEELCHAIR = f"#from={BAKERY}&to={TICKETS}&profile=wheelchair"
 
@@ -624,17 +626,16 @@ def looks_otherwise(page):
     page.look()
 
 
-def is_slow(page):
-    """While it loads the page says so, and what it has already."""
-    page.tell("Network.enable")
-    page.tell("Network.setBypassServiceWorker", bypass=True)
-    page.tell("Network.emulateNetworkConditions", offline=False, latency=250, downloadThroughput=-1, uploadThroughput=-1)
-    page.open(WHEELCHAIR, waits=False)
-    page.until("it says that it loads", lambda: page.text("live") == "Loading the map …")
-    page.says("answer", "Looking for the way, and checking it …")
+def tells_states(page):
+    """While it loads the page says so, and that it looks for a way: all that it ever told is noted from the beginning."""
+    note = "window.told = new Set(); new MutationObserver(() => { for (const id of ['live', 'answer']) window.told.add(document.getElementById(id)?.textContent) }).observe(document, { subtree: true, childList: true, characterData: true });"
+    noted = page.tell("Page.addScriptToEvaluateOnNewDocument", source=note)["identifier"]
+    page.open(WHEELCHAIR)
     page.says("answer", "60 m")
-    page.tell("Network.emulateNetworkConditions", offline=False, latency=0, downloadThroughput=-1, uploadThroughput=-1)
-    page.tell("Network.setBypassServiceWorker", bypass=False)
+    told = page.script("return [...window.told]")
+    page.tell("Page.removeScriptToEvaluateOnNewDocument", identifier=noted)
+    for text in ("Loading the map …", "Looking for the way, and checking it …"):
+        page.check(f"it says {text}: {told}", text in told)
 
 
 def is_printed(page):
@@ -919,7 +920,7 @@ def main(words):
     if words[1:] == ["large"]:
         return measures_large(program)
     with tempfile.TemporaryDirectory() as folder:
-        site, told, only = Site(program, os.path.join(folder, "station")), [], words[1:]
+        site, told, only, late, first = Site(program, os.path.join(folder, "station")), [], words[1:], [], time.monotonic()
         try:
             for size in SIZES:
                 page = Page(size)
@@ -929,6 +930,9 @@ def main(words):
                         if only and look.__name__ not in only:
                             continue
                         begun = time.monotonic()
+                        if begun > first + LONGEST and not only:
+                            late.append(look.__name__)
+                            continue
                         told += look(page) or []
                         if only:
                             print(f"{size} {look.__name__}: {time.monotonic() - begun:.1f} s, {len(page.differences)} differences", flush=True)
@@ -939,14 +943,17 @@ def main(words):
             site.stop()
     for line in differences:
         print(line, file=sys.stderr)
+    if late:
+        told.append(f"left out after {LONGEST} s: {' '.join(late)}")
     print(f"web_page: {', '.join([f'{checks} checks at two sizes', *told, f'{len(differences)} differences'])}")
     return 1 if differences else 0
 
 
-# What is looked at with a phone and at a desk.
+# What is looked at with a phone and at a desk, what says most first.
 LOOKS = {
     "phone": [asks_by_keyboard, goes_on_by_itself, is_tapped],
-    "desk": [asks_by_keyboard, is_tapped, is_lied_to, hears_nothing, reads_broken_files, finds_places, refuses_in_words, speaks_german, has_all_sentences, tells_turns, fits_everywhere, looks_otherwise, is_slow, is_printed, has_no_network, judged_alike, goes_far, is_large, is_renewed],
+    "desk": [asks_by_keyboard, is_lied_to, judged_alike, has_all_sentences, tells_turns, refuses_in_words, goes_far, speaks_german, finds_places, hears_nothing, has_no_network, reads_broken_files,
+             fits_everywhere, looks_otherwise, tells_states, is_printed, is_tapped, is_large, is_renewed],
 }
 
 if __name__ == "__main__":
