@@ -159,7 +159,7 @@ export function drawScene(context, [width, height], view, { levels, marks, news 
   }
   frame.grain = 1;
   const reached = news.reached.filter((it) => isSeen(it.box, 1)), doors = levels.flatMap(({ features }) => features.filter((it) => it.type === "opening" && isSeen(it.box, 3)));
-  for (const it of reached) shape(it, "reach");
+  for (const it of reached) pixels(it.box) < 14 ? box(it, "reach-line") : shape(it, "reach");
   for (const it of news.closed) if (it.rings) shape(it, "shut");
   [context.lineJoin, context.lineCap] = ["round", "round"];
   strokes(doors.map((it) => it.line), colours.door, Math.min(5, 500 * view.scale));
