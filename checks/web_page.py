@@ -704,7 +704,7 @@ def goes_far(page):
         finally:
             page.site.stop()
             page.site = station
-    return [f"a way over fifty levels in {times['way told'] - times['way asked']} ms"]
+    return [f"a way over fifty levels in {times['way told'] - times['way asked']} ms, {times['way told']} ms since the page was opened"]
 
 
 def climbs(page, base):
