@@ -138,6 +138,7 @@ export function drawLevels(make, icon, show) {
 /** `tells` is what stands beside the plan of a level, `tapped` is called with the feature that is tapped, or null. */
 export function listenToMap(tells, tapped) {
   newsOf = tells;
+  readColours();
   const fingers = new Map(), keys = { ArrowLeft: [-60, 0], ArrowRight: [60, 0], ArrowUp: [0, -60], ArrowDown: [0, 60], "+": "in", "=": "in", "-": "out", 0: "fit" };
   const at = ({ clientX, clientY }) => { const box = $("view").getBoundingClientRect(); return [clientX - box.left, clientY - box.top]; };
   const spread = ([[a, b], [c, d] = [a, b]]) => ({ x: (a + c) / 2, y: (b + d) / 2, apart: Math.hypot(a - c, b - d) });

@@ -413,7 +413,7 @@ async function start() {
     readAddress();
     tellPage(spoken());
     fit();
-    await Promise.all([readIcons(), show(ordinals().sort((a, b) => Math.abs(a) - Math.abs(b) || b - a)[0])]);
+    await Promise.all([readIcons().then(drawAnew), show(ordinals().sort((a, b) => Math.abs(a) - Math.abs(b) || b - a)[0])]);
     performance.mark("first map");
     if (site.left) state.faults.push(say("left.out", { n: site.left }));
   } finally {
