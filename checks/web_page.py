@@ -275,7 +275,7 @@ class Page:
 
     def picture(self, name):
         os.makedirs(PICTURES, exist_ok=True)
-        time.sleep(0.3)
+        time.sleep(0.1)
         self.driver.save_screenshot(os.path.join(PICTURES, f"{name}-{self.name}.png"))
 
     def quit(self):
@@ -690,6 +690,9 @@ def is_renewed(page):
     page.check("and nothing is told of it any more", not page.text("trouble") and "ATM" in page.type("from", "atm"))
     page.open(f"#from={ID.format(39)}&to={TICKETS}&profile=wheelchair")
     page.says("answer", "Start at ATM.", "Checked: no shorter way without steps")
+    page.site.venue = "station"
+    page.site.post("/v1/publish", {"folder": "station"})
+    page.site.write(page.site.address)
 
 
 def goes_far(page):
@@ -952,8 +955,8 @@ def main(words):
 # What is looked at with a phone and at a desk, what says most first.
 LOOKS = {
     "phone": [asks_by_keyboard, goes_on_by_itself, is_tapped],
-    "desk": [asks_by_keyboard, is_lied_to, judged_alike, has_all_sentences, tells_turns, refuses_in_words, goes_far, speaks_german, finds_places, hears_nothing, has_no_network, reads_broken_files,
-             fits_everywhere, looks_otherwise, tells_states, is_printed, is_tapped, is_large, is_renewed],
+    "desk": [asks_by_keyboard, is_lied_to, judged_alike, has_all_sentences, tells_turns, refuses_in_words, goes_far, speaks_german, finds_places, hears_nothing, is_renewed, has_no_network,
+             is_printed, reads_broken_files, fits_everywhere, looks_otherwise, tells_states, is_tapped, is_large],
 }
 
 if __name__ == "__main__":
