@@ -1,10 +1,11 @@
 #!/usr/bin/env python3
 """Asks `venue session` for routes over the example station with their certificates, before and after closures, and has examples/route_reply.py
-judge each reply: it is `proved`, and with one number or identifier exchanged it isn't.
+judge each reply, over the table of links and over the same in parts: it is `proved`, and with one number or identifier exchanged it isn't.
 
 usage: route_replies.py [PROGRAM]   (without PROGRAM the launcher ./venue, which builds the program if need be)
 It prints one line, and ends with status 1 at a difference.
 """
+import glob
 import json
 import os
 import random
@@ -63,11 +64,18 @@ def main():
     with tempfile.TemporaryDirectory() as folder:
         files = [os.path.join(folder, name) for name in ("reply.json", "links.txt", "closures.json")]
 
+        words = [sys.executable, os.path.join(EXAMPLES, "web", "site.py"), EXAMPLES, "station", os.path.join(folder, "site")]
+        subprocess.run(words, check=True, stdout=subprocess.DEVNULL, env=os.environ | {"VENUE": os.path.abspath(program[0])})
+        parts = glob.glob(os.path.join(folder, "site", "data", "*", "links"))[0]
+
         def judge(reply, closures, table):
+            """The two verdicts, or where they are the same, that one."""
             for path, text in zip(files, (json.dumps(reply), table, closures)):
                 with open(path, "w", encoding="utf-8") as file:
                     file.write(text)
-            return subprocess.run(CHECKER + files + [os.path.join(EXAMPLES, "station", "occupant.geojson")], capture_output=True, text=True).stdout
+            tables = [files[1], os.path.join(parts, reply["profile"])]
+            said = [subprocess.run(CHECKER + [files[0], it, files[2], os.path.join(EXAMPLES, "station", "occupant.geojson")], capture_output=True, text=True).stdout for it in tables]
+            return said[0] if len({it.startswith("proved") for it in said}) == 1 else " and ".join(said)
 
         for profile in ("wheelchair", "walk"):
             table = subprocess.run(program + ["links", EXAMPLES, "station", profile], capture_output=True, text=True).stdout

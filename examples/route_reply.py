@@ -2,11 +2,14 @@
 """Checks the body of a route's reply, asked for with certificate=yes, from docs/FORMATS.md alone. It shares no code with the program.
 
 usage: route_reply.py REPLY LINKS CLOSURES [OCCUPANTS]
-REPLY has the body; LINKS what `venue links` prints for the profile that the reply names, of the folder that was published last; CLOSURES
-the body of GET /v1/closures at the same version; OCCUPANTS is the occupant.geojson of that folder, needed where an end is an occupant.
+REPLY has the body; LINKS what `venue links` prints for the profile that the reply names, of the folder that was published last, or the
+profile's folder of that table in parts, of which only the parts are read that the reply needs; CLOSURES the body of GET /v1/closures at
+the same version; OCCUPANTS is the occupant.geojson of that folder, needed where an end is an occupant.
 It prints `proved`, status 0, or `fails` and what doesn't hold, status 1. The `kind` of a step stands in no table and isn't checked.
 """
+import itertools
 import json
+import os
 import re
 import sys
 
@@ -28,15 +31,62 @@ def read(path):
         return file.read()
 
 
-def open_links(table, closed):
-    """The nodes of a table, and its links as (from, to, cost, via), less those by or between what is closed."""
+def links_of(table):
+    """The nodes of a table, and its links as (from, to, cost, via)."""
     lines = table.splitlines()
     need(lines[:1] == ["imdf-links 1"] and lines[-1] == "end", "table")
     nodes = [line[5:] for line in lines if re.fullmatch("node " + IDENTIFIER, line)]
     rows = [LINK.fullmatch(line) for line in lines[1 + len(nodes):-1]]
     need(all(rows), "table")
-    links = [(nodes[int(a)], nodes[int(b)], int(cost), via) for a, b, cost, via in (row.groups() for row in rows)]
-    return set(nodes), [link for link in links if not closed & {link[0], link[1], link[3]}]
+    return set(nodes), [(nodes[int(a)], nodes[int(b)], int(cost), via) for a, b, cost, via in (row.groups() for row in rows)]
+
+
+def named_of(reply):
+    """The identifiers that a reply names as nodes. A node that it doesn't list has the potential `cost` and isn't reached, so a link can break
+    the proof only if it starts or ends at one of these."""
+    yield from (reply["from"], reply.get("start"))
+    yield from itertools.chain(reply.get("reached", []), (row["to"] for row in reply.get("steps", [])), (row["node"] for row in reply.get("potentials", [])))
+
+
+def links_of_parts(folder, reply):
+    """All nodes of a table in parts, and the links of the parts of the nodes that the reply names, and between parts."""
+    first, *lines, last = read(os.path.join(folder, "..", "parts.txt")).splitlines()
+    mark = re.fullmatch("imdf-parts 1 ([0-9a-f]{16})", first)
+    need(mark and last == "end" and all(re.fullmatch("part|node " + IDENTIFIER, line) for line in lines), "parts")
+    nodes, part_of, part = [], {}, -1
+    for line in lines:
+        part += line == "part"
+        if line != "part":
+            need(part >= 0 and line[5:] not in part_of, "parts")
+            nodes.append(line[5:])
+            part_of[line[5:]] = part
+    links = []
+    for name in ["between", *sorted({part_of[node] for node in named_of(reply) if node in part_of})]:
+        for a, b, cost, via in links_of_part(read(os.path.join(folder, f"{name}.txt")), f"imdf-part 1 {mark[1]} {name}"):
+            ends = {part_of[nodes[a]], part_of[nodes[b]]}
+            need(len(ends) == 2 if name == "between" else ends == {name}, f"part {name}")
+            links.append((nodes[a], nodes[b], cost, via))
+    return set(nodes), links
+
+
+def links_of_part(text, wanted):
+    first, *lines, last = text.splitlines()
+    need(first == wanted and last == "end", wanted)
+    lines = iter(lines)
+    for line in lines:
+        word, *words = line.split(" ")
+        if word == "link":
+            need(LINK.fullmatch(line), line)
+            yield int(words[0]), int(words[1]), int(words[2]), words[3]
+            continue
+        need(word == "room" and re.fullmatch(IDENTIFIER, words[0]) and len(set(words[1:])) == len(words) - 1 > 1, line)
+        via, members = words[0], [int(number) for number in words[1:]]
+        for k, member in enumerate(members[:-1]):
+            word, *costs = next(lines, "").split(" ")
+            need(word == "costs" and len(costs) == len(members) - 1 - k, line)
+            for other, cost in zip(members[k + 1:], map(int, costs)):
+                yield member, other, cost, via
+                yield other, member, cost, via
 
 
 def node_of(place, nodes, anchors):
@@ -70,10 +120,12 @@ def check_none(reply, links, start, end):
         need(a not in reached or b in reached, f"link {a} {b} {via}")
 
 
-def check(reply, table, closures, occupants):
+def check(reply, path, closures, occupants):
     need(reply["version"] == closures["version"], "version")
     anchors = {place["id"]: place["properties"]["anchor_id"] for place in occupants}
-    nodes, links = open_links(table, set(closures["closures"]))
+    nodes, links = links_of_parts(path, reply) if os.path.isdir(path) else links_of(read(path))
+    closed = set(closures["closures"])
+    links = [link for link in links if not closed & {link[0], link[1], link[3]}]
     start, end = (node_of(reply[key], nodes, anchors) for key in ("from", "to"))
     need(reply["result"] in ("route", "none"), "result")
     (check_route if reply["result"] == "route" else check_none)(reply, links, start, end)
@@ -84,7 +136,7 @@ def main(words):
         return "fails words"
     try:
         occupants = json.loads(read(words[3]))["features"] if len(words) == 4 else []
-        check(json.loads(read(words[0])), read(words[1]), json.loads(read(words[2])), occupants)
+        check(json.loads(read(words[0])), words[1], json.loads(read(words[2])), occupants)
     except Fails as fails:
         return f"fails {fails}"
     except (OSError, ValueError, KeyError, TypeError, IndexError, AttributeError) as error:

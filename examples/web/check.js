@@ -1,23 +1,22 @@
-// Judges answers over a table of links, from docs/FORMATS.md alone: as texts, as `venue verify` does, and as replies of GET /v1/route
-// with their certificates. It asks nothing of anybody, and touches nothing of the page.
+// Judges replies of GET /v1/route with their certificates over a table of links in parts, from docs/FORMATS.md alone. It asks nothing of anybody, and
+// touches nothing of the page.
 
-const LINKS_LIMIT = 268_435_456, ANSWER_LIMIT = 33_554_432;
-const MOST_NODES = 400_000, MOST_LINK = 6_700_000, MOST_COST = 4_398_046_511_103, MOST_STEP = 4_294_967_295;
-const NUMBER = "(0|[1-9][0-9]{0,18})", IDENTIFIER = "([0-9a-f]{8}(?:-[0-9a-f]{4}){3}-[0-9a-f]{12})";
+const PART_LIMIT = 67_108_864;
+export const MOST_NODES = 400_000, MOST_LINK = 6_700_000;
+export const NUMBER = "(0|[1-9][0-9]{0,18})", IDENTIFIER = "([0-9a-f]{8}(?:-[0-9a-f]{4}){3}-[0-9a-f]{12})";
 
-const line = (form) => new RegExp(`^${form}$`);
-const NODE = line(`node ${IDENTIFIER}`), LINK = line(`link ${NUMBER} ${NUMBER} ${NUMBER} ${IDENTIFIER}`);
-const FROM = line(`from ${NUMBER}`), TO = line(`to ${NUMBER}`), STEP = line(`step ${NUMBER}`);
-const ROUTE = line(`route ${NUMBER}`), AT = line(`at ${NUMBER} ${NUMBER}`), REACH = line(`reach ${NUMBER}`);
+export const line = (form) => new RegExp(`^${form}$`);
+export const NODE = line(`node ${IDENTIFIER}`), LINK = line(`link ${NUMBER} ${NUMBER} ${NUMBER} ${IDENTIFIER}`);
+const PARTS = line("imdf-parts 1 [0-9a-f]{16}"), ROOM = line(`room ${IDENTIFIER}((?: (?:0|[1-9][0-9]{0,5})){2,})`), COSTS = line("costs((?: (?:0|[1-9][0-9]{0,6}))+)");
 
 /** What stops a text or fails of an answer, as the line that says so. */
 class Stop extends Error {}
-function need(holds, clause) {
+export function need(holds, clause) {
   if (!holds) throw new Stop(`fails ${clause}`);
 }
 
 /** The lines of a text that are not read yet; a text that isn't there is null. */
-class Lines {
+export class Lines {
   constructor(name, text, limit) {
     if (text === null) throw new Stop(`missing ${name}`);
     if (text.length > limit) throw new Stop(`large ${name}`);
@@ -52,41 +51,7 @@ class Lines {
   }
 }
 
-/** The identifiers of the nodes of a table, and its links as [from, to, cost, via], `from` and `to` being numbers of nodes. */
-function read(text) {
-  const lines = new Lines("links.txt", text, LINKS_LIMIT);
-  lines.need(/^imdf-links 1$/);
-  const nodes = [];
-  for (let words; nodes.length < MOST_NODES && (words = lines.take(NODE)); ) nodes.push(words[0]);
-  const links = lines.all(LINK, (from, to, cost) => from < nodes.length && to < nodes.length && cost <= MOST_LINK);
-  lines.end();
-  return { nodes, links };
-}
-
-/** That the steps, numbers of links, are a walk of this cost, and that along no open link the potential rises by more than it costs. */
-function judgeRoute({ links }, isOpen, { start, end, cost, steps, listed }) {
-  let at = start, total = 0;
-  steps.forEach((step, index) => {
-    need(step in links && links[step][0] === at, `step ${index + 1}`);
-    at = links[step][1];
-    total += links[step][2];
-  });
-  const potential = (node) => listed.get(node) ?? cost;
-  need(at === end, "end");
-  need(total === cost, "sum");
-  need(potential(start) === 0, "start");
-  need(potential(end) === cost, "finish");
-  links.forEach((link, j) => need(!isOpen(link) || potential(link[1]) <= potential(link[0]) + link[2], `link ${j}`));
-}
-
-/** That the start is among the listed nodes, the end isn't, and no open link leads out of them. */
-function judgeNone({ links }, isOpen, { start, end, listed }) {
-  need(listed.has(start), "start");
-  need(!listed.has(end), "finish");
-  links.forEach((link, j) => need(!isOpen(link) || !listed.has(link[0]) || listed.has(link[1]), `link ${j}`));
-}
-
-function told(judge) {
+export function told(judge) {
   try {
     judge();
     return "proved";
@@ -96,51 +61,129 @@ function told(judge) {
   }
 }
 
-/** A table read from its text, or { stop } with the line that says what is wrong with it. */
-export function readTable(text) {
-  let table;
-  const stop = told(() => (table = read(text)));
-  return table ?? { stop };
+/** What is read, or { stop } with the line that says what is wrong with it. */
+function orStop(reads) {
+  let found;
+  const stop = told(() => (found = reads()));
+  return found ?? { stop };
 }
 
-/** The line that `venue verify` prints of the two texts of a base, of which each may be null. */
-export function judgeTexts(links, answer) {
-  return told(() => {
-    const table = read(links), count = table.nodes.length, lines = new Lines("answer.txt", answer, ANSWER_LIMIT);
-    if (count === 0) lines.fault();
-    lines.need(/^imdf-answer 1$/);
-    const [[start], [end]] = [FROM, TO].map((form) => lines.need(form, (node) => node < count));
-    const route = lines.take(ROUTE, (cost) => cost <= MOST_COST);
-    if (!route) lines.need(/^none$/);
-    const steps = route ? lines.all(STEP, (step) => step <= MOST_STEP).flat() : [];
-    let last = -1;
-    const rises = (node, value = 0) => last < node && node < count && value <= MOST_COST && ((last = node), true);
-    const listed = new Map(lines.all(route ? AT : REACH, rises));
-    lines.end();
-    (route ? judgeRoute : judgeNone)(table, () => true, { start, end, cost: route?.[0], steps, listed });
-  });
+/** The nodes of a table in parts: the mark of the cut, the identifiers, from each to its number, and the part of each number. Or { stop }. */
+export const readNodes = (text) => orStop(() => {
+  const lines = new Lines("parts.txt", text, PART_LIMIT), nodes = [], partOf = [];
+  lines.need(PARTS);
+  const mark = lines.lines[0].slice(-16);
+  let parts = 0;
+  for (; lines.take(/^part$/); parts += 1) {
+    for (; nodes.length < MOST_NODES && NODE.test(lines.lines[lines.at]); lines.at += 1) {
+      nodes.push(lines.lines[lines.at].slice(5));
+      partOf.push(parts);
+    }
+  }
+  lines.end();
+  const numbers = new Map(nodes.map((id, number) => [id, number]));
+  if (numbers.size < nodes.length) throw new Stop("form parts.txt twice");
+  return { mark, nodes, numbers, partOf: Int32Array.from(partOf), parts };
+});
+
+/** A part of a profile's table: its blocks, each with its members and the cost between each two of them, and its other links. Or { stop }. `name` is
+    the part's number, or `between`. A link whose ends aren't both of this part, or between two, is none of the form. */
+export const readPart = (text, { mark, nodes, partOf }, name) => orStop(() => {
+  const lines = new Lines(`${name}.txt`, text, PART_LIMIT), rooms = [], links = [], isBetween = name === "between";
+  if (!lines.take(/^imdf-part 1 [0-9a-f]{16} (?:between|[0-9]+)$/)) lines.fault();
+  if (lines.lines[0] !== `imdf-part 1 ${mark} ${name}`) throw new Stop(`mark ${name}.txt`);
+  const list = (words) => Int32Array.from(words.trim().split(" "), Number);
+  const isHere = (node) => node < nodes.length && partOf[node] === name;
+  const fits = (from, to, cost) => from < nodes.length && to < nodes.length && cost <= MOST_LINK && (isBetween ? partOf[from] !== partOf[to] : isHere(from) && isHere(to));
+  for (;;) {
+    const room = isBetween ? null : lines.take(ROOM);
+    const link = room ? null : lines.take(LINK, fits);
+    if (link) links.push(link);
+    else if (room) {
+      const members = list(room[1]), costs = [];
+      if (new Set(members).size < members.length || !members.every(isHere)) lines.fault();
+      for (let rest = members.length - 1; rest > 0; rest -= 1) {
+        const row = list(lines.need(COSTS)[0]);
+        if (row.length !== rest || row.some((cost) => cost > MOST_LINK)) lines.fault();
+        costs.push(row);
+      }
+      rooms.push({ via: room[0], members, costs });
+    } else break;
+  }
+  lines.end();
+  return { name, rooms, links };
+});
+
+/** The parts in which a link can lie that starts or ends at a node that the reply names, beside that between the parts, which is always needed. */
+export function partsOf(reply, { numbers, partOf }) {
+  const list = (value) => (Array.isArray(value) ? value : []);
+  const named = [reply.start, reply.from, ...list(reply.steps).map((step) => step?.to), ...list(reply.potentials).map((mark) => mark?.node), ...list(reply.reached)];
+  return new Set(named.filter((id) => numbers.has(id)).map((id) => partOf[numbers.get(id)]));
 }
 
-/** `proved`, or what fails of a reply to what was asked, over the table less what is closed at the same version. `anchors` has the anchor of
-    each occupant. The kind of a step stands in no table and isn't judged. */
-export function judgeReply(asked, reply, closures, table, anchors) {
+/** Whether one of these parts has an open link with these ends, cost and via. */
+function hasLink(parts, isOpen, from, to, cost, via) {
+  if (!isOpen(from, to, via)) return false;
+  return parts.some(({ rooms, links }) => links.some(([a, b, c, by]) => a === from && b === to && c === cost && by === via) || rooms.some((room) => {
+    const ends = room.via === via ? [room.members.indexOf(from), room.members.indexOf(to)].sort((a, b) => a - b) : [-1, -1];
+    return ends[0] >= 0 && ends[0] < ends[1] && room.costs[ends[0]][ends[1] - ends[0] - 1] === cost;
+  }));
+}
+
+/** That no open link of these parts breaks what `holds` says of the values of its two ends and its cost. */
+function needLinks(parts, isOpen, isListed, valueOf, holds) {
+  for (const { name, rooms, links } of parts) {
+    for (const { via, members, costs } of rooms) {
+      if (!members.some(isListed)) continue;
+      const isIn = Array.from(members, (node) => isOpen(node, node, via)), values = Array.from(members, valueOf);
+      for (let i = 0; i < costs.length; i += 1) for (let k = 0, j = i + 1; isIn[i] && j < values.length; k += 1, j += 1) {
+        const cost = costs[i][k];
+        need(!isIn[j] || (holds(values[i], values[j], cost) && holds(values[j], values[i], cost)), `link of part ${name}`);
+      }
+    }
+    for (const [from, to, cost, via] of links) need(!isOpen(from, to, via) || holds(valueOf(from), valueOf(to), cost), `link of part ${name}`);
+  }
+}
+
+/** `proved`, or what fails of a reply to what was asked, over the table less what is closed at the same version. `parts` has by their names the parts
+    that partsOf tells and `between`, and `anchors` the anchor of each occupant. The kind of a step stands in no table and isn't judged.
+
+    Why these parts are enough: a node that the reply doesn't list has the potential `cost`, and isn't reached. So a link neither of whose ends is
+    listed rises by nothing, and leads out of nothing. Each other link lies in the part of its listed end, or else between two parts. */
+export function judgeReply(asked, reply, closures, table, parts, anchors) {
   return told(() => {
     const whole = (value) => Number.isSafeInteger(value) && value >= 0, list = (value) => (need(Array.isArray(value), "form"), value);
-    const { nodes, links } = table, numbers = new Map(nodes.map((id, number) => [id, number])), closed = new Set(list(closures.closures));
-    const isOpen = ([from, to, , via]) => !closed.has(via) && !closed.has(nodes[from]) && !closed.has(nodes[to]);
-    need(numbers.size === nodes.length, "table");
+    const { nodes, numbers, partOf } = table, closed = new Set(list(closures.closures)), shut = new Set([...closed].map((id) => numbers.get(id)));
+    const isOpen = (from, to, via) => !closed.has(via) && !shut.has(from) && !shut.has(to);
     need(whole(reply.version) && reply.version === closures.version, "version");
     need(["from", "to", "profile"].every((key) => reply[key] === asked[key]), "asked");
     const [start, end] = [asked.from, asked.to].map((place) => numbers.get(numbers.has(place) ? place : anchors.get(place)));
     need(start !== undefined && end !== undefined, "place");
-    if (reply.result === "none") return judgeNone(table, isOpen, { start, end, listed: new Map(list(reply.reached).map((id) => [numbers.get(id)])) });
-    need(reply.result === "route" && whole(reply.cost), "form");
+    const wanted = ["between", ...partsOf(reply, table)].map((name) => parts.get(name));
+    need(wanted.every(Boolean), "part");
+    if (reply.result === "none") {
+      const reached = new Set(list(reply.reached).map((id) => numbers.get(id)));
+      need(reached.has(start), "start");
+      need(!reached.has(end), "finish");
+      const isReached = (node) => reached.has(node);
+      return needLinks(wanted, isOpen, isReached, isReached, (from, to) => !from || to);
+    }
+    const { cost } = reply, marks = list(reply.potentials);
+    need(reply.result === "route" && whole(cost), "form");
     need(reply.start === nodes[start], "start");
-    const row = (...parts) => JSON.stringify(parts);
-    const rows = new Map(links.map((link, j) => [row(nodes[link[0]], nodes[link[1]], link[2], link[3]), isOpen(link) ? j : -1]));
-    const steps = list(reply.steps).map((step, i, all) => rows.get(row(i ? all[i - 1]?.to : reply.start, step?.to, step?.cost, step?.via)) ?? -1);
-    const marks = list(reply.potentials), listed = new Map(marks.map((mark) => [numbers.get(mark?.node) ?? row(mark?.node), mark?.value]));
-    need(listed.size === marks.length && marks.every((mark) => Number.isSafeInteger(mark?.value)), "potentials");
-    judgeRoute(table, isOpen, { start, end, cost: reply.cost, steps, listed });
+    let at = start, total = 0;
+    list(reply.steps).forEach((step, k) => {
+      const to = numbers.get(step?.to), of = [parts.get("between"), parts.get(partOf[at])];
+      need(to !== undefined && hasLink(of, isOpen, at, to, step.cost, step.via), `step ${k + 1}`);
+      at = to;
+      total += step.cost;
+    });
+    need(marks.every((mark) => Number.isSafeInteger(mark?.value)) && new Set(marks.map(({ node }) => node)).size === marks.length, "potentials");
+    const listed = new Map(marks.map(({ node, value }) => [numbers.get(node), value])), potential = (node) => listed.get(node) ?? cost;
+    need(at === end, "end");
+    need(total === cost, "sum");
+    need(potential(start) === 0, "start");
+    need(potential(end) === cost, "finish");
+    needLinks(wanted, isOpen, (node) => listed.has(node), potential, (from, to, length) => to <= from + length);
   });
 }

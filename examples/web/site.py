@@ -1,21 +1,38 @@
 #!/usr/bin/env python3
-"""Writes what nginx serves for the page: the venue's folder, the tables of links of all profiles, site.json, and nginx.conf itself.
+"""Writes what nginx serves for the page: the venue cut into levels, the tables of links of all profiles cut the same way, and nginx.conf.
 
 usage: site.py BASE FOLDER SITE [PORT [SERVER]]
 Without these two the page is at port 8080 and the server at 127.0.0.1:7070. The program is that of the variable VENUE, else the launcher
 ./venue. Run it again with each publication, with the folder that is published. Of BASE/venue.toml it takes what the page draws and says
-by, and never the keys of staff. Of a folder that is rejected it prints what `venue links` says, and writes nothing.
+by, and never the keys of staff. It prints what it wrote. What can't be served it says in words, of a folder that is rejected also what
+`venue links` prints, and then nothing is written.
 """
+import hashlib
 import json
 import os
+import re
+import shutil
 import subprocess
 import sys
 import tomllib
 
+from cut import BETWEEN, Cut, nodes_text
+
 HERE = os.path.dirname(os.path.abspath(__file__))
 PROGRAM = os.environ.get("VENUE") or os.path.join(HERE, "..", "..", "venue")
 PASSAGES = ["elevator", "escalator", "movingwalkway", "ramp", "stairs", "traversal"]
-FILES = ["manifest.json"] + [f"{name}.geojson" for name in ("amenity", "anchor", "level", "occupant", "opening", "relationship", "unit", "venue")]
+SOLID = {"opentobelow", "column", "brick", "concrete", "drywall", "glass", "wood", "structure", "vegetation"}
+MOST_PART = 67_108_864
+KEPT = 2  # sites of earlier publications that pages may still have open
+
+
+class Refused(Exception):
+    """Why no site is written, in words."""
+
+
+def read(path):
+    with open(path, "rb") as file:
+        return file.read()
 
 
 def write(path, data):
@@ -26,40 +43,236 @@ def write(path, data):
     os.replace(path + ".new", path)
 
 
-def settings(base, folder):
-    with open(os.path.join(base, "venue.toml"), "rb") as file:
-        told = tomllib.loads(file.read().decode("utf-8-sig"))
-    profiles = ["walk", "wheelchair"] + [profile["name"] for profile in told.get("profile", [])]
-    extras = {name: told.get(f"{name}_extra", 0) for name in PASSAGES}
-    return {"folder": folder, "kx": told["kx"], "ky": told["ky"], "profiles": profiles, "extras": extras}
+def compact(value):
+    return json.dumps(value, ensure_ascii=False, separators=(",", ":")).encode()
+
+
+def settings(base):
+    try:
+        told = tomllib.loads(read(os.path.join(base, "venue.toml")).decode("utf-8-sig"))
+        profiles = ["walk", "wheelchair"] + [profile["name"] for profile in told.get("profile", [])]
+        extras = {name: told.get(f"{name}_extra", 0) for name in PASSAGES}
+        return {"kx": told["kx"], "ky": told["ky"], "profiles": profiles, "extras": extras}
+    except (OSError, ValueError, KeyError, TypeError) as error:
+        raise Refused(f"the settings {base}/venue.toml can't be read: {error}") from error
+
+
+def identifier(text):
+    digits = re.sub(r"^(urn:uuid:|\{)|\}$|-", "", str(text).lower())
+    if not re.fullmatch("[0-9a-f]{32}", digits):
+        raise ValueError("no identifier")
+    return "-".join(digits[a:b] for a, b in ((0, 8), (8, 12), (12, 16), (16, 20), (20, 32)))
+
+
+def names(value):
+    """The texts of a name by language, or None."""
+    found = {tag: text for tag, text in (value or {}).items() if isinstance(text, str) and text.strip()} if isinstance(value, dict) else {}
+    return found or None
+
+
+class Venue:
+    """What is drawn and said of a folder: its levels with their features, each with its place among them, in centimetres from one corner."""
+
+    def __init__(self, folder, told):
+        self.folder, self.told, self.origin, self.left = folder, told, None, 0
+        self.levels, self.passages, self.features, self.node_of = [], [], {}, {}
+        for kind in ("venue", "level", "unit", "opening", "anchor", "amenity", "occupant", "relationship"):
+            for feature in self.file(kind + ".geojson").get("features", []):
+                try:
+                    getattr(self, kind)(identifier(feature["id"]), feature.get("geometry"), feature["properties"])
+                except (KeyError, ValueError, TypeError, IndexError, AttributeError):
+                    self.left += 1
+        self.language = str(self.file("manifest.json").get("language") or "en")
+        if not self.levels:
+            raise Refused(f"the folder {folder} has no level, so there is nothing to draw")
+
+    def file(self, name):
+        path = os.path.join(self.folder, name)
+        return json.loads(read(path).decode("utf-8-sig")) if os.path.exists(path) else {}
+
+    def at(self, position):
+        longitude, latitude = position[:2]
+        self.origin = self.origin or (longitude, latitude)
+        return round((longitude - self.origin[0]) * self.told["kx"]), round((self.origin[1] - latitude) * self.told["ky"])
+
+    def rings(self, geometry):
+        parts = [geometry["coordinates"]] if geometry["type"] == "Polygon" else geometry["coordinates"]
+        return [[value for position in ring for value in self.at(position)] for rings in parts for ring in rings]
+
+    def add(self, it, level, point, its, **more):
+        """Keeps a feature at its level, and where it stands there."""
+        it |= {"category": str(its.get("category") or it["type"]).split(".")[0], "point": point} | more
+        it |= {key: value for key, value in (("name", names(its.get("name"))), ("alt", names(its.get("alt_name")))) if value}
+        self.features[it["id"]] = level, len(self.levels[level]["features"])
+        self.levels[level]["features"].append(it)
+
+    def venue(self, _, geometry, its):
+        self.name = names(its.get("name"))
+
+    def level(self, id, geometry, its):
+        self.features[id] = len(self.levels), None
+        rings = self.rings(geometry)
+        self.levels.append({"id": id, "ordinal": round(its["ordinal"]), "name": names(its.get("name")), "bounds": box(rings), "rings": rings, "features": []})
+
+    def unit(self, id, geometry, its):
+        level, rings = self.features[identifier(its["level_id"])][0], self.rings(geometry)
+        a, b, c, d = box(rings)
+        display = its.get("display_point")
+        self.add({"id": id, "type": "unit"}, level, self.at(display["coordinates"]) if display else [(a + c) // 2, (b + d) // 2], its, rings=rings)
+        if self.get(id)["category"] not in SOLID:
+            self.node_of[id] = id
+
+    def get(self, id):
+        level, place = self.features[id]
+        return self.levels[level]["features"][place]
+
+    def opening(self, id, geometry, its):
+        line = [value for position in geometry["coordinates"] for value in self.at(position)]
+        point = [(line[0] + line[-2]) // 2, (line[1] + line[-1]) // 2]
+        self.add({"id": id, "type": "opening"}, self.features[identifier(its["level_id"])][0], point, its, line=line)
+        self.node_of[id] = id
+
+    def anchor(self, id, geometry, its):
+        level, unit = self.features[identifier(its["unit_id"])]
+        self.add({"id": id, "type": "anchor"}, level, self.at(geometry["coordinates"]), its, unit=unit)
+        self.node_of[id] = id
+
+    def amenity(self, id, geometry, its):
+        level, unit = self.features[identifier(its["unit_ids"][0])]
+        self.add({"id": id, "type": "amenity"}, level, self.at(geometry["coordinates"]), its, unit=unit)
+        self.node_of[id] = id
+
+    def occupant(self, id, _, its):
+        anchor = identifier(its["anchor_id"])
+        self.add({"id": id, "type": "occupant"}, self.features[anchor][0], self.get(anchor)["point"], its,
+                 unit=self.get(anchor)["unit"], anchor=self.features[anchor][1])
+        self.node_of[id] = anchor
+
+    def relationship(self, id, _, its):
+        ends = [identifier(end["id"]) for end in [its.get("origin"), *(its.get("intermediary") or []), its.get("destination")] if end]
+        levels = [self.features[end][0] for end in ends if end in self.features]
+        category = str(its.get("category")).split(".")[0]
+        self.passages.append({"id": id, "category": category, "ends": ends, "levels": levels} | ({"name": named} if (named := names(its.get("name"))) else {}))
+
+    def part_of(self):
+        """The level of each node."""
+        return {node: self.features[node][0] for place, node in self.node_of.items() if place == node}
+
+    def note_rooms(self, via, nodes):
+        """That these doors lead into a unit."""
+        if via not in self.features:
+            return
+        level, unit = self.features[via]
+        for node in nodes:
+            it = self.get(node)
+            if it["type"] == "opening" and self.features[node][0] == level and unit not in it.setdefault("rooms", []):
+                it["rooms"].append(unit)
+
+    def places(self):
+        """A row a place that can be searched for: identifier, type, category, level, point, name, other names, which feature of the level the unit is
+        that it is or is in, and of an occupant its node."""
+        rows = []
+        for level, its in enumerate(self.levels):
+            for place, it in enumerate(its["features"]):
+                if it["id"] in self.node_of and (it["type"] != "opening" or "name" in it):
+                    unit = place if it["type"] == "unit" else it.get("unit")
+                    rows.append([it["id"], it["type"], it["category"], level, *it["point"], it.get("name"), it.get("alt"), unit, self.node_of[it["id"]]])
+                    while rows[-1][-1] in (None, it["id"]):
+                        rows[-1].pop()
+        return rows
+
+
+def box(rings):
+    xs, ys = [x for ring in rings for x in ring[::2]], [y for ring in rings for y in ring[1::2]]
+    return [min(xs), min(ys), max(xs), max(ys)]
+
+
+def run(*words):
+    try:
+        return subprocess.Popen([PROGRAM, *words], stdout=subprocess.PIPE)
+    except OSError as error:
+        raise Refused(f"the program {PROGRAM} can't be run: {error}") from error
+
+
+def need_accepted(base, folder):
+    said = run("check", base, folder).communicate()[0]
+    if not said.startswith(b"accepted "):
+        sys.stderr.buffer.write(said)
+        raise Refused(f"the folder {os.path.join(base, folder)} is rejected, as `venue check {base} {folder}` tells")
+
+
+def cut_of(base, folder, profile, part_of, number_of):
+    """The parts of a profile's table, read line by line, since a whole one may have hundreds of megabytes."""
+    ran = run("links", base, folder, profile)
+    try:
+        return Cut(ran.stdout, part_of, number_of)
+    except (KeyError, ValueError, IndexError) as error:
+        raise Refused(f"the table of links of {profile} isn't that of the folder: {error}") from error
+    finally:
+        ran.stdout.read()
+        ran.stdout.close()
+        ran.wait()
+
+
+def files_of(base, folder, told):
+    """The files of one publication by name, and how many links and how large a part there are."""
+    need_accepted(base, folder)
+    venue = Venue(os.path.join(base, folder), told)
+    part_of, links, largest = venue.part_of(), 0, 0
+    _, number_of = nodes_text(part_of, len(venue.levels), "")
+    cuts = {profile: cut_of(base, folder, profile, part_of, number_of) for profile in told["profiles"]}
+    digest = hashlib.sha256()
+    ids = list(number_of)
+    for cut in cuts.values():
+        links += cut.links
+        for via, nodes in cut.members.items():
+            venue.note_rooms(via, {ids[number] for number in nodes})
+        for part in range(BETWEEN, len(venue.levels)):
+            digest.update(cut.text(part, ""))
+    levels = [{key: level[key] for key in ("id", "ordinal", "name", "bounds")} for level in venue.levels]
+    maps = {f"level/{k}.json": compact({"rings": level["rings"], "features": level["features"]}) for k, level in enumerate(venue.levels)}
+    maps |= {"passages.json": compact(venue.passages), "places.json": compact(venue.places())}
+    about = told | {"folder": folder, "name": getattr(venue, "name", None), "language": venue.language, "places": len(venue.node_of) , "left": venue.left, "levels": levels}
+    for data in [compact(about), *maps.values()]:
+        digest.update(data)
+    mark = digest.hexdigest()[:16]
+    found = {f"data/{mark}/{name}": data for name, data in maps.items()}
+    found[f"data/{mark}/links/parts.txt"] = nodes_text(part_of, len(venue.levels), mark)[0]
+    for profile, cut in cuts.items():
+        for part in range(BETWEEN, len(venue.levels)):
+            name, data = "between" if part == BETWEEN else part, cut.text(part, mark)
+            if len(data) > MOST_PART:
+                raise Refused(f"the links of {profile} at level {name} have {len(data)} bytes, more than the {MOST_PART} that the page reads of a level")
+            found[f"data/{mark}/links/{profile}/{name}.txt"] = data
+            largest = max(largest, len(data))
+    found["site.json"] = json.dumps(about | {"mark": mark}, ensure_ascii=False, indent=1).encode() + b"\n"
+    return found, links, largest
 
 
 def main(base, folder, site, port="8080", server="127.0.0.1:7070"):
-    site, told = os.path.abspath(site), settings(base, folder)
-    written = {"site.json": json.dumps(told, indent=1).encode() + b"\n"}
-    for profile in told["profiles"]:
-        ran = subprocess.run([PROGRAM, "links", base, folder, profile], stdout=subprocess.PIPE)
-        if ran.returncode:
-            sys.stderr.buffer.write(ran.stdout)
-            return 1
-        written[f"links/{profile}.txt"] = ran.stdout
-    for name in FILES:
-        if os.path.exists(path := os.path.join(base, folder, name)):
-            with open(path, "rb") as file:
-                written[f"venue/{name}"] = file.read()
-        elif os.path.exists(path := os.path.join(site, "venue", name)):
-            os.remove(path)
-    with open(os.path.join(HERE, "nginx.conf.in"), encoding="utf-8") as file:
-        conf = file.read()
+    site, told = os.path.abspath(site), settings(base)
+    written, links, largest = files_of(base, folder, told)
+    conf = read(os.path.join(HERE, "nginx.conf.in")).decode()
     words = {"SITE": site, "WEB": HERE, "PORT": port, "SERVER": server, "USER": "user root;" if os.geteuid() == 0 else ""}
     for word, text in words.items():
         conf = conf.replace(f"@{word}@", text)
-    for name, data in (written | {"nginx.conf": conf.encode()}).items():
+    # site.json comes last: until then a page that is open, or opened, has the files of before, whole.
+    for name, data in ({"nginx.conf": conf.encode()} | written).items():
         write(os.path.join(site, name), data)
-    print(f"site: {len(written)} files, for http://127.0.0.1:{port}/")
-    return 0
+    data = os.path.join(site, "data")
+    for old in sorted((entry for entry in os.scandir(data)), key=lambda entry: entry.stat().st_mtime)[:-1 - KEPT]:
+        shutil.rmtree(old.path)
+    about = json.loads(written["site.json"])
+    print(f"site: {len(about['levels'])} levels, {about['places']} places, {len(told['profiles'])} profiles with {links} links; {len(written) + 1} files of "
+          f"{sum(map(len, written.values()))} bytes, the largest part of a table {largest}; for http://127.0.0.1:{port}/")
+    if about["left"]:
+        print(f"site: {about['left']} features can't be drawn, since an identifier, a position or a reference isn't of its form")
 
 
-if not 4 <= len(sys.argv) <= 6:
-    sys.exit(__doc__)
-sys.exit(main(*sys.argv[1:]))
+if __name__ == "__main__":
+    if not 4 <= len(sys.argv) <= 6:
+        sys.exit(__doc__)
+    try:
+        main(*sys.argv[1:])
+    except Refused as refused:
+        sys.exit(f"site: {refused}; nothing is written")

@@ -1,0 +1,58 @@
+// German. Each noun has its gender before it: m, f, n, or p for a plural.
+const ARTICLES = { m: ["den ", "zum "], f: ["die ", "zur "], n: ["das ", "zum "], p: ["die ", "zu den "] };
+
+export default {
+  forms: (entry) => {
+    const noun = entry.slice(2), [accusative, to] = ARTICLES[entry[0]];
+    return [noun, accusative + noun, to + (entry[0] === "p" && !/[ns]$/.test(noun) ? `${noun}n` : noun)];
+  },
+  unknown: (word) => `n ${word.charAt(0).toUpperCase()}${word.slice(1)}`,
+  sentences: {
+    language: "Deutsch",
+    map: "Karte", "find.way": "Weg suchen", from: "Von", to: "Nach", "search.hint": "Suchen oder Karte antippen", "places.from": "Orte, an denen Sie beginnen können", "places.to": "Orte, zu denen Sie gehen können",
+    swap: "Start und Ziel vertauschen", "how.move": "Wie Sie unterwegs sind", "profile.walk": "Zu Fuß", "profile.wheelchair": "Rollstuhl", "choose.language": "Sprache",
+    "view.hint": "Karte: Pfeiltasten verschieben sie, Plus und Minus ändern die Größe, 0 zeigt das Ganze", levels: "Ebene", "level.up": "Eine Ebene höher", "level.down": "Eine Ebene tiefer",
+    zoom: "Größe", "zoom.in": "Größer", "zoom.out": "Kleiner", "zoom.fit": "Die ganze Ebene zeigen", tapped: "Angetippter Ort", way: "Weg", steps: "Schritte",
+    "from.here": "Von hier", "to.here": "Hierher", near: "bei {name}", "no.place": "Kein Ort mit diesem Namen", "more.places": "Mehr als diese {n}: schreiben Sie mehr vom Namen",
+    level: "Ebene {level}", "level.title": "Ebene {level}", "level.of": "Ebene {level}: {names}", "map.of": "Karte der Ebene {level}",
+    legend: "Was die Karte zeigt", "legend.walkway": "Gang", "legend.room": "Raum", "legend.restroom": "Toilette", "legend.elevator": "Aufzug", "legend.stairs": "Treppe, Rampe",
+    "legend.solid": "Wand, Säule", "legend.closed": "Gesperrt", "legend.reached": "Erreichbar",
+    loading: "Die Karte wird geladen …", "loading.level": "Ebene {level} wird geladen …", "loading.places": "Die Karte ist da, die Namen werden geladen …",
+    live: "Aktuell", "live.version": "Aktuell · Version {version}", "no.answer": "Keine Antwort", offline: "Aufgehobener Stand",
+    silent: "Der Server antwortet nicht.", seen: "Sie sehen den Stand von {time}, Version {version}.", "silent.way": "Der Server antwortet nicht. Sobald er es tut, wird der Weg erfragt.",
+    "kept.way": "Der Server antwortet nicht. Dies ist der Weg vom {date}; was seither gesperrt wurde, ist nicht bekannt.",
+    renewing: "Die Karte wird gerade erneuert. Wege gibt es gleich wieder.",
+    choose: "Wählen Sie, wo Sie beginnen und wohin Sie wollen.", looking: "Der Weg wird gesucht und geprüft …", "ask.again": "Noch einmal fragen",
+    "left.out": { one: "{n} Ding dieses Ortes lässt sich nicht zeichnen.", other: "{n} Dinge dieses Ortes lassen sich nicht zeichnen." },
+    unread: "Diese Seite kann nicht lesen, was ihr gesagt wurde.", "site.unread": "Die Einstellungen dieser Seite sind nicht lesbar, daher gibt es keine Karte.", "file.unread": "Die Datei {name} der Karte ist nicht lesbar.",
+    "reply.json": "Die Antwort des Servers ist kein JSON.", "reply.version": "Die Antwort des Servers nennt keine Version.", "reply.list": "In der Antwort des Servers fehlt die Liste {list}.", refused: "Der Server verweigert die Antwort, mit Status {status}.",
+    no_such_place: "Der Server kennt diesen Ort nicht mehr.", no_such_profile: "Der Server kennt diese Art der Fortbewegung nicht.", want_of_memory: "Dem Server fehlt Speicher. Fragen Sie noch einmal.",
+    version_ahead: "Der Server ist noch nicht so weit, wie diese Seite ihn schon sah. Er wird wieder gefragt.", changes: "Hier ändert sich mehr, als sich eine Antwort prüfen lässt. Fragen Sie gleich noch einmal.",
+    "table.missing": "Die Tabelle der Verbindungen fehlt, daher lässt sich kein Weg prüfen.", "table.version": "Die Tabelle der Verbindungen hat eine andere Version, als diese Seite liest; daher lässt sich kein Weg prüfen.",
+    "table.unread": "Die Tabelle der Verbindungen ist nicht lesbar ({stop}), daher lässt sich kein Weg prüfen.", "table.mark": "Die Karte wird gerade erneuert. Laden Sie die Seite neu.",
+    "not.proved": "Nicht bewiesen: {why}. Es wird kein Weg gezeichnet.", "fails.version": "die Antwort ist nicht vom Stand der genannten Sperrungen", "fails.asked": "sie antwortet auf eine andere Frage",
+    "fails.place": "die Tabelle der Verbindungen kennt einen der beiden Orte nicht", "fails.table": "die Tabelle der Verbindungen ist von einem anderen Stand des Ortes", "fails.part": "ein Teil der Tabelle fehlt", "fails.form": "die Antwort hat nicht ihre Form",
+    "fails.potentials": "ihre Potentiale sind nicht ganze Zahlen, eine für jeden Ort", "fails.step": "einer ihrer Schritte ist keine offene Verbindung", "fails.end": "ihre Schritte führen nicht ans Ziel",
+    "fails.sum": "ihre Schritte ergeben nicht ihre Kosten", "fails.start": "sie beginnt nicht am Start", "fails.finish": "was sie vom Ziel sagt, widerspricht sich", "fails.link": "nach ihren eigenen Zahlen kann es einen kürzeren Weg geben",
+    "checked.walk": "Geprüft: kein kürzerer Weg", "checked.wheelchair": "Geprüft: kein kürzerer Weg ohne Stufen", "checked.other": "Geprüft: kein kürzerer Weg für {profile}", "checked.none": "Geprüft: es gibt keinen",
+    "none.walk": "Es gibt keinen Weg", "none.wheelchair": "Es gibt keinen Weg ohne Stufen", "none.what": { one: "Von {name} ist nur {n} Ort erreichbar, auf der Karte gepunktet; nichts Offenes führt hinaus.", other: "Von {name} sind {n} Orte erreichbar, auf der Karte gepunktet; nichts Offenes führt hinaus." },
+    metres: "{n} m", kilometres: "{n} km", minutes: { one: "etwa {n} Minute", other: "etwa {n} Minuten" }, "minutes.less": "unter einer Minute", here: "Sie sind schon da",
+    counted: "{metres} angerechnet für {what}", "counted.to": "zu gehen, dazu {counted}", "to.walk": "zu gehen",
+    share: "Teilen", "share.done": "Die Adresse ist kopiert.", "share.by.hand": "Kopieren Sie diese Adresse:", print: "Drucken",
+    what: "Was das heißt", "what.minutes": "Minuten sind mit 70 Metern in der Minute gerechnet. Was hier für Aufzüge, Treppen und Rampen angerechnet wird, zählt wie gegangen, für die Zeit und dafür, welcher Weg kürzer ist.",
+    "what.exact": "Auf den Zentimeter: {walked} gegangen, {cost} mit dem, was angerechnet wird.", "what.checked": "Geprüft: Ihr Browser ist selbst die Tabelle der Verbindungen durchgegangen, ohne das Gesperrte, und fand keinen kürzeren Weg. Dem Server wird nicht geglaubt.",
+    "what.believed": "Geglaubt wird dem Plan und seiner Tabelle: dass Türen und Aufzüge dort sind, wo der Plan sie hat, und dass man in einem Raum geradeaus geht, wenn die Einstellungen nichts anderes sagen.", "what.version": "Version {version}, {time}.",
+    "closed.now": "Zurzeit gesperrt", closed: "Gesperrt", "closed.way": "Auf Ihrem Weg gesperrt: {what}.", "closed.other": "Etwas wurde geöffnet oder gesperrt.", "new.way": "Dies ist der neue Weg.", "no.other": "Es gibt keinen anderen Weg.", "level.range": "Ebene {levels}", "to.range": "{from} bis {to}", unknown: "Etwas, das die Karte nicht zeigt",
+    "to.level": "Zu Ebene {level}", "from.level": "Von Ebene {level}", door: "Tür", "door.of": "Tür: {rooms}", "the.door": "bis zur Tür", "the.door.of": "bis zur Tür von {name}", "to.name": "bis {name}",
+    begin: "Beginnen Sie hier: {name}.", left: "Biegen Sie links ab.", right: "Biegen Sie rechts ab.", back: "Kehren Sie um.", past: ", vorbei an {names},",
+    "ride.up": "Nehmen Sie {what} hinauf zu Ebene {level}", "ride.down": "Nehmen Sie {what} hinunter zu Ebene {level}", "ride.level": "Nehmen Sie {what}", "ride.many": { one: "{n} Ebene", other: "{n} Ebenen" },
+    into: "Gehen Sie in {what}", leave: "Verlassen Sie {what}", along: "Gehen Sie durch {what}{past} {to}", through: "Gehen Sie durch {what}{past} {to}", on: "Weiter zum nächsten Ort",
+  },
+  nouns: {
+    elevator: "m Aufzug/Lift Fahrstuhl", escalator: "f Rolltreppe/Fahrtreppe", stairs: "f Treppe/Stufen", steps: "f Treppe/Stufen", ramp: "f Rampe", movingwalkway: "m Fahrsteig/Rollsteig Laufband", traversal: "m Durchgang",
+    walkway: "m Gang/Flur Korridor Weg", lobby: "f Halle/Foyer Eingangshalle", platform: "m Bahnsteig/Gleis", room: "m Raum/Zimmer", restroom: "f Toilette/WC Klo Abort", nonpublic: "m Personalbereich", opening: "f Tür/Eingang Ausgang", anchor: "m Ort", occupant: "m Laden/Geschäft",
+    atm: "m Geldautomat/Bankomat Bank", firstaid: "f Erste Hilfe/Arzt Sanität", information: "f Auskunft/Information Hilfe", ticketing: "m Schalter/Fahrkarten Tickets Kasse", checkin: "m Check-in/Schalter", baggagecheck: "f Gepäckaufgabe", 
+    seating: "p Sitzplätze/Bank sitzen", security: "f Sicherheit/Wache", police: "f Polizei", parking: "m Parkplatz/Parkhaus", taxi: "m Taxistand", bus: "f Bushaltestelle", pharmacy: "f Apotheke", mothersroom: "m Wickelraum/Stillen Baby", lockers: "p Schließfächer/Gepäck",
+    office: "n Büro", conferenceroom: "m Besprechungsraum/Konferenz", classroom: "n Klassenzimmer", auditorium: "m Hörsaal", foodservice: "f Gastronomie/Restaurant Essen", kitchen: "f Küche", lounge: "f Lounge", waitingroom: "m Warteraum", fitnessroom: "m Fitnessraum", restaurant: "n Restaurant/Essen", shopping: "m Laden/Geschäft", unspecified: "m Bereich",
+  },
+};
