@@ -18,10 +18,11 @@ need() { # programs
     done
 }
 
-# Starts a server that ends within a minute, and waits until it listens: `server` is its process, and $work/printed what it prints.
+# Starts a server that ends within a minute, over the base in `base` or the examples, and waits until it listens: `server` is its process,
+# and $work/printed what it prints.
 serve_at() { # port, workers, connections
     : >"$work/printed"
-    timeout 60 "$program" serve "$here/examples" station "127.0.0.1:$1" "$2" "$3" >>"$work/printed" &
+    timeout 60 "$program" serve "${base-$here/examples}" station "127.0.0.1:$1" "$2" "$3" >>"$work/printed" &
     server=$!
     processes+=($server)
     for _ in $(seq 300); do
