@@ -21,7 +21,7 @@ FAULTS = [
     ("a reply is cut short, and the session goes on", "^session, REFUSE=.* replies there is b'HTTP"),
     ("want of memory ends by a signal", "^session, REFUSE=.*status -6"),
     ("the closing line counts a change that wasn't made", "^refused_memory: .*changes 1"),
-    ("a session ends at a question for which there is nothing to read", "^session, REFUSE=.*: status 4 behind 10 replies, in place of"),
+    ("a session ends at a question for which there is nothing to read", r"^session, REFUSE=.*: status 4 behind \d+ replies, in place of"),
 ]
 
 
