@@ -8,7 +8,7 @@ abbrev pub ghosts-judge_under-N-HallName : goal.ghosts-judge_under-N-HallName
 ghosts-judge_under-N-HallName g a = record {
   book = book_in a.copies;
   opening = entries_in a.copies;
-  keys = a.front;
+  keys = a.front.now;
   folder_count = memory_faults a.folders;
   folder_files = shelf_of (memory_files a.folders) a.base;
   connections = a.connections;
