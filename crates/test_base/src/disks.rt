@@ -157,7 +157,7 @@ fn a_stop_leaves_what_was_synced_torn_by_what_was_written(rt: HostRuntime) -> Re
             disks = disks_of(alloc, first, 64, &[])?;
         }
         let mut disk = disks.open_disk("base", "log").expect(&rt, "a disk");
-        go(&mut disk, &steps[..count]);
+        go(&mut disk, &steps[..count.min(steps.len())]);
         let images = images_of(alloc, &disk)?;
         assert_eq!(rt; images.reads.as_slice(), reads);
         check_images(&rt, &images, base, free, most);
