@@ -1,6 +1,6 @@
 //! Sessions at two seats of one hall over the station, while a disk or a client fails.
 
-ghost use Rattle.std.specs.Prelude.{◌≡◌, ◌≤◌, length};
+ghost use Rattle.std.specs.Prelude.{◌≡◌, ◌≤◌, None, length};
 ghost use Rattle.venue_ports.specs.InMemory.{stream_left, stream_written, stream_faults};
 ghost use Rattle.venue_state.specs.Making.{shelf_of};
 ghost use Rattle.shared_hall.specs.Copied.{entries_in, book_in};

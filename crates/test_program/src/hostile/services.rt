@@ -1,6 +1,6 @@
 //! Services of whose clients or doors some fail.
 
-ghost use Rattle.std.specs.Prelude.{◌≡◌, false, IfOk};
+ghost use Rattle.std.specs.Prelude.{◌≡◌, None, false, IfOk};
 ghost use Rattle.venue_ports.specs.Doors.{doors_ready, doors_accepted, doors_binds, doors_bound, doors_faults};
 ghost use Rattle.venue_ports.specs.InMemory.{stream_left, stream_written, stream_faults};
 
