@@ -3,8 +3,12 @@
 the program itself by `rt run`. What an earlier build left is used where its sources are the same.
 
 usage: build.py [PROGRAM]   (the name of a program in crates.txt; without it venue_cli)
-A line tells how far it is as each crate starts and ends. What a crate's build prints goes to out/logs/NAME.log. At the first crate that isn't
-proved the others are stopped, the lines of its error are printed, and the status is 1.
+A line tells how far it is as each crate starts and ends, with a guess of the time that is left: by the lines of what is to be proved, at the
+pace of what was proved so far, until then at that of a machine on which it was measured. What a crate's build prints goes to
+out/logs/NAME.log. At the first crate that isn't proved the others are stopped, the lines of its error are printed, and the status is 1.
+
+The build is never shorter than its longest chain of crates, each of which waits for the one before. So the crate for which most lines wait
+gets as many jobs as there are processors and memory for, and what runs beside it runs at a lower priority: it takes what the chain leaves.
 
 `rt lib` locks every crate below the one that it builds, so two of them can't work in one tree. So each crate is built in a tree of its own,
 out/build/NAME: the sources of the crate and of those below it, and their libraries, under second names of the same files. `rt lib` finds
@@ -13,6 +17,7 @@ everything below built, so it reads none of it again, and what it makes is moved
 import fcntl
 import os
 import re
+import resource
 import shutil
 import signal
 import subprocess
@@ -24,6 +29,11 @@ TREES, LOGS = os.path.join(TOP, "out", "build"), os.path.join(TOP, "out", "logs"
 SOURCES, MADE = ("src", "specs", "proofs"), ("rlib", "incremental")
 # What a check of a large crate takes of memory at one job, and how much of that each further job takes, in GiB.
 ONE_JOB, MORE_JOBS = 3, 1.8
+# What the guess begins with: seconds of one processor for a crate whatever it has, for each of its lines, and for the program, as bench/README.md
+# has them. A crate that took fewer seconds than KEPT was kept by an earlier build.
+CRATE, LINE, PROGRAM, KEPT = 28, 0.021, 240, 5
+# By how much what the longest chain doesn't wait for is lower in priority.
+BESIDE = 10
 
 
 def listed():
@@ -116,46 +126,67 @@ class Build:
         self.total, self.started = len(self.left) + 1, time.monotonic()
         # The longest way from a crate up to the program, in lines: of those that may start, the one with most behind it is first.
         self.behind = {it: lines_of(it) for it in self.left}
+        self.costs = {it: CRATE + LINE * lines for it, lines in self.behind.items()} | {program: PROGRAM}
         for name in reversed(self.left):
             above = [it for it in self.behind if name in crates[it]]
             self.behind[name] += max((self.behind[it] for it in above), default=0)
-        self.done, self.running, self.memory = set(), {}, 0.85 * free_memory()
+        self.done, self.running, self.begun, self.took, self.memory = set(), {}, {}, {}, 0.85 * free_memory()
 
     def tell(self):
         past = int(time.monotonic() - self.started)
         names = f" ({', '.join(self.running)})" if self.running else ""
-        print(f"venue: {len(self.done)} of {self.total} done, {len(self.running)} running{names}, {past // 60}:{past % 60:02}", file=sys.stderr, flush=True)
+        print(f"venue: {len(self.done)} of {self.total} done, {len(self.running)} running{names}, {past // 60}:{past % 60:02}{self.left_over()}", file=sys.stderr, flush=True)
 
-    def begin(self, name, folder, words, jobs):
+    def left_over(self):
+        """A guess of the time that is left: of all that isn't done shared out over the processors, or of the longest chain of it, the greater."""
+        now, shared, chained = time.monotonic(), 1, 1
+        if self.took:
+            known = sum(self.costs[it] for it in self.took)
+            used = resource.getrusage(resource.RUSAGE_CHILDREN)
+            shared, chained = (used.ru_utime + used.ru_stime) / known, sum(self.took.values()) / known
+        open_costs = {it: cost for it, cost in self.costs.items() if it not in self.done}
+        for it, begun in self.begun.items():
+            open_costs[it] = max(0, open_costs[it] - (now - begun) / max(chained, 0.05))
+        chains = {}
+        for it in reversed(list(open_costs)):
+            chains[it] = open_costs[it] + max((chains[other] for other in chains if it in self.crates[other]), default=0)
+        if not open_costs:
+            return ""
+        seconds = max(shared * sum(open_costs.values()) / processors(), chained * max(chains.values(), default=0))
+        return f", some {max(1, round(seconds / 60))} min left, by a guess" + ("" if self.took else " from another machine")
+
+    def begin(self, name, folder, words, jobs, places, beside=False):
         with open(os.path.join(LOGS, f"{name}.log"), "wb") as log:
             words = ["rt", *words, "--jobs", str(jobs)]
-            process = subprocess.Popen(words, cwd=folder, stdin=subprocess.DEVNULL, stdout=log, stderr=subprocess.STDOUT)
-        self.running[name] = process, jobs
+            how = {"preexec_fn": lambda: os.nice(BESIDE)} if beside else {}
+            process = subprocess.Popen(words, cwd=folder, stdin=subprocess.DEVNULL, stdout=log, stderr=subprocess.STDOUT, **how)
+        self.running[name], self.begun[name] = (process, jobs, places), time.monotonic()
 
     def begin_ready(self):
-        """Starts what may start. Where fewer may than there are processors, these are shared out, the one that is left over to the longest way."""
+        """Starts what may start: as many crates side by side as there are processors and memory for, that for which most waits first."""
         ready = [it for it in self.left if all(other in self.done for other in self.crates[it] if other in self.crates)]
         ready.sort(key=lambda it: -self.behind[it])
         while ready:
-            idle = processors() - sum(jobs for _, jobs in self.running.values())
-            room = self.memory - sum(ONE_JOB + MORE_JOBS * (jobs - 1) for _, jobs in self.running.values())
+            idle = processors() - sum(places for _, _, places in self.running.values())
+            room = self.memory - sum(ONE_JOB + MORE_JOBS * (jobs - 1) for _, jobs, _ in self.running.values())
             if idle < 1 or self.running and room < ONE_JOB:
                 return
-            most = 1 + int((room - ONE_JOB) / MORE_JOBS)
-            jobs = max(1, min(-(-idle // len(ready)), most))
             name = ready.pop(0)
-            # What most waits for gets a second job beside others too: holding that up costs more than two that share a processor.
-            if all(self.behind[name] >= self.behind[it] for it in self.running):
-                jobs = max(jobs, min(2, most))
+            is_longest = all(self.behind[name] >= self.behind[it] for it in self.running)
+            # The longest way gets all jobs for which there is memory beside the others that may start, two where there is memory at all, and
+            # holds up none of them; what is beside it gets its share of what is idle.
+            others = ONE_JOB * min(len(ready), idle - 1) if is_longest else 0
+            most = [1 + int((room - kept - ONE_JOB) / MORE_JOBS) for kept in (others, 0)]
+            jobs = max(1, min(processors(), max(most[0], min(2, most[1])))) if is_longest else max(1, min(-(-idle // (len(ready) + 1)), most[1]))
             self.left.remove(name)
-            self.begin(name, plant(name, self.crates, self.rows), ["lib"], jobs)
+            self.begin(name, plant(name, self.crates, self.rows), ["lib"], jobs, 1 if is_longest else jobs, not is_longest)
 
     def wait(self):
         """Waits until something has ended, and returns the name of what failed, if it did."""
-        while not any(process.poll() is not None for process, _ in self.running.values()):
+        while not any(process.poll() is not None for process, _, _ in self.running.values()):
             time.sleep(0.1)
-        for name in [it for it, (process, _) in self.running.items() if process.poll() is not None]:
-            status = self.running.pop(name)[0].returncode
+        for name in [it for it, (process, _, _) in self.running.items() if process.poll() is not None]:
+            status, took = self.running.pop(name)[0].returncode, time.monotonic() - self.begun.pop(name)
             if os.path.isdir(os.path.join(TREES, name)):
                 moved(name, os.path.join(TREES, name), True)
                 shutil.rmtree(os.path.join(TREES, name))
@@ -164,12 +195,15 @@ class Build:
             if not os.path.isfile(made) or name != self.program and status:
                 return name
             self.done.add(name)
+            # What was kept of an earlier build tells nothing of the pace.
+            if took > KEPT:
+                self.took[name] = took
         return None
 
     def stop(self):
-        for process, _ in self.running.values():
+        for process, _, _ in self.running.values():
             process.terminate()
-        for process, _ in self.running.values():
+        for process, _, _ in self.running.values():
             process.wait()
 
     def run(self):
@@ -179,7 +213,7 @@ class Build:
             failed = self.wait()
             if failed:
                 return failed
-        self.begin(self.program, os.path.join(TOP, "crates", self.program), ["run"], processors())
+        self.begin(self.program, os.path.join(TOP, "crates", self.program), ["run"], processors(), processors())
         self.tell()
         failed = self.wait()
         self.tell()

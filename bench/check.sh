@@ -2,14 +2,10 @@
 # `check` over a sound folder of 100,000 features and 1,000,000 judged positions, beside `ogrinfo -al -so` over its sixteen
 # feature files in one run, which a virtual source lists; then the same over six folders at limits of the rules on the plane.
 # The time of a phase of rules is taken from folders with one fault each, after which the check stops: a feature of a wrong type
-# (phase 1), an identifier twice (phase 2), a ring that crosses itself (phase 4).
-set -e
-cd "$(dirname "$0")/.."
-command -v ogrinfo >/dev/null || { echo "ogrinfo is missing, apt-get install gdal-bin brings it"; exit 1; }
-program=crates/venue_cli/out/venue_cli
-[ -x "$program" ] || ./venue price examples/table >/dev/null
-work=$(mktemp -d)
-trap 'rm -rf "$work"' EXIT
+# (phase 1), an identifier twice (phase 2), a ring that crosses itself (phase 4). Wants python3 and `ogrinfo` of Debian's gdal-bin.
+. "$(dirname "$0")/begin.sh"
+need python3 ogrinfo
+need_program
 
 # Beside the folder NAME of BASE three with one fault each, and a virtual source of its feature files. usage: variants BASE NAME
 variants() {
@@ -46,9 +42,9 @@ counted() {
     expect "$1" "$2-crossed" "rejected 2 finding G3 venue.geojson 0 0 finding G5 venue.geojson 0 0 "
 }
 
-# What measure.py prints of the folder NAME of BASE and of those beside it. usage: measured BASE NAME
+# What measure.py prints of the folder NAME of BASE and of those beside it. usage: measured BASE NAME TITLE WANTED
 measured() {
-    python3 bench/measure.py 3 check "$program check $1 $2" ogrinfo "ogrinfo -al -so $1/$2.vrt" \
+    python3 bench/measure.py 3 --row "check, $3" "$4" check "$program check $1 $2" ogrinfo "ogrinfo -al -so $1/$2.vrt" \
         mistyped "$program check $1 $2-mistyped" repeated "$program check $1 $2-repeated" crossed "$program check $1 $2-crossed"
 }
 
@@ -60,7 +56,7 @@ expect "$base" sound "accepted 100000 notes 0 "
 
 bytes=$(cat "$base"/sound/* | wc -c)
 echo "$((bytes / 1048576)) MiB in 17 files; wanted: a ratio of at most 0.33, phases 3 and 4 no longer than reading"
-measured "$base" sound |
+measured "$base" sound '100,000 features' 'at most 0.33' |
     awk '{ print; sub(":", "", $1); time[$1] = $2; busy[$1] = $(NF - 1) }
          function phases(name, kept) {
              plane = kept["crossed"] - kept["repeated"]
@@ -68,13 +64,15 @@ measured "$base" sound |
              printf "phases 3 and 4 %.3f s (%.2f of reading), ", plane, plane / kept["mistyped"]
              printf "what follows %.3f s\n", kept["check"] - kept["crossed"]
          }
-         END { phases("phases", time); phases("phases, processor", busy) }'
+         END { phases("phases", time); phases("phases, processor", busy) }' | tee "$work/told"
+row 'phases 3 and 4, 100,000 features' "$(sed -n 's/^phases:.*phases 3 and 4 \([0-9.]* s\) .*/\1/p' "$work/told")" \
+    "reading $(sed -n 's/^phases: reading with phase 1 \([0-9.]* s\).*/\1/p' "$work/told")" "$(sed -n 's/^phases:.*(\([0-9.]*\) of reading).*/\1/p' "$work/told")" 'at most 1'
 
 # What a folder at a limit takes, in processor time. usage: limit BASE NAME COUNT TITLE
 limit() {
     variants "$1" "$2"
     counted "$1" "$2" "$3"
-    measured "$1" "$2" |
+    measured "$1" "$2" "$4" '' |
         awk -v title="$4" '{ sub(":", "", $1); busy[$1] = $(NF - 1) }
              END {
                  reading = busy["mistyped"]; plane = busy["crossed"] - busy["repeated"]

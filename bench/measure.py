@@ -1,12 +1,15 @@
 """Runs each command some times, in turns, and prints its least time, its peak memory and its least processor time.
 
-usage: measure.py ROUNDS NAME COMMAND [NAME COMMAND ..]   (a COMMAND is one word for the shell)
-The last line is the ratio of the first command's time to the second's, then that of their processor times.
+usage: measure.py ROUNDS [--row FIGURE WANTED] NAME COMMAND [NAME COMMAND ..]   (a COMMAND is one word for the shell)
+The last line is the ratio of the first command's time to the second's, then that of their processor times; with --row the former is a row of
+the table of bench/run too.
 """
 import os
 import subprocess
 import sys
 import time
+
+from table import row
 
 
 def run(command):
@@ -18,13 +21,14 @@ def run(command):
     return time.monotonic() - begin, usage.ru_maxrss / 1024, usage.ru_utime + usage.ru_stime
 
 
-def main():
-    rounds = int(sys.argv[1])
-    commands = list(zip(sys.argv[2::2], sys.argv[3::2]))
+def main(rounds, *words):
+    told = words[1:3] if words[0] == "--row" else None
+    words = words[3:] if told else words
+    commands = list(zip(words[::2], words[1::2]))
     times = {name: [] for name, _ in commands}
     busy = {name: [] for name, _ in commands}
     peaks = {name: 0.0 for name, _ in commands}
-    for _ in range(rounds):
+    for _ in range(int(rounds)):
         for name, command in commands:
             seconds, peak, processor = run(command)
             times[name].append(seconds)
@@ -36,6 +40,8 @@ def main():
         first, second = commands[0][0], commands[1][0]
         ratio, of_busy = (min(kept[first]) / min(kept[second]) for kept in (times, busy))
         print(f"ratio {first} / {second}: {ratio:.2f}, processor {of_busy:.2f}")
+        if told:
+            row(told[0], f"{min(times[first]):.3f} s", f"{second} {min(times[second]):.3f} s", ratio, told[1])
 
 
-main()
+main(*sys.argv[1:])

@@ -1,12 +1,9 @@
 #!/usr/bin/env bash
 # `price` over 400,000 nodes, 4,000,000 links and 100,000 steps, beside plain readers of the same form in C++ and in Rust.
 # Wants g++, rustc 1.80 or later and python3.
-set -e
-cd "$(dirname "$0")/.."
-program=crates/venue_cli/out/venue_cli
-[ -x "$program" ] || ./venue price examples/table >/dev/null
-work=$(mktemp -d)
-trap 'rm -rf "$work"' EXIT
+. "$(dirname "$0")/begin.sh"
+need g++ rustc python3
+need_program
 g++ -O2 -std=c++17 -o "$work/make_table" bench/make_table.cpp
 g++ -O2 -std=c++17 -o "$work/read_table" bench/read_table.cpp
 rustc --edition 2021 -C opt-level=3 -C codegen-units=1 -o "$work/read_table_rust" bench/read_table.rs
@@ -18,6 +15,6 @@ found=$("$program" price "$work/base")
 [ "$wanted" = "$found" ] && [ "$in_rust" = "$found" ] || { echo "the answers differ: $wanted, $in_rust, $found"; exit 1; }
 bytes=$(stat -c %s "$work/base/links.txt")
 echo "links.txt: $((bytes / 1048576)) MiB; wanted: a ratio of at most 1.5, a peak of at most $(((bytes + 4000000 * 32 + 400000 * 16) / 1048576 + 64)) MiB"
-python3 bench/measure.py 3 venue "$program price $work/base" yardstick "$work/read_table $work/base"
+python3 bench/measure.py 3 --row 'price, 4,000,000 links' 'at most 1.5' venue "$program price $work/base" yardstick "$work/read_table $work/base"
 echo "the time of the reader in Rust to that of price; wanted: a ratio of at least 0.95"
-python3 bench/measure.py 3 rust "$work/read_table_rust $work/base" venue "$program price $work/base"
+python3 bench/measure.py 3 --row 'reader in Rust beside price' 'at least 0.95' rust "$work/read_table_rust $work/base" venue "$program price $work/base"

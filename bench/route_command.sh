@@ -1,14 +1,11 @@
 #!/usr/bin/env bash
 # `route` from the first room of the lowest level to the last of the highest, over the venue of `levels.py` with 200 levels where no number
 # is given, beside `check` of the same folder, for both profiles: the first ratio less 1 is what a route costs beyond the reading, as a part
-# of `check`. Each answer is verified over the table that `links` prints.
-set -e
-cd "$(dirname "$0")/.."
+# of `check`. Each answer is verified over the table that `links` prints. Wants python3.
+. "$(dirname "$0")/begin.sh"
+need python3
+need_program
 levels=${1:-200}
-program=crates/venue_cli/out/venue_cli
-[ -x "$program" ] || ./venue price examples/table >/dev/null
-work=$(mktemp -d)
-trap 'rm -rf "$work"' EXIT
 base=$work/base
 python3 bench/levels.py "$levels" "$base"
 # A level has 102 openings and 103 units, of which those from 1 to 100 are rooms.
@@ -21,5 +18,6 @@ for profile in walk wheelchair; do
     "$program" links "$base" levels "$profile" >"$desk/links.txt"
     "$program" route "$base" levels "$profile" "$from" "$to" >"$desk/answer.txt"
     echo "$profile: $(grep '^route' "$desk/answer.txt"), $(grep -c '^step' "$desk/answer.txt") steps, $("$program" verify "$desk")"
-    python3 bench/measure.py 5 route "$program route $base levels $profile $from $to" check "$program check $base levels"
+    python3 bench/measure.py 5 --row "route, $levels levels, $profile" 'at most 1.2' \
+        route "$program route $base levels $profile $from $to" check "$program check $base levels"
 done

@@ -22,12 +22,12 @@ rust_externs() {
     done
 }
 
-# rust_serde_json: the crate and those that it stands on.
+# rust_serde_json CFG..: the crate, with these conditions set too, and those that it stands on.
 rust_serde_json() {
     rust_crate itoa 1
     rust_crate ryu 1 integer128 must_use_return maybe_uninit
     rust_crate serde 1 'feature="std"'
-    rust_crate serde_json 1 'feature="std"' limb_width_64
+    rust_crate serde_json 1 'feature="std"' limb_width_64 "$@"
 }
 
 # rust_program FILE: the program of that file, over the libraries built so far.

@@ -8,6 +8,8 @@ import os
 import subprocess
 import sys
 
+from table import row
+
 LINE = b"GET /v1/version HTTP/1.1\r\n"
 HOST = b"host: a\r\n"
 
@@ -60,6 +62,8 @@ def main():
                 least[name] = min(least.get(name, 1e9), run(command))
         for name, each in least.items():
             print(f"{size} bytes, {name}: {each:.0f} ns a head, ratio {least['frame'] / each:.2f}")
+            if name != "frame":
+                row(f"a head of {size} bytes", f"{least['frame']:.0f} ns", f"{name} {each:.0f} ns", least["frame"] / each)
 
 
 main()

@@ -7,6 +7,14 @@ import os
 import subprocess
 import sys
 
+from table import row
+
+WANTED = {"features.json": {"rapidjson": 1.4, "json": 1.8, "tree": 3}, "rings.json": {"rapidjson": 1.2, "json": 1.3, "tree": 3.5}}
+
+
+def speed(seconds, size):
+    return f"{size / seconds / 1e6:.0f} MB/s"
+
 
 def run(command):
     child = subprocess.Popen(command, stdout=subprocess.PIPE)
@@ -34,12 +42,18 @@ def measure(rounds, program, rapidjson, path):
             seconds, bytes_held = run(command)
             least[name] = min(least[name], seconds)
             peak[name] = max(peak[name], bytes_held)
-    print(f"{os.path.basename(path)}: {size / (1 << 20):.1f} MiB")
+    about = os.path.basename(path)
+    wanted = WANTED.get(about, {})
+    print(f"{about}: {size / (1 << 20):.1f} MiB")
     for name in ("exact_json", "json", "rapidjson"):
-        print(f"  {name}: {least[name]:.3f} s, {size / least[name] / 1e6:.0f} MB/s")
+        print(f"  {name}: {least[name]:.3f} s, {speed(least[name], size)}")
     for name in ("rapidjson", "json"):
-        print(f"  ratio exact_json / {name}: {least[name] / least['exact_json']:.2f}")
-    print(f"  tree: {(peak['exact_json'] - peak['load']) / size:.2f} bytes a byte")
+        ratio = least[name] / least["exact_json"]
+        print(f"  ratio exact_json / {name}: {ratio:.2f}")
+        row(f"reading {about}", speed(least["exact_json"], size), f"{name} {speed(least[name], size)}", ratio, f"at least {wanted[name]}" if wanted else "")
+    tree = (peak["exact_json"] - peak["load"]) / size
+    print(f"  tree: {tree:.2f} bytes a byte")
+    row(f"tree of {about}", f"{tree:.2f} bytes a byte", wanted=f"at most {wanted['tree']}" if wanted else "")
 
 
 for path in sys.argv[4:]:

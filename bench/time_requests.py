@@ -9,6 +9,8 @@ import random
 import subprocess
 import sys
 
+from table import row
+
 
 def version(_):
     return b"GET /v1/version HTTP/1.1\r\nhost: a\r\n\r\n"
@@ -63,6 +65,7 @@ def main():
                     wanted = found
                 assert found == wanted, (name, found, wanted)
         print(f"{name}, {size} bytes: take {least[0]:.0f} ns, Rust {least[1]:.0f} ns, ratio {least[0] / least[1]:.2f}")
+        row(f"a request, {name}", f"{least[0]:.0f} ns", f"Rust {least[1]:.0f} ns", least[0] / least[1], "at most 1.5")
 
 
 main()

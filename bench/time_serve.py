@@ -1,7 +1,7 @@
 """Puts the same load on `serve`, on nginx and on `blocking` in turns, and prints what comes of it beside what is wanted.
 
 usage: time_serve.py PROGRAM BASE TOOLS (PART | WORKERS)..
-Where parts are named, among version, station, routes, places, staff, anew and memory, no other is measured. BASE has venue.toml with a
+Where parts are named, among version, station, routes, places, staff, anew, memory and idle, no other is measured. BASE has venue.toml with a
 staff key, and the folders `station`, `levels50`, `levels200` and `sound`. TOOLS has the programs `load` and `blocking`, and gets the
 other files. Each load lasts a second and is repeated three times, in turns; the turn of the most requests a second is told. Times are
 in microseconds: the middle, the ninetieth and the ninety-ninth of a hundred, and the longest. Processor time is that of the server for
@@ -19,6 +19,9 @@ import subprocess
 import sys
 import threading
 import time
+
+from table import row
+from time_idle import idle
 
 TURNS, SECONDS = 3, 1
 FEW, MANY = 50, 200  # levels
@@ -139,7 +142,7 @@ class Bench:
         port = free_port()
         return Server("blocking", port, [os.path.join(self.tools, "blocking"), str(port), self.write("reply", reply)])
 
-    def nginx(self, workers, body):
+    def nginx(self, workers, body, connections=512):
         """A short answer stands in the configuration; one that doesn't fit there is a file."""
         port = free_port()
         if len(body) < 4000:
@@ -152,9 +155,10 @@ class Bench:
         text = f"""{user}
 daemon off;
 worker_processes {workers};
+worker_rlimit_nofile {connections + 100};
 pid {self.tools}/nginx.pid;
 error_log {self.tools}/nginx.log;
-events {{ }}
+events {{ worker_connections {connections}; }}
 http {{
     access_log off;
     sendfile on;
@@ -236,9 +240,14 @@ def compare(name, ours, theirs, wanted):
     parts = {"rate": "requests a second", "ninety_ninth": "ninety-ninth", "processor": "processor"}
     ratios = [f"{word} {ours[part] / theirs[part]:.2f}{wanted.get(part, '')}" for part, word in parts.items() if part in theirs]
     print(f"  {name}: {'; '.join(ratios)}")
+    row(f"{heading[-1]}, {name}", f"{ours['rate']:,.0f} a second", f"{theirs['rate']:,.0f}", ours["rate"] / theirs["rate"], wanted.get("rate", "").strip(" ()"))
+
+
+heading = []
 
 
 def say(text):
+    heading.append(text)
     print(f"{text} (load {os.getloadavg()[0]:.1f})", flush=True)
 
 
@@ -308,6 +317,8 @@ def station_questions(bench, workers):
             show(name, most(told))
         ratio = most(turns["wheelchair route"])["rate"] / most(turns["version"])["rate"]
         print(f"  route / version: {ratio:.2f} (wanted 0.5)")
+        rates = [f"{most(turns[name])['rate']:,.0f}" for name in ("wheelchair route", "version")]
+        row(f"{heading[-1]}, a wheelchair's route", f"{rates[0]} a second", f"version {rates[1]}", ratio, "wanted 0.5")
 
 
 def session_times(bench, folder, text):
@@ -344,6 +355,7 @@ def routes(bench, levels, many):
         processor = min(turn["processor"] for turn in told[1])
         wants = (" (wanted 3)", " (wanted at most 1.2)") if levels == MANY and not certificate else ("", "")
         print(f"  {many} workers to one: {most(told[many])['rate'] / most(told[1])['rate']:.2f}{wants[0] if many == 4 else ''}")
+        row(f"{heading[-1]}, middle", f"{middle:,.0f} us", f"`session` {wall:,.0f} us", middle / wall, wants[1].strip(" ()"))
         print(f"  one worker to `session`: the least middle {middle / wall:.2f}{wants[1]}, processor {processor / busy:.2f}")
 
 
@@ -425,6 +437,8 @@ def with_staff(bench, connections):
     for kind, other, mark in ("closures", "nobody", 10), ("publications", "nobody again", 20):
         ratio = most(turns[kind])["rate"] / most(turns[other])["rate"]
         print(f"  {kind} / {other}: {ratio:.2f} (wanted 0.9; no answer above {mark} ms)")
+        rates = [f"{most(turns[name])['rate']:,.0f}" for name in (kind, other)]
+        row(f"version beside {kind}", f"{rates[0]} a second", f"{other} {rates[1]}", ratio, f"wanted 0.9; none above {mark} ms")
 
 
 def connections_anew(bench, workers):
@@ -450,6 +464,7 @@ def memory(bench, publications):
     say("memory")
     one, many = held(bench, 1), held(bench, 16)
     print(f"  idle, each worker with a connection: 1 worker {one:.1f} MiB, 16 workers {many:.1f}; {many - one:.1f} more (wanted at most 4)")
+    row("16 idle workers", f"{many:.1f} MiB", f"1 worker {one:.1f} MiB", wanted="at most 4 MiB more")
     folder = f"levels{FEW}"
     with bench.serve(folder, 1) as server:
         peaks = []
@@ -460,6 +475,7 @@ def memory(bench, publications):
             peaks.append(server.memory("VmHWM"))
     ratio = peaks[-1] / peaks[0]
     print(f"  {FEW} levels, peak of a publication {peaks[0]:.0f} MiB, of {publications} {peaks[-1]:.0f} MiB: {ratio:.2f} (wanted at most 1.2)")
+    row(f"peak of {publications} publications", f"{peaks[-1]:.0f} MiB", f"the first {peaks[0]:.0f} MiB", ratio, "at most 1.2")
 
 
 def processor_name():
@@ -479,6 +495,7 @@ def main():
         "staff": lambda: with_staff(bench, 4),
         "anew": lambda: [connections_anew(bench, workers) for workers in sorted({1, most_workers})],
         "memory": lambda: memory(bench, 100),
+        "idle": lambda: idle(bench, 4, say),
     }
     named = [word for word in words if not word.isdigit()] or list(parts)
     if not parts.keys() >= set(named):

@@ -1,6 +1,6 @@
 #!/bin/sh
-# Whether crates.txt, docs/ARCHITECTURE.md and the crates' folders tell the same, and whether both keep within the bounds that keep the gate
-# short: short lists of crates, few paths through them, tests and edits where they cost least.
+# Whether crates.txt, docs/ARCHITECTURE.md, the picture of the building and the crates' folders tell the same, and whether they keep within the
+# bounds that keep the gate short: short lists of crates, few paths through them, tests and edits where they cost least.
 #
 # usage: house.sh [TOP]   (the top of another copy of the repository)
 # It prints a line for each thing that is wrong and one at the end with what was counted, and ends with status 1 where something is.
@@ -9,6 +9,7 @@ cd "${1-$(dirname "$0")/..}" || exit 1
 exec python3 - <<'PYTHON'
 import os
 import re
+import subprocess
 import sys
 
 # Names on a crate's line that no file of it spells, by crate and name, each with a word why.
@@ -17,7 +18,7 @@ UNSPELLED = {}
 KEEPS_TESTS = {}
 # The one file that has the word `unsafe`.
 UNSAFE = "crates/board_copies/src/keeper.rt"
-MOST = {"characters in a line": 200, "names": 240, "crates in a chain": 14, "files summed": 299_999, "edits": 300}
+MOST = {"characters in a line": 200, "names": 240, "crates in a chain": 14, "files summed": 299_999, "edits": 340}
 
 RUST_PARTS = re.compile(r"""//[^\n]*|/\*.*?\*/|"(?:[^"\\]|\\.)*"|'(?:[^'\\\n]|\\[^\n]{1,9})'""", re.S)
 ANTT_PARTS = re.compile(r"{-.*?-}|(?<![^\s(){}])--[^\n]*", re.S)
@@ -133,6 +134,8 @@ names = sum(len(names) for crate, names in crates.items() if not is_of_tests(cra
 counts = {"names": names, "crates in a chain": len(chain), "files summed": files, "edits": edits}
 for what, count in counts.items():
     need(count <= MOST[what], f"{count:,} {what}, and at most {MOST[what]:,} are wanted{': ' + ' '.join(chain) if what == 'crates in a chain' else ''}")
+drawn = subprocess.run([sys.executable, "docs/pictures/building.py", "-"], capture_output=True, text=True).stdout
+need(drawn == read("docs/pictures/building.svg"), "docs/pictures/building.svg isn't what docs/pictures/building.py draws of crates.txt")
 for line in wrong:
     print(line)
 print(f"house: {len(crates)} crates, {', '.join(f'{count:,} {what}' for what, count in counts.items())}; {len(wrong)} things are wrong")

@@ -1,7 +1,7 @@
 #!/usr/bin/env python3
 """Serves the example station while calls of the server fail (checks/interrupt.c), and compares what each client gets, what is printed, and the status.
-A read or a write that signals cut short 16 times in a row is made again, and at the 17th time the connection ends without a reply. An accept passes over
-63 connections that can't be prepared; at the 64th in a row it fails, takes no further one, and the status is 3.
+A read or a write that signals cut short 999 times in a row is made again, and at the 1,000th time the connection ends without a reply. An accept passes over
+connections that can't be prepared, however many come in a row: they are closed, and not counted.
 
 usage: interrupted_calls.py   (the program is the one that VENUE names, or else the one that the launcher ./venue runs, which builds it if need be)
 It prints a line for each row that differs and one at the end, and ends with status 1 at a difference. Where there is no C compiler it says so, and ends
@@ -29,30 +29,26 @@ TOLD = 5
 REQUEST = b"GET /v1/version HTTP/1.1\r\nhost: a\r\n\r\n"
 REPLY = b'HTTP/1.1 200 OK\r\ncontent-type: application/json\r\ncontent-length: 36\r\n\r\n{"closed":0,"places":33,"version":1}'
 
-# What a client gets. One that asks is answered, or is left without a reply. One that says nothing is let go, by an end; or it was never taken, and is
-# reset when the program ends.
-ANSWERED, UNANSWERED, LET_GO, NOT_TAKEN = "answered", "no reply", "let go", "not taken"
-# What the library holds back, what each client gets in the order in which they come, and the status.
-Row = collections.namedtuple("Row", "held clients status")
+# What a client gets, each of whom asks.
+ANSWERED, UNANSWERED = "answered", "no reply"
+# What the library holds back, what each client gets in the order in which they come, and how many of them are counted as accepted.
+Row = collections.namedtuple("Row", "held clients sessions")
 ROWS = [
-    Row({"CUT_READS": 0}, [ANSWERED], 0),
-    Row({"CUT_READS": 16}, [ANSWERED], 0),
-    Row({"CUT_READS": 17}, [UNANSWERED], 0),
-    Row({"CUT_WRITES": 0}, [ANSWERED], 0),
-    Row({"CUT_WRITES": 16}, [ANSWERED], 0),
-    Row({"CUT_WRITES": 17}, [UNANSWERED], 0),
-    # Each accept counts from nothing.
-    Row({"UNPREPARED": 63}, 2 * [*63 * [LET_GO], ANSWERED], 0),
-    Row({"UNPREPARED": 64}, [*64 * [LET_GO], NOT_TAKEN], 3),
-    Row({"UNPREPARED": 65}, [*64 * [LET_GO], NOT_TAKEN], 3),
+    Row({"CUT_READS": 0}, [ANSWERED], 1),
+    Row({"CUT_READS": 16}, [ANSWERED], 1),
+    Row({"CUT_READS": 999}, [ANSWERED], 1),
+    Row({"CUT_READS": 1000}, [UNANSWERED], 1),
+    Row({"CUT_WRITES": 0}, [ANSWERED], 1),
+    Row({"CUT_WRITES": 16}, [ANSWERED], 1),
+    Row({"CUT_WRITES": 999}, [ANSWERED], 1),
+    Row({"CUT_WRITES": 1000}, [UNANSWERED], 1),
+    Row({"UNPREPARED": 63}, 2 * [*63 * [UNANSWERED], ANSWERED], 2),
+    Row({"UNPREPARED": 64}, [*64 * [UNANSWERED], ANSWERED], 1),
+    Row({"UNPREPARED": 200}, [*200 * [UNANSWERED], ANSWERED], 1),
 ]
 
 
-def asks(wanted):
-    return wanted in (ANSWERED, UNANSWERED)
-
-
-def got(client, wanted, end):
+def got(client, end):
     """What a client got until this time."""
     text = b""
     try:
@@ -65,12 +61,12 @@ def got(client, wanted, end):
     except socket.timeout:
         return f"nothing within {CLIENTS} seconds behind {text!r}"
     except ConnectionResetError:
-        return repr(text) if text else UNANSWERED if asks(wanted) else NOT_TAKEN
+        return repr(text) if text else UNANSWERED
     finally:
         client.close()
     if text:
         return ANSWERED if text == REPLY else repr(text)
-    return UNANSWERED if asks(wanted) else LET_GO
+    return UNANSWERED
 
 
 def talk(process, address, row):
@@ -78,20 +74,19 @@ def talk(process, address, row):
     process.send_signal(signal.SIGSTOP)
     os.waitid(os.P_PID, process.pid, os.WSTOPPED | os.WEXITED | os.WNOWAIT)
     clients = []
-    for wanted in row.clients:
+    for _ in row.clients:
         clients.append(socket.create_connection(address, CLIENTS))
-        if asks(wanted):
-            clients[-1].sendall(REQUEST)
+        clients[-1].sendall(REQUEST)
     process.send_signal(signal.SIGCONT)
     end = time.monotonic() + CLIENTS
-    return [got(client, wanted, end) for client, wanted in zip(clients, row.clients)]
+    return [got(client, end) for client in clients]
 
 
 def run(program, library, port, row):
     """What came of a row: what the clients got, what was printed, and the status."""
     # An address of its own for each row, since the one before may still hold its port.
     host = "127." + ".".join(str(random.randint(1, 254)) for _ in range(3))
-    words = ["serve", "examples", "station", f"{host}:{port}", "1", str(max(1, sum(map(asks, row.clients))))]
+    words = ["serve", "examples", "station", f"{host}:{port}", "1", str(row.sessions)]
     env = dict(os.environ, LD_PRELOAD=library, **{name: str(count) for name, count in row.held.items()})
     with subprocess.Popen([program, *words], cwd=TOP, env=env, stdin=subprocess.DEVNULL, stdout=subprocess.PIPE, bufsize=0) as process:
         watch = threading.Timer(ONE_ROW, process.kill)
@@ -112,11 +107,10 @@ def differences(program, library, port, row):
         clients, printed, status = run(program, library, port, row)
     except OSError as error:
         return [f"{error}"]
-    sessions = sum(map(asks, row.clients))
-    due = f"listening ADDRESS\nworkers 1 sessions {sessions} versions 1 changes 0\n"
+    due = f"listening ADDRESS\nworkers 1 sessions {row.sessions} versions 1 changes 0\n"
     lines = [f"client {k}: {found}, and due is {wanted}" for k, (found, wanted) in enumerate(zip(clients, row.clients)) if found != wanted][:TOLD]
-    if (printed, status) != (due, row.status):
-        lines.append(f"printed {printed!r}, status {status}, and due is {due!r}, status {row.status}")
+    if (printed, status) != (due, 0):
+        lines.append(f"printed {printed!r}, status {status}, and due is {due!r}, status 0")
     return lines
 
 

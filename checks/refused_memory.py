@@ -41,6 +41,12 @@ Turn = collections.namedtuple("Turn", "client request reply")
 LATE = "late"
 
 
+# What comes of the one run of a service in which the second thread can't be made: a connection that pauses is let go while the other client asks. On a
+# machine with other work a second worker may wake too late for that in a few runs more; in more than one of FEW it is a fault.
+GAVE_WAY = "a connection that gave way to the other client's"
+FEW = 50
+
+
 class Fault(Exception):
     """What a run may not do."""
 
@@ -271,7 +277,9 @@ class Serve(Command):
         if is_change_untold:
             return "a connection that ended at an accepted change"
         if any(turn.client in told for turn in ended):
-            raise Fault(f"a connection ended in place of a reply or 503: {turns}")
+            if self.workers == 1 or len(ended) > 1:
+                raise Fault(f"a connection ended in place of a reply or 503: {turns}")
+            return GAVE_WAY
         if ended:
             return "a connection that ended before a reply"
         return "503 among the replies" if any(turn.reply == WANT for turn in turns) else "all replies"
@@ -308,7 +316,7 @@ class Trial:
     def __init__(self, program, folder):
         self.program, self.folder = program, folder
         self.library = self.compiled("refuse.so", os.path.join(HERE, "refuse.c"), "-shared", "-fPIC")
-        self.known, self.faults = {}, collections.Counter()
+        self.known, self.faults, self.told = {}, collections.Counter(), []
         self.loader = self.ends_of_loader()
         with socket.create_server(("", 0)) as door:
             self.port = door.getsockname()[1]
@@ -366,7 +374,7 @@ class Trial:
         except Fault as fault:
             self.faults[command] += 1
             if self.faults[command] <= TOLD:
-                print(f"{command.name}, {kind}={number}: {fault}", file=sys.stderr)
+                self.told.append(f"{command.name}, {kind}={number}: {fault}")
             return "FAULT"
 
 
@@ -409,9 +417,15 @@ def main():
         with concurrent.futures.ThreadPoolExecutor(os.cpu_count()) as pool:
             for command, outcome in pool.map(lambda task: (task[0], trial.tried(*task) if time.monotonic() < end else "LEFT OUT"), tasks):
                 came[command][outcome] += 1
+    # Here alone, since two lines that are printed side by side may mix.
+    for line in trial.told:
+        print(line, file=sys.stderr)
     for command, count in counts.items():
         told = ", ".join(f"{outcome} {times:,}" for outcome, times in sorted(came[command].items()))
         print(f"{command.name}: {count:,} allocations{', every seventh' if steps[command] > 1 else ''}: {told}")
+        if came[command][GAVE_WAY] > max(1, came[command].total() // FEW):
+            print(f"{command.name}: connections gave way in more runs than one of {FEW}, where one thread is missing at one run alone", file=sys.stderr)
+            came[command]["FAULT"] += 1
     faults, left_out = (sum(of[outcome] for of in came.values()) for outcome in ("FAULT", "LEFT OUT"))
     rest = f", {left_out:,} left out after {ALL_RUNS} seconds" if left_out else ""
     print(f"refused_memory: {sum(counts.values()):,} allocations, {len(tasks) - left_out:,} runs, {faults} faults{rest}")

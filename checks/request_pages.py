@@ -1,5 +1,5 @@
 #!/usr/bin/env python3
-"""Sends each request that stands in docs/FORMATS.md to `venue session`, in a session of its own over the example station, and compares the reply
+"""Sends each request that stands in docs/HTTP.md to `venue session`, in a session of its own over the example station, and compares the reply
 with the one that stands below it, in which `..` stands for further items.
 
 usage: request_pages.py [PROGRAM]   (without PROGRAM the launcher ./venue, which builds the program if need be)
@@ -15,7 +15,7 @@ TOP = os.path.join(os.path.dirname(os.path.abspath(__file__)), "..")
 
 def pairs():
     """The requests with their replies: a block that begins with a request line, and the next one."""
-    with open(os.path.join(TOP, "docs", "FORMATS.md"), encoding="utf-8") as file:
+    with open(os.path.join(TOP, "docs", "HTTP.md"), encoding="utf-8") as file:
         blocks = re.findall(r"^```\n(.*?)^```$", file.read(), re.S | re.M)
     return [(sent, reply) for sent, reply in zip(blocks, blocks[1:]) if re.match(r"(GET|POST) \S+ HTTP/1.1\n", sent)]
 

@@ -1,6 +1,6 @@
 #!/bin/bash
 # Starts nginx by examples/serve/nginx.conf, at ports that are free and with a certificate made for this run, in front of a server over the
-# example station, and compares what a visitor and staff are answered. The staff's network is 127.0.0.2 here, and visitors come from 127.0.0.1.
+# example station and beside the pages, and compares what a visitor and staff are answered. The staff's network is 127.0.0.2 here, and visitors come from 127.0.0.1.
 #
 # usage: serve_nginx.sh [PROGRAM]   (without PROGRAM the launcher ./venue, which builds the program if need be)
 # It prints a line for each difference and one at the end, and ends with status 1 at a difference.
@@ -14,6 +14,7 @@ proxy() {
     openssl req -x509 -newkey rsa:2048 -nodes -days 1 -subj /CN=localhost -keyout "$work/key.pem" -out "$work/certificate.pem" 2>/dev/null || exit 1
     "$here/examples/serve/staff_keys.py" "$here/examples" >"$work/venue-keys.conf" || exit 1
     sed -e "s#127.0.0.1:7070#127.0.0.1:$port#; s#listen 443#listen 127.0.0.1:$((port + 1))#; s#10.0.0.0/8#127.0.0.2#; /^user /d" \
+        -e "s#/opt/fergoljin/web#$here/examples/web#; s#/srv/venue-site#$work/site#" \
         -e "s#/etc/ssl/venue/#$work/#; s#/etc/nginx/#$work/#; s#/run/#$work/#; s#/var/log/nginx/#$work/#" \
         -e "s#^http {#&\n$(printf "%s_temp_path $work/%s;" client_body client_body proxy proxy fastcgi fastcgi uwsgi uwsgi scgi scgi)#" \
         "$here/examples/serve/nginx.conf" >"$work/nginx.conf"
@@ -48,7 +49,7 @@ compare 'a version to come' "$(ask $visitor 'version?since=6')" '{"error":"versi
 compare 'a HEAD' "$(ask $visitor version -I)" '*text/html*405'
 compare 'a PUT' "$(ask $staff closures -X PUT -d x)" '<html>*405'
 compare 'another path' "$(ask $visitor ../../index.html --path-as-is)" '*400'
-compare 'no path of the server' "$(ask $visitor ../index.html)" '*404'
+compare 'no path of the server' "$(ask $visitor ../other.html)" '*404'
 head -c 65536 /dev/zero >"$work/large"
 compare 'a body of 65,536 bytes' "$(ask $staff closures -H "$key" --data-binary "@$work/large")" '{"error":"bad_body"} 400'
 printf x >>"$work/large"
@@ -65,7 +66,29 @@ compare 'the log of a publication' "$(logged 6)" "$staff 0 publish station 200"
 compare 'the log of an opening' "$(logged 7)" "$staff 0 open $lift 200"
 compare 'the log of another body' "$(logged 8)" "$staff - body {*x*:1} 403"
 compare 'keys in logs and settings' "$(grep -rlF desk-key-1 "$work"/*.log "$work"/*.conf)" ''
+# The pages: those of visitors for all, that of staff for their network, and nothing of the base.
+mkdir -p "$work/site/folders"
+echo '{}' | tee "$work/site/site.json" >"$work/site/folders/folders.json"
+chmod a+x "$work" && chmod -R a+rX "$work/site"
+kind() { # from which address, path
+    curl -ks --max-time 20 --interface "$1" -o /dev/null -w '%{http_code} %{content_type}' "${at%/v1}/$2"
+}
+for page in '' index.html; do compare "a visitor's page at /$page" "$(kind $visitor "$page")" '200 text/html*'; done
+compare 'its script' "$(kind $visitor frame.js)" '200 text/javascript*'
+compare 'its settings' "$(kind $visitor site.json)" '200 application/json*'
+for page in staff.html staff/page.js folders/folders.json; do
+    compare "/$page for a visitor" "$(kind $visitor $page)" '403 *'
+    compare "/$page for staff" "$(kind $staff $page)" '200 *'
+done
+compare 'a script that writes pages' "$(kind $staff staff.py)" '404 *'
+compare 'the settings of the base' "$(kind $staff venue.toml)" '404 *'
+compare 'what a browser may load' "$(curl -ksI --interface $staff -X GET "${at%/v1}/staff.html" | grep -ci "^content-security-policy: default-src 'none'")" 1
 # At a rate of 10 a second with 40 at once, most of three hundred questions are refused.
 many=$(printf "$at/version %.0s" {1..300})
-compare 'many questions' "$(curl -ks --max-time 20 -w '\n%{http_code}\n' $many | grep -x '[0-9]\+' | sort -u | tr '\n' ' ')" '200 429 '
+statuses() { # addresses
+    curl -ks --max-time 20 -w '\n%{http_code}\n' "$@" | grep -x '[0-9]\+' | sort -u | tr '\n' ' '
+}
+compare 'many questions' "$(statuses $many)" '200 429 '
+# A hundred pages that ask what is closed are answered.
+compare 'many that watch' "$(statuses $(printf "$at/closures %.0s" {1..100}))" '200 '
 finish

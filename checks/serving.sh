@@ -8,7 +8,7 @@ closing='{"feature":"'$lift'","closed":true}'
 asked=0
 differences=0
 processes=()
-"$program" odd words >/dev/null # the launcher's first call builds
+"$program" check "$here/examples" station >/dev/null # the launcher's first call builds
 trap 'kill "${processes[@]}" 2>/dev/null; wait; rm -rf "$work"' EXIT
 
 # Ends the script where a program that it needs isn't there.

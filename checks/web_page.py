@@ -64,10 +64,11 @@ class Between(http.server.ThreadingHTTPServer):
     """Stands between nginx and the server, and exchanges something of a reply where a test asks for it."""
     daemon_threads = True
     change = None  # from a path and the body of a reply to another body, or None for a connection that ends without one
+    post = None  # from a path and what passes a change on to what comes back, a status and a body, or None as above
 
     def __init__(self, port, server):
         super().__init__(("127.0.0.1", port), Passing)
-        self.server_port_behind = server
+        self.server_port_behind, self.posts = server, []
         threading.Thread(target=self.serve_forever, daemon=True).start()
 
 
@@ -76,6 +77,15 @@ class Passing(http.server.BaseHTTPRequestHandler):
         status, body = ask(self.server.server_port_behind, self.path)
         if self.server.change:
             body = self.server.change(self.path, body)
+        self.reply(status, body)
+
+    def do_POST(self):
+        body, key = self.rfile.read(int(self.headers["content-length"])), self.headers.get("x-staff-key")
+        self.server.posts.append((self.path, json.loads(body)))
+        passes = lambda: asked(self.server.server_port_behind, "POST", self.path, body, key)
+        self.reply(*(self.server.post(self.path, passes) if self.server.post else passes()) or (0, None))
+
+    def reply(self, status, body):
         self.close_connection = True
         if body is not None:
             self.wfile.write(b"HTTP/1.0 %d OK\r\ncontent-type: application/json\r\ncontent-length: %d\r\n\r\n" % (status, len(body)) + body)
@@ -86,8 +96,12 @@ class Passing(http.server.BaseHTTPRequestHandler):
 
 def ask(port, target, change=None):
     """The status and the body of a reply: to a question, or to a change with the key of the desk."""
+    return asked(port, "POST" if change else "GET", target, json.dumps(change) if change else None, "desk-key-1")
+
+
+def asked(port, method, target, body, key):
     link = http.client.HTTPConnection("127.0.0.1", port, timeout=20)
-    link.request("POST" if change else "GET", target, json.dumps(change) if change else None, {"x-staff-key": "desk-key-1", "connection": "close"})
+    link.request(method, target, body, {"x-staff-key": key or "", "connection": "close"})
     reply = link.getresponse()
     found = reply.status, reply.read()
     link.close()
@@ -97,12 +111,14 @@ def ask(port, target, change=None):
 class Site:
     """A venue as it is served: the program, what stands between, nginx, and the files that a test may break."""
 
+    staff = ""  # the network of staff, for site.py
+
     def __init__(self, program, folder, venue="station", base=None):
         self.base, self.files, self.served, self.venue, self.program = base or os.path.join(folder, "base"), os.path.join(folder, "site"), [], venue, program
         if base is None:
             self.copy_station()
         self.server, between, self.port = free_ports(3)
-        self.start([program, "serve", self.base, venue, f"127.0.0.1:{self.server}", "4", "100000"], self.server)
+        self.start_server()
         self.between = Between(between, self.server)
         self.write(f"127.0.0.1:{between}")
         self.start_nginx()
@@ -117,7 +133,7 @@ class Site:
 
     def write(self, server):
         """Runs site.py, and keeps what it prints."""
-        words = [sys.executable, os.path.join(EXAMPLES, "web", "site.py"), self.base, self.venue, self.files, str(self.port), server]
+        words = [sys.executable, os.path.join(EXAMPLES, "web", "site.py"), self.base, self.venue, self.files, str(self.port), server] + ([self.staff] if self.staff else [])
         ran = subprocess.run(words, capture_output=True, text=True, env=os.environ | {"VENUE": self.program})
         if ran.returncode:
             sys.exit(f"web_page: {ran.stdout}{ran.stderr}")
@@ -125,6 +141,9 @@ class Site:
         with open(os.path.join(self.files, "site.json"), encoding="utf-8") as file:
             self.about = json.load(file)
         self.data = os.path.join("data", self.about["mark"])
+
+    def start_server(self):
+        self.start([self.program, "serve", self.base, self.venue, f"127.0.0.1:{self.server}", "4", "100000"], self.server)
 
     def start_nginx(self):
         self.start(["nginx", "-p", self.files, "-e", "error.log", "-c", "nginx.conf", "-g", "daemon off;"], self.port)
@@ -176,12 +195,13 @@ class Site:
 
 class Page:
     """A browser with the page, and what is noted of it."""
+    file, told, logs = "", ("news", "answer", "trouble"), {}
 
     def __init__(self, size):
         options = webdriver.ChromeOptions()
         for word in ("--headless=new", "--no-sandbox", "--disable-dev-shm-usage", "--hide-scrollbars", "--disable-gpu", "--js-flags=--expose-gc", "--enable-precise-memory-info"):
             options.add_argument(word)
-        options.set_capability("goog:loggingPrefs", {"browser": "ALL"})
+        options.set_capability("goog:loggingPrefs", {"browser": "ALL"} | self.logs)
         self.site, self.name, self.differences, self.checks = None, size, [], 0
         self.driver = webdriver.Chrome(options=options, service=Service("/usr/bin/chromedriver"))
         self.agent = self.driver.execute_script("return navigator.userAgent")
@@ -209,7 +229,7 @@ class Page:
     def open(self, fragment="", waits=True):
         self.driver.get("about:blank")
         self.tell("Network.clearBrowserCache")
-        self.driver.get(f"http://127.0.0.1:{self.site.port}/{fragment}")
+        self.driver.get(f"http://127.0.0.1:{self.site.port}/{self.file}{fragment}")
         if waits:
             self.until("the page has begun", lambda: self.text("live") not in ("", "Loading the map …"))
 
@@ -255,7 +275,7 @@ class Page:
     def check(self, what, holds):
         self.checks += 1
         if not holds:
-            self.differences.append(f"{self.name}: {what}: news {self.text('news')!r}, answer {self.text('answer')!r}, trouble {self.text('trouble')!r}")
+            self.differences.append(f"{self.name}: {what}: " + ", ".join(f"{it} {self.text(it)!r}" for it in self.told))
 
     def until(self, what, holds, seconds=30):
         end = time.monotonic() + seconds
@@ -519,15 +539,26 @@ def refuses_in_words(page):
 
 
 def has_all_sentences(page):
-    """Both tables have the same keys, with the same values in them and all forms of a number; each key that the page says is there, each that is there is said."""
-    page.open()
-    tables = page.driver.execute_async_script("const done = arguments[0]; Promise.all([import('./en.js'), import('./de.js')]).then((all) => done(all.map((it) => ({ sentences: it.default.sentences, nouns: it.default.nouns }))))")
-    english, german = tables
     web = os.path.join(EXAMPLES, "web")
-    texts = {name: read(os.path.join(web, name)) for name in sorted(os.listdir(web)) if name.endswith((".js", ".html")) and name not in ("en.js", "de.js")}
+    texts = {name: read(os.path.join(web, name)) for name in sorted(os.listdir(web)) if name.endswith((".js", ".html")) and name not in ("en.js", "de.js", "staff.html")}
+    page.open()
+    compare_sentences(page, texts, tables_of(page))
+    weight = sum(len(text.encode()) for name, text in texts.items() if name != "texts.js") + sum(os.path.getsize(os.path.join(web, name)) for name in ("en.js", "de.js"))
+    page.check(f"page and script have {weight} bytes, at most 120,000", weight <= 120_000)
+
+
+def tables_of(page):
+    """The sentences and nouns of the open page, in English and in German."""
+    return page.driver.execute_async_script("const done = arguments[0]; Promise.all([import('./en.js'), import('./de.js')]).then((all) => done(all.map((it) => ({ sentences: it.default.sentences, nouns: it.default.nouns }))))")
+
+
+def compare_sentences(page, texts, tables, built=()):
+    """Both tables have the same keys, with the same values in them and all forms of a number; each key that the page says is there, each that is there is said.
+    `built` are keys that the page puts together."""
+    english, german = tables
     code = "\n".join(texts.values())
     said = set(re.findall(r"""(?:say|Trouble|hint:)\s*\(?"([a-z_.]+)\"""", code)) | {part.split("@")[0] for value in re.findall(r'data-say="([^"]+)"', code) for part in value.split()}
-    said |= {key for key in english["sentences"] if re.search(r"""["'`]""" + re.escape(key) + r"""["'`]""", code)}
+    said |= set(built) | {key for key in english["sentences"] if re.search(r"""["'`]""" + re.escape(key) + r"""["'`]""", code)}
     said |= {key for key in english["sentences"] for start in re.findall(r"say\((?:\w+\.)?`([a-z.]+)\$", code) if key.startswith(start)} | {f"{key}.here" for key in ("from", "to")}
     clauses = set(re.findall(r"""need\(.*, ["`]([a-z]+)""", texts["check.js"])) | {"link", "table"}
     page.check(f"each clause has its sentence: {sorted(clauses)}", clauses == {key[6:] for key in english["sentences"] if key.startswith("fails.")})
@@ -541,8 +572,6 @@ def has_all_sentences(page):
         other, forms = german["sentences"].get(key, ""), lambda it: [it] if isinstance(it, str) else [it[form] for form in ("one", "other")]
         page.check(f"{key} has equal values", [values(text) for text in forms(entry)] == [values(text) for text in forms(other)])
     page.check("each noun has its gender", all(re.match("[mfnp] ", text) for text in german["nouns"].values()))
-    weight = sum(len(text.encode()) for name, text in texts.items() if name != "texts.js") + sum(os.path.getsize(os.path.join(web, name)) for name in ("en.js", "de.js"))
-    page.check(f"page and script have {weight} bytes, at most 120,000", weight <= 120_000)
 
 
 def tells_turns(page):
@@ -915,25 +944,33 @@ def printed(path, words):
 
 
 def main(words):
-    lacking = [name for name in ("chromium", "chromedriver", "nginx") if not shutil.which(name)] + ([] if webdriver else ["python3-selenium"])
-    if lacking:
-        print(f"web_page: skipped, since there is no {' or '.join(lacking)}")
+    if words[1:] == ["large"] and not lacking():
+        return measures_large(os.path.abspath(words[0]))
+    return take_looks("web_page", words, LOOKS, Page, Site, LONGEST)
+
+
+def lacking():
+    return [name for name in ("chromium", "chromedriver", "nginx") if not shutil.which(name)] + ([] if webdriver else ["python3-selenium"])
+
+
+def take_looks(name, words, looks, make_page, make_site, longest):
+    """Takes the looks of each size, or those named, at the page of a site, prints what came of them, and returns the status."""
+    if lacking():
+        print(f"{name}: skipped, since there is no {' or '.join(lacking())}")
         return 0
     program, checks, differences = os.path.abspath(words[0] if words else os.path.join(TOP, "venue")), 0, []
-    if words[1:] == ["large"]:
-        return measures_large(program)
     with tempfile.TemporaryDirectory() as folder:
-        site, told, only, late, first = Site(program, os.path.join(folder, "station")), [], words[1:], [], time.monotonic()
+        site, told, only, late, first = make_site(program, os.path.join(folder, "station")), [], words[1:], [], time.monotonic()
         try:
             for size in SIZES:
-                page = Page(size)
+                page = make_page(size)
                 page.site = site
                 try:
-                    for look in LOOKS[size]:
+                    for look in looks[size]:
                         if only and look.__name__ not in only:
                             continue
                         begun = time.monotonic()
-                        if begun > first + LONGEST and not only:
+                        if begun > first + longest and not only:
                             late.append(look.__name__)
                             continue
                         told += look(page) or []
@@ -947,8 +984,8 @@ def main(words):
     for line in differences:
         print(line, file=sys.stderr)
     if late:
-        told.append(f"left out after {LONGEST} s: {' '.join(late)}")
-    print(f"web_page: {', '.join([f'{checks} checks at two sizes', *told, f'{len(differences)} differences'])}")
+        told.append(f"left out after {longest} s: {' '.join(late)}")
+    print(f"{name}: {', '.join([f'{checks} checks at two sizes', *told, f'{len(differences)} differences'])}")
     return 1 if differences else 0
 
 

@@ -1,5 +1,5 @@
 #!/usr/bin/env python3
-"""Checks the body of a route's reply, asked for with certificate=yes, from docs/FORMATS.md alone. It shares no code with the program.
+"""Checks the body of a route's reply, asked for with certificate=yes, from docs/HTTP.md and docs/FORMATS.md alone. It shares no code with the program.
 
 usage: route_reply.py REPLY LINKS CLOSURES [OCCUPANTS]
 REPLY has the body; LINKS what `venue links` prints for the profile that the reply names, of the folder that was published last, or the

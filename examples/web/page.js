@@ -1,29 +1,16 @@
 // The page: it asks for ways, and draws and tells those alone that check.js proves.
 import { judgeReply } from "./check.js";
-import { LANGUAGES, chosenOf, clock, date, label, list, say, speak, spoken, upper } from "./words.js";
-import { Trouble, ask, features, isOfSite, keep, kept, levelOf, nodesOf, passagesOf, placesOf, readSite, sentence, server, site, tableFor } from "./store.js";
+import { chosenOf, clock, date, label, list, say, spoken, upper } from "./words.js";
+import { drawLanguages, icon, make, remembered, tellElements } from "./frame.js";
+import { Trouble, ask, features, featuresOf, isOfSite, keep, kept, levelOf, nodesOf, passagesOf, placesOf, readSite, sentence, server, site, tableFor, takeSite } from "./store.js";
 import { ALONG, iconOf, isPassage, labelOf, noun, signed, titleOf, titleWithLevel } from "./names.js";
 import { readIcons } from "./draw.js";
 import { drawAnew, drawLevels, drawNews, fit, listenToMap, ordinals, pictureOf, showLevel, shown } from "./map.js";
 import { indexPlaces, listenToField, placeAt, titleAt } from "./search.js";
 import { exactLength, legsOf, sentenceOf, spokenLength, spokenTime, stepsOf, sumOf } from "./way.js";
 
-const EVERY = 10_000, SOON = 3_000, RARELY = 60_000, TRIES = 3, MOST_COMPARED = 5_000;
+const EVERY = 10_000, WATCHED = 1_200, SOON = 3_000, RARELY = 60_000, TRIES = 3, MOST_COMPARED = 5_000;
 const $ = (id) => document.getElementById(id);
-
-/** Makes elements with attributes, of which null and false are none and a function is what an event calls, and children, of which null is none. */
-const maker = (create) => (name, attributes = {}, ...children) => {
-  const element = create(name);
-  for (const [key, value] of Object.entries(attributes)) {
-    if (typeof value === "function") element.addEventListener(key, value);
-    else if (value !== null && value !== false) element.setAttribute(key, value);
-  }
-  element.append(...children.filter((child) => child !== null));
-  return element;
-};
-const make = maker((name) => document.createElement(name));
-const draw = maker((name) => document.createElementNS("http://www.w3.org/2000/svg", name));
-const icon = (name) => draw("svg", { class: "icon", "aria-hidden": "true" }, draw("use", { href: `icons.svg#${name}` }));
 
 // What is asked for, what was answered, and what is wrong.
 const state = { from: null, to: null, profile: null, turn: 0, answer: null, faults: [], silent: null, isLoading: false, isRenewing: false, isOld: null, waiting: null,
@@ -31,32 +18,17 @@ const state = { from: null, to: null, profile: null, turn: 0, answer: null, faul
 
 // ---- The words of the page around
 
-const remembered = () => { try { return localStorage.getItem("language"); } catch { return null; } };
 const profileName = (profile) => (profile === "walk" || profile === "wheelchair" ? say(`profile.${profile}`) : upper(profile.replace(/[-_]/g, " ")));
 
 /** Puts the page into a language: all that stands in it now, and all that is told from now on. */
 function tellPage(language) {
-  speak(language);
-  for (const element of document.querySelectorAll("[data-say]")) for (const rule of element.dataset.say.split(" ")) {
-    const [key, attribute] = rule.split("@");
-    if (attribute) element.setAttribute(attribute, say(key));
-    else element.textContent = say(key);
-  }
+  tellElements(language);
   $("venue").textContent = document.title = (site.name && label(site.name, site.language)?.text) || (site.folder ? upper(site.folder) : say("map"));
   if (!site.mark) return;
   drawProfiles();
   drawLegend();
   drawLevels(make, icon, (ordinal) => show(ordinal));
   for (const key of ["from", "to"]) $(key).value = titleAt(state[key]);
-}
-
-function drawLanguages() {
-  const choice = make("select", { "aria-label": say("choose.language"), "data-say": "choose.language@aria-label", change: ({ target }) => {
-    try { localStorage.setItem("language", target.value); } catch { /* it is asked for again next time */ }
-    tellAnew(target.value);
-  } }, ...Object.entries(LANGUAGES).map(([tag, name]) => make("option", { value: tag, lang: tag, title: name, "aria-label": name }, tag.toUpperCase())));
-  choice.value = spoken();
-  $("language").replaceChildren(choice);
 }
 
 async function tellAnew(language) {
@@ -238,6 +210,7 @@ function showAnswer(answer, before) {
   $("answer").querySelectorAll("button")[focused]?.focus();
   tellLive();
   drawClosures();
+  if (isProved) listenLater();
   if (isProved && !isRoute) fit();
   if (isRoute && answer.steps.length && JSON.stringify(before?.steps) !== JSON.stringify(answer.reply.steps)) pick(answer, null);
   else drawNews();
@@ -314,9 +287,8 @@ function boxOn({ steps }, ordinal, step) {
 }
 
 async function drawClosures() {
-  const ids = server.closures.closures, { numbers, partOf } = ids.length ? await nodesOf().catch(() => ({ numbers: new Map() })) : {};
-  await Promise.all([...new Set(ids.filter((id) => numbers.has(id)).map((id) => partOf[numbers.get(id)]))].map(levelOf)).catch(note);
-  if (ids.length) await passagesOf().catch(note);
+  const ids = server.closures.closures;
+  await featuresOf(ids).catch(note);
   if (ids !== server.closures.closures) return;
   $("closures").replaceChildren(...(ids.length ? [make("h2", {}, icon("closed"), say("closed.now")), make("ul", {}, ...ids.map((id) => make("li", {}, titleWithLevel(id))))] : []));
   drawNews();
@@ -388,7 +360,7 @@ async function poll() {
   if (isOther && isLate && state.from && state.to) await findWay(state.answer ?? { reply: {} });
 }
 
-/** Asks now, and again after a while: soon where something is to come back. */
+/** Asks now, and again after a while. */
 async function listen() {
   clearTimeout(state.next);
   try {
@@ -399,7 +371,13 @@ async function listen() {
     state.silent = trouble;
   }
   tellLive();
-  state.next = setTimeout(() => (document.hidden ? null : listen()), state.silent || state.isRenewing ? SOON : EVERY);
+  listenLater();
+}
+
+/** Asks again after a while: soon where something is to come back, and sooner while an answer is shown, since something on the way may be closed at any moment. */
+function listenLater() {
+  clearTimeout(state.next);
+  state.next = setTimeout(() => (document.hidden ? null : listen()), state.silent || state.isRenewing ? SOON : state.answer ? WATCHED : EVERY);
 }
 
 // ---- The start
@@ -409,7 +387,7 @@ async function start() {
   state.isLoading = true;
   tellLive();
   try {
-    Object.assign(site, await readSite());
+    takeSite(await readSite());
     readAddress();
     tellPage(spoken());
     fit();
@@ -445,7 +423,7 @@ addEventListener("hashchange", () => { readAddress(); drawProfiles(); askAnew();
 document.addEventListener("visibilitychange", () => document.hidden || listen());
 addEventListener("beforeprint", () => drawPaper());
 tellPage(chosenOf([remembered(), ...navigator.languages]));
-drawLanguages();
+drawLanguages(tellAnew);
 listenToMap(newsOf, offer);
 showAnswer(null);
 navigator.serviceWorker?.register("sw.js").catch(() => null);

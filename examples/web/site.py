@@ -1,13 +1,15 @@
 #!/usr/bin/env python3
 """Writes what nginx serves for the page: the venue cut into levels, the tables of links of all profiles cut the same way, and nginx.conf.
 
-usage: site.py BASE FOLDER SITE [PORT [SERVER]]
-Without these two the page is at port 8080 and the server at 127.0.0.1:7070. The program is that of the variable VENUE, else the launcher
+usage: site.py BASE FOLDER SITE [PORT [SERVER [STAFF]]]
+Without these the page is at port 8080, the server at 127.0.0.1:7070, and nobody gets the page of staff or changes anything; STAFF is the
+network from which that may be, as 10.0.0.0/8, or several with a comma between. The program is that of the variable VENUE, else the launcher
 ./venue. Run it again with each publication, with the folder that is published. Of BASE/venue.toml it takes what the page draws and says
 by, and never the keys of staff. It prints what it wrote. What can't be served it says in words, of a folder that is rejected also what
 `venue links` prints, and then nothing is written.
 """
 import hashlib
+import ipaddress
 import json
 import os
 import re
@@ -17,6 +19,7 @@ import sys
 import tomllib
 
 from cut import BETWEEN, Cut, nodes_text
+from files import Refused, compact, read, write
 
 HERE = os.path.dirname(os.path.abspath(__file__))
 PROGRAM = os.environ.get("VENUE") or os.path.join(HERE, "..", "..", "venue")
@@ -24,27 +27,6 @@ PASSAGES = ["elevator", "escalator", "movingwalkway", "ramp", "stairs", "travers
 SOLID = {"opentobelow", "column", "brick", "concrete", "drywall", "glass", "wood", "structure", "vegetation"}
 MOST_PART = 67_108_864
 KEPT = 2  # sites of earlier publications that pages may still have open
-
-
-class Refused(Exception):
-    """Why no site is written, in words."""
-
-
-def read(path):
-    with open(path, "rb") as file:
-        return file.read()
-
-
-def write(path, data):
-    """Whoever reads meanwhile gets the old bytes or the new ones, whole."""
-    os.makedirs(os.path.dirname(path), exist_ok=True)
-    with open(path + ".new", "wb") as file:
-        file.write(data)
-    os.replace(path + ".new", path)
-
-
-def compact(value):
-    return json.dumps(value, ensure_ascii=False, separators=(",", ":")).encode()
 
 
 def settings(base):
@@ -194,6 +176,14 @@ def run(*words):
         raise Refused(f"the program {PROGRAM} can't be run: {error}") from error
 
 
+def staff_rules(networks):
+    """The lines of nginx that let these networks in and nobody else."""
+    try:
+        return " ".join([*(f"allow {ipaddress.ip_network(it)};" for it in networks.split(",") if it), "deny all;"])
+    except ValueError as error:
+        raise Refused(f"the network of staff {networks} is none: {error}") from error
+
+
 def need_accepted(base, folder):
     said = run("check", base, folder).communicate()[0]
     if not said.startswith(b"accepted "):
@@ -249,11 +239,11 @@ def files_of(base, folder, told):
     return found, links, largest
 
 
-def main(base, folder, site, port="8080", server="127.0.0.1:7070"):
-    site, told = os.path.abspath(site), settings(base)
+def main(base, folder, site, port="8080", server="127.0.0.1:7070", staff=""):
+    site, told, rules = os.path.abspath(site), settings(base), staff_rules(staff)
     written, links, largest = files_of(base, folder, told)
     conf = read(os.path.join(HERE, "nginx.conf.in")).decode()
-    words = {"SITE": site, "WEB": HERE, "PORT": port, "SERVER": server, "USER": "user root;" if os.geteuid() == 0 else ""}
+    words = {"SITE": site, "WEB": HERE, "PORT": port, "SERVER": server, "STAFF": rules, "USER": "user root;" if os.geteuid() == 0 else ""}
     for word, text in words.items():
         conf = conf.replace(f"@{word}@", text)
     # site.json comes last: until then a page that is open, or opened, has the files of before, whole.
@@ -270,7 +260,7 @@ def main(base, folder, site, port="8080", server="127.0.0.1:7070"):
 
 
 if __name__ == "__main__":
-    if not 4 <= len(sys.argv) <= 6:
+    if not 4 <= len(sys.argv) <= 7:
         sys.exit(__doc__)
     try:
         main(*sys.argv[1:])

@@ -47,6 +47,13 @@ async function read(name) {
 }
 const readJson = async (name) => parsed((await read(name)) ?? "", "file.unread", { name });
 
+/** Begins anew with these settings of the site: nothing of an earlier publication is held any more. */
+export function takeSite(told) {
+  Object.assign(site, told);
+  for (const held of [features, levels, fetched, parts]) held.clear();
+  [nodes, passages, places] = [null, null, null];
+}
+
 /** The settings of the site as they are now. */
 export async function readSite() {
   const { status, text } = await get("site.json", "no-cache"), told = parsed(status === 200 ? text : "", "site.unread");
@@ -104,6 +111,14 @@ export const numbersOf = (ordinal) => site.levels.flatMap((level, number) => (le
 export async function passagesOf() {
   passages ??= readJson("passages.json").then((list) => new Map(list.map((it) => [it.id, { ...it, type: "relationship" }])));
   for (const [id, it] of await passages) if (!features.has(id)) features.set(id, it);
+}
+
+/** Has the features with these identifiers there: the levels of those that are nodes, and the passages. */
+export async function featuresOf(ids) {
+  if (!ids.length) return;
+  const { numbers, partOf } = await nodesOf().catch(() => ({ numbers: new Map() }));
+  await Promise.all([...new Set(ids.filter((id) => numbers.has(id)).map((id) => partOf[numbers.get(id)]))].map(levelOf));
+  await passagesOf();
 }
 
 /** The places that can be searched for, as objects, and by their identifiers. */

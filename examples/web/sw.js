@@ -1,6 +1,6 @@
 // Answers from what the page kept, where the network doesn't. It keeps the page's own files; the files of a way are kept by store.js.
 const KEPT = "kept";
-const PAGE = ["./", "style.css", "page.js", "check.js", "words.js", "en.js", "de.js", "store.js", "names.js", "draw.js", "map.js", "search.js", "way.js", "icons.svg", "icon.svg", "site.json"];
+const PAGE = ["./", "style.css", "page.js", "check.js", "frame.js", "words.js", "en.js", "de.js", "store.js", "names.js", "draw.js", "map.js", "search.js", "way.js", "icons.svg", "icon.svg", "site.json"];
 
 self.addEventListener("install", (event) => event.waitUntil(caches.open(KEPT).then((store) => store.addAll(PAGE)).then(() => self.skipWaiting())));
 self.addEventListener("activate", (event) => event.waitUntil(self.clients.claim()));
@@ -18,6 +18,7 @@ async function answer(request, isOfPage) {
 
 self.addEventListener("fetch", (event) => {
   const { origin, pathname } = new URL(event.request.url);
-  if (event.request.method !== "GET" || origin !== location.origin || pathname.includes("/v1/")) return;
+  // Of the staff's page nothing is kept.
+  if (event.request.method !== "GET" || origin !== location.origin || pathname.includes("/v1/") || /\/(staff[./]|folders\/)/.test(pathname)) return;
   event.respondWith(answer(event.request, !pathname.includes("/data/")));
 });

@@ -4,6 +4,11 @@ import de from "./de.js";
 
 const TABLES = { en, de };
 export const LANGUAGES = Object.fromEntries(Object.entries(TABLES).map(([tag, { sentences }]) => [tag, sentences.language]));
+/** Adds the sentences of a further page, by language. */
+export function learn(sentences) {
+  for (const [tag, its] of Object.entries(sentences)) Object.assign(TABLES[tag].sentences, its);
+}
+
 const base = (tag) => tag.toLowerCase().split("-")[0];
 let table = en, tag = "en", plural = new Intl.PluralRules("en");
 
@@ -35,7 +40,7 @@ export const wordsOf = (category) => Object.values(TABLES).map(({ nouns, forms }
 const locale = () => navigator.languages.find((it) => base(it) === tag) ?? tag;
 export const number = (value, digits = 0) => value.toLocaleString(locale(), { minimumFractionDigits: digits, maximumFractionDigits: digits });
 export const list = (texts) => new Intl.ListFormat(tag).format(texts);
-export const clock = (time) => new Date(time).toLocaleTimeString(locale(), { hour: "2-digit", minute: "2-digit" });
+export const clock = (time, hasSeconds = false) => new Date(time).toLocaleTimeString(locale(), { hour: "2-digit", minute: "2-digit", second: hasSeconds ? "2-digit" : undefined });
 export const date = (time) => new Date(time).toLocaleString(locale(), { dateStyle: "medium", timeStyle: "short" });
 export const upper = (text) => text.charAt(0).toUpperCase() + text.slice(1);
 

@@ -18,7 +18,7 @@ use Rattle.link_graph.specs.declared.parts.Core.{Core}
 use Rattle.link_graph.specs.declared.parts.Door.{Door}
 use Rattle.link_graph.specs.Cores.{IsSoundCore, ends_in, barred_in, network_in}
 use Rattle.link_graph.specs.Facts.{IsNodeClosed, IsWayClosed}
-use Rattle.link_graph.specs.Marking.{chosen}
+use Rattle.link_graph.specs.Marking.{chosen, is_set}
 use Rattle.link_graph.specs.Networks.{joined_facts, link_facts}
 use Rattle.link_graph.proofs.AskingItems.{at_place}
 use Rattle.link_graph.proofs.AskingMarks.{from_chosen, chosen_exact}
@@ -48,11 +48,11 @@ open_exact : (b : Bool) {P : Type 0} → (P ↔ (b ≡ true)) → IsTrue (not b)
 open_exact true both = (λ h. absurd (true≢false (sym h)), λ none. absurd (none (both.1 refl)))
 open_exact false both = (λ h p. true≢false (sym (both.0 p)), λ none. refl)
 
-pub way_open : (marks : List Bool) (ids : List FeatureId) (via : ℕ) (id : FeatureId) → AllPairs (λ a b. a ≢ b) ids → slice_get ids via ≡ Some id → IsTrue (not (slice_index_or marks via false)) ↔ ¬ IsWayClosed ids (chosen marks ids) via
+pub way_open : (marks : List Bool) (ids : List FeatureId) (via : ℕ) (id : FeatureId) → AllPairs (λ a b. a ≢ b) ids → slice_get ids via ≡ Some id → IsTrue (not (slice_index_or marks via false)) ↔ ¬ IsWayClosed ids (chosen is_set marks ids) via
 way_open marks ids via id once there =
     let both = chosen_exact marks ids via id once there in
     open_exact (slice_index_or marks via false) (
-      λ closed. both.0 (subst (λ (x : FeatureId). Contains (chosen marks ids) x) (same_Some closed.0 id (sym closed.1 ∙ there)) closed.2),
+      λ closed. both.0 (subst (λ (x : FeatureId). Contains (chosen is_set marks ids) x) (same_Some closed.0 id (sym closed.1 ∙ there)) closed.2),
       λ marked. (id, there, both.1 marked),
     )
 
@@ -62,17 +62,17 @@ same_node : (nodes : List Node) (n : ℕ) (node other : Node) → slice_get node
 same_node nodes n node other here there = same_Some other node (sym there ∙ here)
 
 pub node_open : (marks : List Bool) (ids : List FeatureId) (nodes : List Node) (n k : ℕ) (node : Node) → AllPairs (λ a b. a ≢ b) ids → slice_get nodes n ≡ Some node → number_among ids node.id ≡ Some k
-    → IsTrue (not (slice_index_or marks k false)) ↔ ¬ IsNodeClosed nodes (chosen marks ids) n
+    → IsTrue (not (slice_index_or marks k false)) ↔ ¬ IsNodeClosed nodes (chosen is_set marks ids) n
 node_open marks ids nodes n k node once here is =
     let both = chosen_exact marks ids k node.id once (stands_there ids node.id k is) in
     open_exact (slice_index_or marks k false) (
-      λ closed. both.0 (subst (λ (other : Node). Contains (chosen marks ids) other.id) (same_node nodes n node closed.0 here closed.1) closed.2),
+      λ closed. both.0 (subst (λ (other : Node). Contains (chosen is_set marks ids) other.id) (same_node nodes n node closed.0 here closed.1) closed.2),
       λ marked. (node, here, both.1 marked),
     )
 
-pub node_always_open : (marks : List Bool) (ids : List FeatureId) (nodes : List Node) (n : ℕ) (node : Node) → slice_get nodes n ≡ Some node → number_among ids node.id ≡ None → ¬ IsNodeClosed nodes (chosen marks ids) n
+pub node_always_open : (marks : List Bool) (ids : List FeatureId) (nodes : List Node) (n : ℕ) (node : Node) → slice_get nodes n ≡ Some node → number_among ids node.id ≡ None → ¬ IsNodeClosed nodes (chosen is_set marks ids) n
 node_always_open marks ids nodes n node here is = λ closed.
-    let there = subst (λ (other : Node). Contains (chosen marks ids) other.id) (same_node nodes n node closed.0 here closed.1) closed.2 in
+    let there = subst (λ (other : Node). Contains (chosen is_set marks ids) other.id) (same_node nodes n node closed.0 here closed.1) closed.2 in
     let at = from_chosen marks ids node.id there in
     numbered ids node.id at.k at.there is
 
@@ -98,20 +98,20 @@ number_marked core n k count h e =
     let within = slice_get_within (closable_list core.nodes) k h.node.id (stands_there (closable_list core.nodes) h.node.id k h.is) in
     omega (arith, within, e)
 
-pub free_by_number : (core : Core) (marks : List Bool) (n k : ℕ) (set : Bool) → IsSoundCore core → HasNumber core n (Some k) → set ≡ slice_index_or marks k false → IsTrue (not set) ↔ ¬ IsNodeClosed (node_list core.nodes) (chosen marks (closable_list core.nodes)) n
+pub free_by_number : (core : Core) (marks : List Bool) (n k : ℕ) (set : Bool) → IsSoundCore core → HasNumber core n (Some k) → set ≡ slice_index_or marks k false → IsTrue (not set) ↔ ¬ IsNodeClosed (node_list core.nodes) (chosen is_set marks (closable_list core.nodes)) n
 free_by_number core marks n k set sound h e =
-    subst (λ (b : Bool). IsTrue (not b) ↔ ¬ IsNodeClosed (node_list core.nodes) (chosen marks (closable_list core.nodes)) n) (sym e)
+    subst (λ (b : Bool). IsTrue (not b) ↔ ¬ IsNodeClosed (node_list core.nodes) (chosen is_set marks (closable_list core.nodes)) n) (sym e)
     (node_open marks (closable_list core.nodes) (node_list core.nodes) n k h.node sound.once h.there h.is)
 
-pub free_without_number : (core : Core) (marks : List Bool) (n : ℕ) → HasNumber core n None → IsTrue true ↔ ¬ IsNodeClosed (node_list core.nodes) (chosen marks (closable_list core.nodes)) n
+pub free_without_number : (core : Core) (marks : List Bool) (n : ℕ) → HasNumber core n None → IsTrue true ↔ ¬ IsNodeClosed (node_list core.nodes) (chosen is_set marks (closable_list core.nodes)) n
 free_without_number core marks n h =
     let open_here = node_always_open marks (closable_list core.nodes) (node_list core.nodes) n h.node h.there h.is in
     (λ holds. open_here, λ none. refl)
 
-pub free_way : (core : Core) (marks : List Bool) (via : ℕ) (set : Bool) → IsSoundCore core → via < length (closable_list core.nodes) → set ≡ slice_index_or marks via false → IsTrue (not set) ↔ ¬ IsWayClosed (closable_list core.nodes) (chosen marks (closable_list core.nodes)) via
+pub free_way : (core : Core) (marks : List Bool) (via : ℕ) (set : Bool) → IsSoundCore core → via < length (closable_list core.nodes) → set ≡ slice_index_or marks via false → IsTrue (not set) ↔ ¬ IsWayClosed (closable_list core.nodes) (chosen is_set marks (closable_list core.nodes)) via
 free_way core marks via set sound within e =
     let there = at_place (closable_list core.nodes) via within in
-    subst (λ (b : Bool). IsTrue (not b) ↔ ¬ IsWayClosed (closable_list core.nodes) (chosen marks (closable_list core.nodes)) via) (sym e)
+    subst (λ (b : Bool). IsTrue (not b) ↔ ¬ IsWayClosed (closable_list core.nodes) (chosen is_set marks (closable_list core.nodes)) via) (sym e)
     (way_open marks (closable_list core.nodes) via there.0 sound.once there.1)
 
 -- what is joined of both doors and the way of a link

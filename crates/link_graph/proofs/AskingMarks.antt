@@ -4,22 +4,22 @@ use Rattle.std.specs.Prelude.{AllPairs, Contains, slice_get, slice_index_or}
 use Rattle.std.proofs.lemmas.Option.{same_Some}
 use Rattle.venue_types.specs.declared.feature_id.FeatureId.{FeatureId}
 use Rattle.rule_reports.proofs.Members.{Contains-nil, Contains-first, Contains-later, Contains-cons_cases}
-use Rattle.link_graph.specs.Marking.{chosen, marked}
+use Rattle.link_graph.specs.Marking.{chosen, is_set, marked}
 use Rattle.link_graph.specs.Networks.{Network}
 use Rattle.link_graph.proofs.AskingItems.{same_place}
 
 -- ---- a mark more
 
-chosen_cases : (mark : Bool) (marks : List Bool) (id : FeatureId) (ids : List FeatureId) (x : FeatureId) → Contains (chosen (mark ∷ marks) (id ∷ ids)) x → ((mark ≡ true) × (id ≡ x)) ⊎ Contains (chosen marks ids) x
-chosen_cases true marks id ids x h = elim (Contains-cons_cases id (chosen marks ids) x h) [ inl here ↦ inl (refl, here) | inr later ↦ inr later ]
+chosen_cases : (mark : Bool) (marks : List Bool) (id : FeatureId) (ids : List FeatureId) (x : FeatureId) → Contains (chosen is_set (mark ∷ marks) (id ∷ ids)) x → ((mark ≡ true) × (id ≡ x)) ⊎ Contains (chosen is_set marks ids) x
+chosen_cases true marks id ids x h = elim (Contains-cons_cases id (chosen is_set marks ids) x h) [ inl here ↦ inl (refl, here) | inr later ↦ inr later ]
 chosen_cases false marks id ids x h = inr h
 
-chosen_first : (mark : Bool) (marks : List Bool) (id : FeatureId) (ids : List FeatureId) → mark ≡ true → Contains (chosen (mark ∷ marks) (id ∷ ids)) id
-chosen_first true marks id ids h = Contains-first id (chosen marks ids)
+chosen_first : (mark : Bool) (marks : List Bool) (id : FeatureId) (ids : List FeatureId) → mark ≡ true → Contains (chosen is_set (mark ∷ marks) (id ∷ ids)) id
+chosen_first true marks id ids h = Contains-first id (chosen is_set marks ids)
 chosen_first false marks id ids h = absurd (true≢false (sym h))
 
-chosen_later : (mark : Bool) (marks : List Bool) (id : FeatureId) (ids : List FeatureId) (x : FeatureId) → Contains (chosen marks ids) x → Contains (chosen (mark ∷ marks) (id ∷ ids)) x
-chosen_later true marks id ids x h = Contains-later id (chosen marks ids) x h
+chosen_later : (mark : Bool) (marks : List Bool) (id : FeatureId) (ids : List FeatureId) (x : FeatureId) → Contains (chosen is_set marks ids) x → Contains (chosen is_set (mark ∷ marks) (id ∷ ids)) x
+chosen_later true marks id ids x h = Contains-later id (chosen is_set marks ids) x h
 chosen_later false marks id ids x h = h
 
 -- ---- what is chosen is marked at its number
@@ -30,7 +30,7 @@ pub record IsMarkedAt (marks : List Bool) (ids : List FeatureId) (x : FeatureId)
   pub there : slice_get ids k ≡ Some x
   pub closed : slice_index_or marks k false ≡ true
 
-pub from_chosen : (marks : List Bool) (ids : List FeatureId) (x : FeatureId) → Contains (chosen marks ids) x → IsMarkedAt marks ids x
+pub from_chosen : (marks : List Bool) (ids : List FeatureId) (x : FeatureId) → Contains (chosen is_set marks ids) x → IsMarkedAt marks ids x
 from_chosen marks [] x h = absurd (Contains-nil x h)
 from_chosen [] (id ∷ ids) x h = absurd (Contains-nil x h)
 from_chosen (mark ∷ marks) (id ∷ ids) x h = elim (chosen_cases mark marks id ids x h) [
@@ -38,13 +38,13 @@ from_chosen (mark ∷ marks) (id ∷ ids) x h = elim (chosen_cases mark marks id
   | inr later ↦ let rest = from_chosen marks ids x later in record { k = suc rest.k; there = rest.there; closed = rest.closed }
 ]
 
-pub to_chosen : (marks : List Bool) (ids : List FeatureId) (k : ℕ) (x : FeatureId) → slice_get ids k ≡ Some x → slice_index_or marks k false ≡ true → Contains (chosen marks ids) x
+pub to_chosen : (marks : List Bool) (ids : List FeatureId) (k : ℕ) (x : FeatureId) → slice_get ids k ≡ Some x → slice_index_or marks k false ≡ true → Contains (chosen is_set marks ids) x
 to_chosen marks [] k x there closed = absurd (let no : None ≡ Some x = there in cc)
 to_chosen [] (id ∷ ids) k x there closed = absurd (true≢false (sym closed))
-to_chosen (mark ∷ marks) (id ∷ ids) zero x there closed = subst (λ (y : FeatureId). Contains (chosen (mark ∷ marks) (id ∷ ids)) y) (same_Some id x there) (chosen_first mark marks id ids closed)
+to_chosen (mark ∷ marks) (id ∷ ids) zero x there closed = subst (λ (y : FeatureId). Contains (chosen is_set (mark ∷ marks) (id ∷ ids)) y) (same_Some id x there) (chosen_first mark marks id ids closed)
 to_chosen (mark ∷ marks) (id ∷ ids) (suc k) x there closed = chosen_later mark marks id ids x (to_chosen marks ids k x there closed)
 
-pub none_chosen : (n : ℕ) (ids : List FeatureId) → chosen (replicate n false) ids ≡ []
+pub none_chosen : (n : ℕ) (ids : List FeatureId) → chosen is_set (replicate n false) ids ≡ []
 none_chosen n [] = refl
 none_chosen zero (id ∷ ids) = refl
 none_chosen (suc n) (id ∷ ids) = none_chosen n ids
@@ -52,7 +52,7 @@ none_chosen (suc n) (id ∷ ids) = none_chosen n ids
 -- ---- where each identifier stands once
 
 -- the identifier at a number is chosen exactly where that number is marked
-pub chosen_exact : (marks : List Bool) (ids : List FeatureId) (k : ℕ) (x : FeatureId) → AllPairs (λ a b. a ≢ b) ids → slice_get ids k ≡ Some x → Contains (chosen marks ids) x ↔ (slice_index_or marks k false ≡ true)
+pub chosen_exact : (marks : List Bool) (ids : List FeatureId) (k : ℕ) (x : FeatureId) → AllPairs (λ a b. a ≢ b) ids → slice_get ids k ≡ Some x → Contains (chosen is_set marks ids) x ↔ (slice_index_or marks k false ≡ true)
 chosen_exact marks ids k x once there = (
   λ h.
       let at = from_chosen marks ids x h in

@@ -7,19 +7,19 @@ use Rattle.venue_types.specs.declared.link.Link.{Link}
 use Rattle.venue_types.specs.declared.settings.Profile.{Profile}
 use Rattle.link_graph.specs.declared.stretches.Way.{Way}
 use Rattle.link_graph.specs.declared.stretches.Way.TheVariants.{Inside}
-use Rattle.link_graph.specs.Marking.{chosen, marked}
+use Rattle.link_graph.specs.Marking.{chosen, is_set, marked}
 use Rattle.link_graph.specs.Networks.{Network, GoesBy, IsPassable}
 use Rattle.route_search.specs.Scans.{IsVia, IsPassedOver}
 use Rattle.route_search.proofs.Items.{kept_first, kept_later}
 
 chosen_at : (marks : List Bool) (ids : List FeatureId) (k : ℕ) → k < length ids → slice_index_or marks k false ≡ true
-    → (id : FeatureId) × (slice_get ids k ≡ Some id) × Contains (chosen marks ids) id
+    → (id : FeatureId) × (slice_get ids k ≡ Some id) × Contains (chosen is_set marks ids) id
 chosen_at marks [] k within on = absurd (omega arith)
 chosen_at [] (id ∷ ids) k within on = absurd (let e : false ≡ true = on in cc)
-chosen_at (mark ∷ marks) (id ∷ ids) zero within on = (id, refl, kept_first mark id (chosen marks ids) on)
+chosen_at (mark ∷ marks) (id ∷ ids) zero within on = (id, refl, kept_first mark id (chosen is_set marks ids) on)
 chosen_at (mark ∷ marks) (id ∷ ids) (suc k) within on =
     let (i, is, has) = chosen_at marks ids k (omega arith) on in
-    (i, is, kept_later mark id (chosen marks ids) i has)
+    (i, is, kept_later mark id (chosen is_set marks ids) i has)
 
 goes_inside : (given : Network) (way : Way) (via : ℕ) (kind : Kind) (restricted : Bool) (link : Link) → way ≡ Inside via kind restricted → GoesBy given way link
     → GoesBy given (Inside via kind restricted) link

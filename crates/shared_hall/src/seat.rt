@@ -13,7 +13,7 @@ use venue_hall::{Asks, Hall};
 use venue_ports::Folders;
 use venue_types::{Change, Query, Reply};
 
-/// Who has it may ask without waiting, and take the lock for a change.
+/// What one worker serves with: it answers questions without waiting, and takes the hall's lock to make a change.
 #[derive(Drop)]
 pub struct SeatIn<'a, N: HallName, F: Folders, Q: Reads, W: Writes, R> {
     pass: PassOf<N, Q>,

@@ -1,6 +1,7 @@
-//! Tests of what everything stands on: types, the outside, text forms, walks, numbers, JSON, reports, certificates.
+//! Tests of what everything stands on: types, the outside, text forms, walks, numbers, JSON, drafts, reports, certificates.
 #![tactic(auto)]
 
+// A module for each crate at the bottom.
 #[cfg(test)]
 mod building_files;
 #[cfg(test)]
@@ -9,6 +10,8 @@ mod certificates;
 mod decimals;
 #[cfg(test)]
 mod disks;
+#[cfg(test)]
+mod drafts;
 #[cfg(test)]
 mod json_texts;
 #[cfg(test)]

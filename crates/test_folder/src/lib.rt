@@ -1,6 +1,7 @@
 //! Tests of a folder read and judged: geometries, categories, settings, rows, references, rings, containment, and the lines of a report.
 #![tactic(auto)]
 
+// A module for what each crate of the folder's reading and judging does.
 #[cfg(test)]
 mod access;
 #[cfg(test)]

@@ -4,7 +4,7 @@ ghost use Rattle.std.specs.Prelude.{◌≡◌, IfOk, length};
 
 use std::alloc::{AllocError, Global};
 use std::test::Fail;
-use test_station::{AMENITY, LEVEL, MANIFEST, OPENING, UNIT, VENUE};
+use test_station::{AMENITY, LEVEL, MANIFEST, OPENING, RELATIONSHIP, UNIT, VENUE};
 use venue_types::{Bytes, Files, List, Slot};
 
 /// A position in nanodegrees.
@@ -19,6 +19,7 @@ pub(crate) struct Folder {
     pub amenities: String,
     pub levels: String,
     pub openings: String,
+    pub relationships: String,
     pub units: String,
 }
 
@@ -29,6 +30,7 @@ impl Folder {
             amenities: String::new(alloc),
             levels: String::new(alloc),
             openings: String::new(alloc),
+            relationships: String::new(alloc),
             units: String::new(alloc),
         }
     }
@@ -76,6 +78,7 @@ fn slot(alloc: Global, folder: &Folder, file: usize) -> Result<Slot, AllocError>
         AMENITY => collection(alloc, folder.amenities.as_str()),
         LEVEL => collection(alloc, folder.levels.as_str()),
         OPENING => collection(alloc, folder.openings.as_str()),
+        RELATIONSHIP => collection(alloc, folder.relationships.as_str()),
         UNIT => collection(alloc, folder.units.as_str()),
         VENUE => venue(alloc),
         _ => Ok(Slot::Absent),
@@ -148,4 +151,37 @@ pub(crate) fn polygon(
         add(&mut rings, positions(alloc, hole)?.as_str())?;
     }
     format!(in alloc; "{{\"type\":\"Polygon\",\"coordinates\":[{rings}]}}")
+}
+
+/// An opening of a level.
+pub(crate) fn opening(
+    alloc: Global,
+    number: usize,
+    level: usize,
+    points: &[Place],
+) -> Result<String, AllocError> {
+    let line = line(alloc, points)?;
+    let level = name(alloc, level)?;
+    let properties = format!(in alloc; "\"level_id\":{level}")?;
+    feature(alloc, "opening", number, line.as_str(), properties.as_str())
+}
+
+/// A unit with one polygon, and at most one hole.
+pub(crate) fn unit(
+    alloc: Global,
+    number: usize,
+    level: usize,
+    category: &str,
+    outer: &[Place],
+    hole: &[Place],
+) -> Result<String, AllocError> {
+    let shape = polygon(alloc, outer, hole)?;
+    let level = name(alloc, level)?;
+    let properties = format!(in alloc; "\"level_id\":{level},\"category\":\"{category}\"")?;
+    feature(alloc, "unit", number, shape.as_str(), properties.as_str())
+}
+
+/// The place so far east and north of one.
+pub(crate) fn moved(p: Place, x: i64, y: i64) -> Place {
+    (p.0.saturating_add(x), p.1.saturating_add(y))
 }

@@ -1,6 +1,7 @@
 //! Tests of touches, nodes, members, links and ways.
 #![tactic(auto)]
 
+// A module for each crate of the graph, and the venues that they share.
 #[cfg(test)]
 mod folders;
 #[cfg(test)]

@@ -2,7 +2,7 @@
 
 ghost use Rattle.std.specs.Prelude.{◌≡◌, IfOk, length};
 
-use crate::folders::{Folder, add, between, feature, name, point, polygon};
+use crate::folders::{self, Folder, add, between, feature, name, point, polygon};
 use crate::rows::{crowding_of, rows_of};
 use std::alloc::{AllocError, Global};
 use std::process::Abort;
@@ -58,7 +58,8 @@ fn counts_the_station_s_members(rt: HostRuntime) -> Result<(), Fail> {
     Ok(())
 }
 
-const LEVEL: usize = 10;
+/// The number of the one level.
+pub(crate) const LEVEL: usize = 10;
 
 /// The number of the first unit; those of amenities begin above all units.
 const FIRST_UNIT: usize = 1_000;
@@ -67,10 +68,8 @@ const FIRST_AMENITY: usize = 2_000;
 
 /// A box of this category.
 fn unit(alloc: Global, number: usize, category: &str) -> Result<String, AllocError> {
-    let shape = polygon(alloc, &between((0, 0), (1_000, 1_000)), &[])?;
-    let level = name(alloc, LEVEL)?;
-    let properties = format!(in alloc; "\"level_id\":{level},\"category\":\"{category}\"")?;
-    feature(alloc, "unit", number, shape.as_str(), properties.as_str())
+    let ring = between((0, 0), (1_000, 1_000));
+    folders::unit(alloc, number, LEVEL, category, &ring, &[])
 }
 
 /// Units behind a column, one of them a moving walkway.
@@ -110,7 +109,8 @@ fn amenity(alloc: Global, number: usize, units: &str) -> Result<String, AllocErr
     )
 }
 
-fn level(alloc: Global) -> Result<String, AllocError> {
+/// The whole venue as a level.
+pub(crate) fn level(alloc: Global) -> Result<String, AllocError> {
     let shape = polygon(alloc, &between((0, 0), (1_000_000, 600_000)), &[])?;
     feature(alloc, "level", LEVEL, shape.as_str(), "\"ordinal\":0")
 }

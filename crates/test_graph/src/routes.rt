@@ -3,6 +3,8 @@
 
 mod graph_rows;
 mod graphs;
+mod made_reaches;
+mod made_venues;
 mod reach_rows;
 mod reaches;
 mod search_rows;

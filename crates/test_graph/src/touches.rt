@@ -2,39 +2,12 @@
 
 ghost use Rattle.std.specs.Prelude.{◌≡◌, IfOk, length};
 
-use crate::folders::{Folder, Place, add, between, feature, line, name, polygon};
+use crate::folders::{Folder, Place, add, between, moved, opening, unit};
 use crate::rows::touches_of;
 use std::alloc::{AllocError, Global};
 use std::process::Abort;
 use std::test::Fail;
 use venue_types::{Files, List};
-
-/// An opening of a level.
-fn opening(
-    alloc: Global,
-    number: usize,
-    level: usize,
-    points: &[Place],
-) -> Result<String, AllocError> {
-    let line = line(alloc, points)?;
-    let level = name(alloc, level)?;
-    let properties = format!(in alloc; "\"level_id\":{level}")?;
-    feature(alloc, "opening", number, line.as_str(), properties.as_str())
-}
-
-/// A unit with one polygon, and at most one hole.
-fn unit(
-    alloc: Global,
-    number: usize,
-    level: usize,
-    outer: &[Place],
-    hole: &[Place],
-) -> Result<String, AllocError> {
-    let shape = polygon(alloc, outer, hole)?;
-    let level = name(alloc, level)?;
-    let properties = format!(in alloc; "\"level_id\":{level},\"category\":\"room\"")?;
-    feature(alloc, "unit", number, shape.as_str(), properties.as_str())
-}
 
 /// The number of the first unit; those of openings begin above all units.
 const FIRST_UNIT: usize = 1_000;
@@ -99,13 +72,16 @@ fn units_of(
         let ring = between(corner(*low, west), *high);
         add(
             &mut units,
-            unit(alloc, number, *level, &ring, &[])?.as_str(),
+            unit(alloc, number, *level, "room", &ring, &[])?.as_str(),
         )?;
         number = number.saturating_add(1);
     }
     let hole = between((600_000, 500_000), (620_000, 520_000));
     let floor = between((0, 450_000), (1_000_000, 600_000));
-    add(&mut units, unit(alloc, number, 10, &floor, &hole)?.as_str())?;
+    add(
+        &mut units,
+        unit(alloc, number, 10, "room", &floor, &hole)?.as_str(),
+    )?;
     Ok(units)
 }
 
@@ -295,14 +271,17 @@ fn squares(alloc: Global) -> Result<String, AllocError> {
     for j in 0..SQUARES {
         let (low, high) = square(j);
         let number = (j as usize).saturating_add(FIRST_UNIT);
-        let unit = unit(alloc, number, j as usize % 4, &between(low, high), &[])?;
+        let unit = unit(
+            alloc,
+            number,
+            j as usize % 4,
+            "room",
+            &between(low, high),
+            &[],
+        )?;
         add(&mut units, unit.as_str())?;
     }
     Ok(units)
-}
-
-fn moved(p: Place, x: i64, y: i64) -> Place {
-    (p.0.saturating_add(x), p.1.saturating_add(y))
 }
 
 /// The i-th of the openings near or off their sides, some of them with a bend.

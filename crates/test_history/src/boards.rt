@@ -3,7 +3,7 @@
 ghost use Rattle.std.specs.Prelude.{◌≡◌, IfOk};
 ghost use Rattle.venue_state.specs.Preparing.{HasSettings};
 
-use crate::station::{id, tail, venue_of};
+use crate::station::{closing, id, tail, venue_of};
 use std::alloc::Global;
 use std::process::Abort;
 use std::sync::Arc;
@@ -12,7 +12,7 @@ use test_station::{Edit, NO_LIFT, station_settings};
 use venue_history::Act;
 use venue_state::{Board, Unready};
 use venue_types::{
-    Ask, Class, FeatureId, Kind, PlaceRow, Query, Reply, Settings, StepRow, Text, Which,
+    Ask, Class, ClosedRow, FeatureId, Kind, PlaceRow, Query, Reply, Settings, StepRow, Text, Which,
 };
 
 // A feature is named by the last digits of its identifier. A step: where it leads, over what, its cost and its kind.
@@ -156,12 +156,8 @@ fn told_of(reply: &Reply) -> Told<'_> {
             places,
         } => Told::Version(*number, *closed, *places),
         Reply::Places { number, rows } => places_told(*number, rows.as_slice()),
-        Reply::Place {
-            number,
-            row,
-            closed,
-        } => place_told(*number, row, *closed),
-        Reply::Closures { number, .. } => Told::Closures(*number),
+        Reply::Place(told) => place_told(told.number, &told.row, told.closed),
+        Reply::Closures(told) => Told::Closures(told.number),
         Reply::Route {
             number,
             start,
@@ -181,9 +177,15 @@ fn told_of(reply: &Reply) -> Told<'_> {
     }
 }
 
+fn closed_in(reply: &Reply) -> &[ClosedRow] {
+    match reply {
+        Reply::Closures(told) => told.closed.as_slice(),
+        _ => &[],
+    }
+}
+
 fn listed_in(reply: &Reply) -> &[FeatureId] {
     match reply {
-        Reply::Closures { closed, .. } => closed.as_slice(),
         Reply::NoRoute {
             reached: Some(reached),
             ..
@@ -199,8 +201,13 @@ fn steps_in(reply: &Reply) -> &[StepRow] {
     }
 }
 
+fn judge_closed(rt: &impl Abort, found: &[ClosedRow], listed: &[u128]) {
+    for (found, tail) in found.iter().zip(listed) {
+        assert_eq!(rt; found.id, id(*tail));
+    }
+}
+
 fn judge_listed(rt: &impl Abort, found: &[FeatureId], listed: &[u128]) {
-    assert_eq!(rt; found.len(), listed.len());
     for (found, tail) in found.iter().zip(listed) {
         assert_eq!(rt; *found, id(*tail));
     }
@@ -221,14 +228,17 @@ fn judge_steps(rt: &impl Abort, found: &[StepRow], steps: &[Step]) {
 
 fn judge_reply(rt: &impl Abort, reply: &Reply, row: &Row) {
     assert_eq!(rt; told_of(reply), row.told);
-    judge_listed(rt, listed_in(reply), row.listed);
+    let (closed, listed) = (closed_in(reply), listed_in(reply));
+    assert_eq!(rt; closed.len().max(listed.len()), row.listed.len());
+    judge_closed(rt, closed, row.listed);
+    judge_listed(rt, listed, row.listed);
     judge_steps(rt, steps_in(reply), row.steps);
 }
 
 // A question has one answer, also beside a change that is ready and isn't made.
 fn judge_answer(rt: &impl Abort, alloc: Global, board: &Board, query: &Query, row: &Row) {
     judge_reply(rt, &board.ask(alloc, query), row);
-    let _ready = board.prepare(alloc, Act::Closed(id(0x0300)), 1);
+    let _ready = board.prepare(alloc, Act::Closed(closing(0x0300)), 1);
     judge_reply(rt, &board.ask(alloc, query), row);
 }
 
@@ -274,8 +284,8 @@ fn judge(
     ensures { IfOk result (λ _. board.new.settings ≡ settings.now) }
 {
     match row.deed {
-        Deed::Close(tail) => judge_change(rt, alloc, board, Act::Closed(id(tail)), row),
-        Deed::Reopen(tail) => judge_change(rt, alloc, board, Act::Reopened(id(tail)), row),
+        Deed::Close(tail) => judge_change(rt, alloc, board, Act::Closed(closing(tail)), row),
+        Deed::Reopen(tail) => judge_change(rt, alloc, board, Act::Reopened(closing(tail)), row),
         Deed::Publish(edits) => {
             let venue = venue_of(alloc, settings, edits)?;
             judge_change(rt, alloc, board, Act::Published(venue), row);

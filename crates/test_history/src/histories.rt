@@ -1,8 +1,8 @@
 //! Each law once.
 
 use venue_history::{
-    Act, Entry, act_law, answer_law, beginning_law, change_law, closed_law, entry_law, legal_law,
-    number_law, refusal_law, version_law,
+    Act, Closing, Entry, act_law, answer_law, beginning_law, change_law, closed_law, entry_law,
+    legal_law, number_law, refusal_law, version_law,
 };
 use venue_types::FeatureId;
 
@@ -20,7 +20,16 @@ fn the_laws_are_called(rt: HostRuntime) {
     refusal_law();
     let entry = Entry {
         worker: 1,
-        act: Act::Closed(FeatureId(7)),
+        act: Act::Closed(Closing {
+            feature: FeatureId(7),
+        }),
     };
-    assert!(rt; matches!(entry.act, Act::Closed(FeatureId(7))));
+    assert!(rt;
+        matches!(
+            entry.act,
+            Act::Closed(Closing {
+                feature: FeatureId(7)
+            })
+        )
+    );
 }

@@ -1,6 +1,7 @@
 //! Tests of histories, boards and halls.
 #![tactic(auto)]
 
+// A module for each kind of board and hall.
 #[cfg(test)]
 mod boards;
 #[cfg(test)]

@@ -7,7 +7,9 @@ use std::sync::Arc;
 use std::test::Fail;
 use test_station::station_settings;
 use venue_ports::{Folders, MemoryFolders};
-use venue_types::{Ask, Change, FeatureId, Finding, Query, Reply, Report, Text};
+use venue_types::{
+    Ask, Change, ClosedRow, Closure, FeatureId, Finding, Query, Reply, Report, Text,
+};
 use version_board::{Alone, Asks, Hall, Unopened, answered_law, changed_law};
 
 // What is done in a hall, or asked. A feature is named by the last digits of its identifier.
@@ -103,12 +105,12 @@ fn text(alloc: Global, text: &str) -> Result<Text, Fail> {
 
 fn change_told(reply: &Reply) -> Told {
     match reply {
-        Reply::ClosureDone {
-            number,
-            feature,
-            closed,
-            changed,
-        } => Told::Closure(*number, tail(*feature), *closed, *changed),
+        Reply::ClosureDone(done) => Told::Closure(
+            done.number,
+            tail(done.feature),
+            done.closed,
+            done.changed,
+        ),
         Reply::Published { number, .. } => Told::Published(*number),
         Reply::FolderFault { before, after } => Told::Fault(*before, *after),
         Reply::Rejected(report) => Told::Rejected(report.total),
@@ -125,16 +127,22 @@ fn told_of(reply: &Reply) -> Told {
             closed,
             places,
         } => Told::Version(*number, *closed, *places),
-        Reply::Closures { number, .. } => Told::Closures(*number),
+        Reply::Closures(told) => Told::Closures(told.number),
         Reply::Route { number, cost, .. } => Told::Route(*number, *cost),
         Reply::Ahead { since, number } => Told::Ahead(*since, *number),
         _ => change_told(reply),
     }
 }
 
+fn closed_in(reply: &Reply) -> &[ClosedRow] {
+    match reply {
+        Reply::Closures(told) => told.closed.as_slice(),
+        _ => &[],
+    }
+}
+
 fn listed_in(reply: &Reply) -> &[FeatureId] {
     match reply {
-        Reply::Closures { closed, .. } => closed.as_slice(),
         Reply::Published { dropped, .. } => dropped.as_slice(),
         _ => &[],
     }
@@ -150,18 +158,21 @@ fn findings_in(reply: &Reply) -> &[Finding] {
 fn judge_reply(rt: &impl Abort, reply: &Reply, row: &Row) {
     assert_eq!(rt; told_of(reply), row.told);
     assert_eq!(rt; findings_in(reply), row.findings);
-    let found = listed_in(reply);
-    assert_eq!(rt; found.len(), row.listed.len());
+    let (closed, found) = (closed_in(reply), listed_in(reply));
+    assert_eq!(rt; closed.len().max(found.len()), row.listed.len());
+    for (closed, tail) in closed.iter().zip(row.listed) {
+        assert_eq!(rt; closed.id, id(*tail));
+    }
     for (found, tail) in found.iter().zip(row.listed) {
         assert_eq!(rt; *found, id(*tail));
     }
 }
 
 fn closure(hall: &mut impl Hall, tail: u128, closed: bool) -> Reply {
-    hall.change(&Change::Closure {
+    hall.change(&Change::Closure(Closure {
         feature: id(tail),
         closed,
-    })
+    }))
 }
 
 fn publish(alloc: Global, hall: &mut impl Hall, folder: &str) -> Result<Reply, Fail> {

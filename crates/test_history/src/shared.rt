@@ -9,7 +9,7 @@ ghost use Rattle.shared_hall.specs.Copied.{entries_in, book_in};
 ghost use Rattle.shared_hall.specs.Openings.{HaveSettings};
 ghost use Rattle.shared_hall.specs.Offices.{parts_of};
 
-use crate::station::{folders, id, tail, venue_of};
+use crate::station::{closing, folders, id, tail, venue_of};
 use shared_hall::{
     Closed, Copies, HallName, Office, Opened, Pass, Seat, close_hall, first_law, following_law,
     open_hall, opening_entries,
@@ -26,7 +26,7 @@ use test_station::station_settings;
 use venue_history::{Act, Entry, entry_law, version_law};
 use venue_ports::{Folders, MemoryFolders};
 use venue_state::{Board, NextBoard};
-use venue_types::{Ask, Change, FeatureId, Query, Reply, Settings, Text};
+use venue_types::{Ask, Change, Closure, FeatureId, Query, Reply, Settings, Text};
 use version_board::{Asks, Hall};
 
 // Whose seat it is.
@@ -79,12 +79,7 @@ fn published(number: u32, dropped: &[FeatureId]) -> Told {
 
 fn told_of(reply: &Reply) -> Told {
     match reply {
-        Reply::ClosureDone {
-            number,
-            closed,
-            changed,
-            ..
-        } => Told::Closure(*number, *closed, *changed),
+        Reply::ClosureDone(done) => Told::Closure(done.number, done.closed, done.changed),
         Reply::Published { number, dropped } => published(*number, dropped.as_slice()),
         Reply::FolderFault { before, after } => Told::Fault(*before, *after),
         Reply::Rejected(report) => Told::Rejected(report.total),
@@ -98,10 +93,10 @@ fn told_of(reply: &Reply) -> Told {
 fn closure<H: Hall>(seat: &mut H, tail: u128, closed: bool) -> Told
     ensures { (H.facts seat.new).parts ≡ (H.facts seat.old).parts }
 {
-    let change = Change::Closure {
+    let change = Change::Closure(Closure {
         feature: id(tail),
         closed,
-    };
+    });
     told_of(&seat.change(&change))
 }
 
@@ -559,7 +554,7 @@ fn three_entries(alloc: Global, settings: &Arc<Settings>) -> Result<Vec<Entry>, 
     let venue = venue_of(alloc, settings, &[])?;
     let mut entries = opening_entries(alloc, Arc::try_clone(&venue)?)?;
     let first = Board::first(alloc, Arc::try_clone(&venue)?, Arc::try_clone(settings)?)?;
-    let second = entered(alloc, first, &mut entries, Act::Closed(id(0x0301)), 2)?;
+    let second = entered(alloc, first, &mut entries, Act::Closed(closing(0x0301)), 2)?;
     let _third = entered(alloc, second, &mut entries, Act::Published(venue), 1)?;
     Ok(entries)
 }

@@ -7,7 +7,7 @@ use std::alloc::Global;
 use std::sync::Arc;
 use std::test::Fail;
 use test_station::{Change, Edit, NO_LIFT, TALL, folder_files, slots_of};
-use venue_history::{Built, Venue, build};
+use venue_history::{Built, Closing, Venue, build};
 use venue_ports::{MemoryFile, MemoryFolders};
 use venue_types::{FeatureId, Settings};
 
@@ -16,6 +16,11 @@ const NAMELESS: u128 = 0x4000_8000_0000_0000_0000;
 /// The identifier that ends so.
 pub(crate) fn id(tail: u128) -> FeatureId {
     FeatureId(NAMELESS | tail)
+}
+
+/// The closing, or the opening again, of the feature whose identifier ends so.
+pub(crate) fn closing(tail: u128) -> Closing {
+    Closing { feature: id(tail) }
 }
 
 /// How an identifier ends.

@@ -1,21 +1,26 @@
 //! Tests of requests, replies, sessions and services.
 #![tactic(auto)]
 
-#[cfg(test)]
-mod desks;
+// Requests and replies.
 #[cfg(test)]
 mod frames;
-#[cfg(test)]
-mod moments;
 #[cfg(test)]
 mod replies;
 #[cfg(test)]
 mod requests;
+
+// Sessions.
 #[cfg(test)]
-mod seats;
+mod moments;
 #[cfg(test)]
 mod session_laws;
 #[cfg(test)]
 mod sessions;
 #[cfg(test)]
 mod station;
+
+// Seats and services.
+#[cfg(test)]
+mod desks;
+#[cfg(test)]
+mod seats;

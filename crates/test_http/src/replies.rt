@@ -4,8 +4,8 @@ use std::alloc::{AllocError, Global};
 use std::process::Abort;
 use std::test::Fail;
 use venue_types::{
-    Class, FeatureId, Finding, Kind, Label, List, Mark, PlaceRow, Reply, Report, StepRow, Text,
-    Which,
+    Class, ClosedRow, ClosureDone, ClosuresTold, FeatureId, Finding, Kind, Label, List, Mark,
+    PlaceRow, PlaceTold, Reply, Report, StepRow, Text, Which,
 };
 use wire_frames::{Methods, Refusal};
 use wire_replies::{bare_bytes, refusal_bytes, reply_bytes, want_of_memory};
@@ -153,12 +153,12 @@ fn reads(
 }
 
 fn sees_changes(rt: &impl Abort, alloc: Global) -> Result<(), AllocError> {
-    let reply = Reply::ClosureDone {
+    let reply = Reply::ClosureDone(ClosureDone {
         number: 2,
         feature: id(0x301),
         closed: true,
         changed: true,
-    };
+    });
     let body = r#"{"changed":true,"closed":true,"feature":"@0301","version":2}"#;
     reads(rt, alloc, reply, 91, body)?;
     let dropped = List::from_vec(vec![in alloc; id(0x301)]?);
@@ -167,12 +167,16 @@ fn sees_changes(rt: &impl Abort, alloc: Global) -> Result<(), AllocError> {
     reads(rt, alloc, reply, 64, body)
 }
 
+fn closed_row(last: u16) -> ClosedRow {
+    ClosedRow { id: id(last) }
+}
+
 fn sees_closures(rt: &impl Abort, alloc: Global) -> Result<(), AllocError> {
     let closed = List::new(alloc);
-    let reply = Reply::Closures { number: 3, closed };
+    let reply = Reply::Closures(ClosuresTold { number: 3, closed });
     reads(rt, alloc, reply, 27, r#"{"closures":[],"version":3}"#)?;
-    let closed = List::from_vec(vec![in alloc; id(0x24), id(0x301)]?);
-    let reply = Reply::Closures { number: 4, closed };
+    let closed = List::from_vec(vec![in alloc; closed_row(0x24), closed_row(0x301)]?);
+    let reply = Reply::Closures(ClosuresTold { number: 4, closed });
     let body = r#"{"closures":["@0024","@0301"],"version":4}"#;
     reads(rt, alloc, reply, 104, body)
 }
@@ -199,11 +203,11 @@ fn sees_that_none_is(rt: &impl Abort, alloc: Global) -> Result<(), AllocError> {
 
 fn sees_a_place(rt: &impl Abort, alloc: Global) -> Result<(), AllocError> {
     let name = vec![in alloc; label(alloc, "en", "Tickets")?]?;
-    let reply = Reply::Place {
+    let reply = Reply::Place(PlaceTold {
         number: 1,
         row: place(0x52, Class::Occupant, 1, name),
         closed: false,
-    };
+    });
     let body =
         r#"{"closed":false,"id":"@0052","kind":"occupant","name":{"en":"Tickets"},"ordinal":1,"version":1}"#;
     reads(rt, alloc, reply, 126, body)
@@ -216,11 +220,11 @@ fn sees_names(rt: &impl Abort, alloc: Global) -> Result<(), AllocError> {
         label(alloc, "de", "T\"\\\n\u{e4}")?,
         label(alloc, "en", "Last")?,
     ]?;
-    let reply = Reply::Place {
+    let reply = Reply::Place(PlaceTold {
         number: 7,
         row: place(0x31, Class::Amenity, 0, name),
         closed: true,
-    };
+    });
     let body =
         r#"{"closed":true,"id":"@0031","kind":"amenity","name":{"de":"T\"\\\nä","en":"Last"},"ordinal":0,"version":7}"#;
     reads(rt, alloc, reply, 138, body)

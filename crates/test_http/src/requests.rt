@@ -53,7 +53,7 @@ fn asked(query: &Query) -> Outcome<'_> {
 
 fn changed(change: &Change) -> Outcome<'_> {
     match change {
-        Change::Closure { feature, closed } => Outcome::Closure(feature.0, *closed),
+        Change::Closure(asked) => Outcome::Closure(asked.feature.0, asked.closed),
         Change::Publish { folder } => Outcome::Publish(folder.as_str()),
     }
 }

@@ -3,8 +3,12 @@
 
 use std::env;
 use std::process::ExitCode;
-use venue_ports::{Console, DirFolders, TcpDoors};
+use venue_ports::{Console, DirFolders};
 use venue_program::{WordsFault, exit_after, words_fault};
+use venue_sockets::{Lobby, LobbyDoors};
+
+// The number with which the process ends where there is no memory for the lobby.
+const MEMORY: u8 = 4;
 
 // The words of the command line, less the program's name.
 fn words_of(rt: &HostRuntime) -> Result<Vec<String>, WordsFault> {
@@ -20,6 +24,9 @@ fn words_of(rt: &HostRuntime) -> Result<Vec<String>, WordsFault> {
 fn main(rt: HostRuntime) -> ExitCode {
     let mut console = Console::new(&rt);
     let folders = DirFolders::new(&rt);
-    let doors = TcpDoors::new(&rt);
+    let Ok(lobby) = Lobby::new(rt.alloc()) else {
+        return ExitCode::from(MEMORY);
+    };
+    let doors = LobbyDoors::new(&rt, &lobby);
     exit_after(&rt, rt.alloc(), words_of(&rt), folders, doors, &mut console).code
 }

@@ -1,6 +1,7 @@
 -- What a change that closes a feature leads to.
-use Rattle.std.proofs.Common.{◌≡◌, ◌≢◌, ◌∙◌, sym, ap, refl, subst, ℕ, ◌<◌, arith, List, [], ◌∷◌, ◌++◌, Option, Some, true, false, inl, inr}
+use Rattle.std.proofs.Common.{◌≡◌, ◌≢◌, ◌∙◌, sym, ap, refl, subst, ℕ, ◌<◌, arith, List, [], ◌∷◌, ◌++◌, Option, Some, Bool, true, false, ◌⊎◌, inl, inr}
 use Rattle.venue_types.specs.declared.feature_id.FeatureId.{FeatureId}
+use Rattle.venue_types.specs.declared.query.Change.{Change}
 use Rattle.venue_types.specs.declared.query.Change.TheVariants as change
 use Rattle.venue_types.specs.declared.reply.Reply.{Reply}
 use Rattle.venue_types.specs.declared.reply.Reply.TheVariants as reply
@@ -8,11 +9,11 @@ use Rattle.venue_folder.specs.Shelves.{Shelf}
 use Rattle.version_board.specs.Act.{Act}
 use Rattle.version_board.specs.Act.TheVariants as act
 use Rattle.version_board.specs.Entry.{Entry}
-use Rattle.version_board.specs.Changes.{Changes, IsAccepted, IsActOf, TellsOf}
+use Rattle.version_board.specs.Changes.{Changes, IsRefused, IsAccepted, IsAcceptedIf, IsActOf, TellsOf}
 use Rattle.version_board.specs.Closed.{Version, is_closed}
 use Rattle.version_board.specs.Histories.{Replays}
 use Rattle.version_board.specs.Versions.{after, Fits, MayFollow}
-use Rattle.venue_commands.specs.BuildingReports.{IsNamed, IsBehindClosing}
+use Rattle.venue_commands.specs.BuildingReports.{IsNamed, IsBehindClosing, closing}
 use Rattle.venue_commands.specs.Costs.{IsBehindChange}
 use Rattle.venue_commands.proofs.Seeing.{one_version}
 
@@ -20,39 +21,42 @@ use Rattle.venue_commands.proofs.Seeing.{one_version}
 abbrev Enters : Type 0
 Enters = (h : List Entry) (v : Version) (e : Entry) → Replays h v → MayFollow v e → Replays (h ++ e ∷ []) (after v e.act)
 
-closes : (shelf : Option Shelf) (v : Version) (id : FeatureId) (done : Act) → IsActOf shelf v (change.Closure id true) done → done ≡ act.Closed id
-closes shelf v id (act.Closed other) is = ap (λ (x : FeatureId). act.Closed x) is.1
-closes shelf v id (act.Reopened other) is = absurd (let e : true ≡ false = is.0 in cc e)
+abbrev closure_of : FeatureId → Change
+closure_of id = change.Closure (record { feature = id; closed = true })
+
+closes : (shelf : Option Shelf) (v : Version) (id : FeatureId) (done : Act) → IsActOf shelf v (closure_of id) done → done ≡ closing id
+closes shelf v id (act.Closed it) is = ap closing is.1
+closes shelf v id (act.Reopened it) is = absurd (let e : true ≡ false = is.0 in cc e)
 closes shelf v id (act.Published venue) is = absurd is
 
-fits_not : (v : Version) (id : FeatureId) → is_closed v id ≡ true → ¬ Fits v (act.Closed id)
+fits_not : (v : Version) (id : FeatureId) → is_closed v id ≡ true → ¬ Fits v (closing id)
 fits_not v id closed fits = fits.1 closed
 
 accepted_behind : (enters : Enters) (shelf : Option Shelf) (id : FeatureId) (h k : List Entry) (r : Reply)
-    → IsAccepted shelf 1 (change.Closure id true) h r k → (v w : Version) → Replays h v → Replays k w → IsBehindChange id v w
+    → IsAccepted shelf 1 (closure_of id) h r k → (v w : Version) → Replays h v → Replays k w → IsBehindChange id v w
 accepted_behind enters shelf id h k r is v w before behind =
     let same : is.version ≡ v = one_version h is.version v is.stands before in
-    let done : is.entry.act ≡ act.Closed id = closes shelf is.version id is.entry.act is.of_change in
+    let done : is.entry.act ≡ closing id = closes shelf is.version id is.entry.act is.of_change in
     let next : Replays k (after is.version is.entry.act) =
     subst (λ (es : List Entry). Replays es (after is.version is.entry.act)) (sym is.grown) (enters h is.version is.entry is.stands is.may) in
     let leads : w ≡ after is.version is.entry.act = one_version k w (after is.version is.entry.act) behind next in
     let fits = subst (λ (a : Act). Fits is.version a) done is.may.fits in
     inl (
-      subst (λ (u : Version). Fits u (act.Closed id)) same fits,
-      leads ∙ ap (λ (a : Act). after is.version a) done ∙ ap (λ (u : Version). after u (act.Closed id)) same,
+      subst (λ (u : Version). Fits u (closing id)) same fits,
+      leads ∙ ap (λ (a : Act). after is.version a) done ∙ ap (λ (u : Version). after u (closing id)) same,
     )
 
 published_never : (shelf : Option Shelf) (v : Version) (id : FeatureId) (done : Act) (number : ℕ) (dropped : List FeatureId)
-    → done ≡ act.Closed id → TellsOf v done (reply.Published number dropped) → ⊥
-published_never shelf v id (act.Closed other) number dropped is tells = tells
-published_never shelf v id (act.Reopened other) number dropped is tells = tells
+    → done ≡ closing id → TellsOf v done (reply.Published number dropped) → ⊥
+published_never shelf v id (act.Closed it) number dropped is tells = tells
+published_never shelf v id (act.Reopened it) number dropped is tells = tells
 published_never shelf v id (act.Published venue) number dropped is tells = cc is
 
-stays : (id : FeatureId) (h k : List Entry) (u v w : Version) → k ≡ h → Replays h u → Replays h v → Replays k w → ¬ Fits u (act.Closed id) → IsBehindChange id v w
+stays : (id : FeatureId) (h k : List Entry) (u v w : Version) → k ≡ h → Replays h u → Replays h v → Replays k w → ¬ Fits u (closing id) → IsBehindChange id v w
 stays id h k u v w kept stands before behind unfit =
     let same : u ≡ v = one_version h u v stands before in
     inr (
-      subst (λ (x : Version). ¬ Fits x (act.Closed id)) same unfit,
+      subst (λ (x : Version). ¬ Fits x (closing id)) same unfit,
       one_version h w v (subst (λ (es : List Entry). Replays es w) kept behind) before,
     )
 
@@ -61,14 +65,18 @@ full_never h u v one other full room =
     let open_u = subst (λ (x : Version). x.number < x.settings.last_version) (one_version h v u other one) room in
     omega (arith, full, open_u)
 
+either : (changed : Bool) (shelf : Option Shelf) (worker : ℕ) (asked : Change) (h k : List Entry) (r : Reply) → IsAcceptedIf changed shelf worker asked h r k
+    → IsAccepted shelf worker asked h r k ⊎ IsRefused shelf asked h r k
+either true shelf worker asked h k r made = inl made
+either false shelf worker asked h k r left = inr left
+
 pub behind_change : (enters : Enters) (shelf : Option Shelf) (id : FeatureId) (h k : List Entry) (r : Reply) → r ≢ reply.OutOfMemory
-    → Changes shelf 1 (change.Closure id true) h r k
+    → Changes shelf 1 (closure_of id) h r k
     → (v w : Version) → v.number < v.settings.last_version → Replays h v → Replays k w → IsBehindChange id v w
-behind_change enters shelf id h k (reply.ClosureDone number feature closed true) some is v w room before behind =
-    accepted_behind enters shelf id h k (reply.ClosureDone number feature closed true) is v w before behind
-behind_change enters shelf id h k (reply.ClosureDone number feature closed false) some is v w room before behind =
-    let so : is_closed is.version id ≡ true = is.cause.0.1 in
-    stays id h k is.version v w is.kept is.stands before behind (fits_not is.version id so)
+behind_change enters shelf id h k (reply.ClosureDone it) some is v w room before behind = elim (either it.changed shelf 1 (closure_of id) h k (reply.ClosureDone it) is) [
+  | inl made ↦ accepted_behind enters shelf id h k (reply.ClosureDone it) made v w before behind
+  | inr left ↦ stays id h k left.version v w left.kept left.stands before behind (fits_not left.version id left.cause.0.1)
+]
 behind_change enters shelf id h k (reply.Published number dropped) some is v w room before behind =
     absurd (published_never shelf is.version id is.entry.act number dropped (closes shelf is.version id is.entry.act is.of_change) is.tells)
 behind_change enters shelf id h k reply.NoFeature some is v w room before behind =
@@ -83,8 +91,8 @@ behind_change enters shelf id h k (reply.NoPlace end) some is v w room before be
 behind_change enters shelf id h k (reply.Ahead since number) some is v w room before behind = absurd is.cause.1
 behind_change enters shelf id h k (reply.Version number closed count) some is v w room before behind = absurd is.cause.1
 behind_change enters shelf id h k (reply.Places number rows) some is v w room before behind = absurd is.cause.1
-behind_change enters shelf id h k (reply.Place number row closed) some is v w room before behind = absurd is.cause.1
-behind_change enters shelf id h k (reply.Closures number closed) some is v w room before behind = absurd is.cause.1
+behind_change enters shelf id h k (reply.Place it) some is v w room before behind = absurd is.cause.1
+behind_change enters shelf id h k (reply.Closures it) some is v w room before behind = absurd is.cause.1
 behind_change enters shelf id h k (reply.FolderFault earlier later) some is v w room before behind = absurd is.cause.1
 behind_change enters shelf id h k (reply.Rejected report) some is v w room before behind = absurd is.cause.1
 
@@ -94,4 +102,4 @@ some_id x y e = cc e
 pub behind_number : (number : ℕ) (id : FeatureId) (v w : Version) → IsNamed number id → IsBehindChange id v w → IsBehindClosing number v w
 behind_number number id v w named (inl (fits, leads)) = inl (id, named, fits, leads)
 behind_number number id v w named (inr (unfit, same)) =
-    inr ((λ other is fits. unfit (subst (λ (x : FeatureId). Fits v (act.Closed x)) (some_id other id (sym is ∙ named)) fits)), same)
+    inr ((λ other is fits. unfit (subst (λ (x : FeatureId). Fits v (closing x)) (some_id other id (sym is ∙ named)) fits)), same)

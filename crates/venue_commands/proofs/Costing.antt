@@ -25,33 +25,35 @@ some_id : (x y : FeatureId) → Some x ≡ Some y → x ≡ y
 some_id x y e = cc e
 
 -- no walk of one trip leads along the same trip
-no_walk : (v : Version) (name : List ℕ) (from to : FeatureId) (p q : Profile) (a b c d : ℕ) (walk : List Link)
-    → IsTrip v from to name p a b → HasNoWalk link_view (Usable v p) a b → IsTrip v from to name q c d → ¬ IsWalk link_view (Usable v q) c d walk
-no_walk v name from to p q a b c d walk one none other leads =
+no_walk : (v : Version) (name : List ℕ) (from to : FeatureId) (m n : ℕ) (p q : Profile) (a b c d : ℕ) (walk : List Link)
+    → IsTrip v from to name m p a b → HasNoWalk link_view (Usable v m p) a b → IsTrip v from to name n q c d → ¬ IsWalk link_view (Usable v n q) c d walk
+no_walk v name from to m n p q a b c d walk one none other leads =
+    let same_number : n ≡ m = some_node n m (sym other.has_number ∙ one.has_number) in
     let same_p : q ≡ p = some_profile q p (sym other.has_profile ∙ one.has_profile) in
     let same_a : c ≡ a = some_node c a (sym other.has_from ∙ one.has_from) in
     let same_b : d ≡ b = some_node d b (sym other.has_to ∙ one.has_to) in
-    let by_p = subst (λ (x : Profile). IsWalk link_view (Usable v x) c d walk) same_p leads in
-    let by_a = subst (λ (n : ℕ). IsWalk link_view (Usable v p) n d walk) same_a by_p in
-    none walk (subst (λ (n : ℕ). IsWalk link_view (Usable v p) a n walk) same_b by_a)
+    let by_number = subst (λ (x : ℕ). IsWalk link_view (Usable v x q) c d walk) same_number leads in
+    let by_p = subst (λ (x : Profile). IsWalk link_view (Usable v m x) c d walk) same_p by_number in
+    let by_a = subst (λ (x : ℕ). IsWalk link_view (Usable v m p) x d walk) same_a by_p in
+    none walk (subst (λ (x : ℕ). IsWalk link_view (Usable v m p) a x walk) same_b by_a)
 
 pub told_cost : (v : Version) (name : List ℕ) (from to : FeatureId) (r : Reply) → r ≢ reply.OutOfMemory → Answers v (route_query name from to) r
     → IsCostBetween v name from to (cost_told r)
 told_cost v name from to (reply.Route number from' to' name' start cost steps potentials) some (now, (same, repeats, route)) =
-    record { profile = route.profile; a = route.a; b = route.b; trip = route.trip; walk = route.walk; least = route.least }
+    record { place = route.number; profile = route.profile; a = route.a; b = route.b; trip = route.trip; walk = route.walk; least = route.least }
 told_cost v name from to (reply.NoRoute number from' to' name' reached) some (now, (same, repeats, none)) =
-    λ profile a b walk trip. no_walk v name from to none.profile profile none.a none.b a b walk none.trip none.none trip
-told_cost v name from to reply.NoProfile some (now, lacks) = λ profile a b walk trip leads. absurd (let e = sym lacks ∙ trip.has_profile in cc e)
-told_cost v name from to (reply.NoPlace which.From) some (now, (has, lacks)) = λ profile a b walk trip leads. absurd (let e = sym lacks ∙ trip.has_from in cc e)
-told_cost v name from to (reply.NoPlace which.To) some (now, (has, is, lacks)) = λ profile a b walk trip leads. absurd (let e = sym lacks ∙ trip.has_to in cc e)
+    λ place profile a b walk trip. no_walk v name from to none.number place none.profile profile none.a none.b a b walk none.trip none.none trip
+told_cost v name from to reply.NoProfile some (now, lacks) = λ place profile a b walk trip leads. absurd (let e = sym lacks ∙ trip.has_profile in cc e)
+told_cost v name from to (reply.NoPlace which.From) some (now, (has, lacks)) = λ place profile a b walk trip leads. absurd (let e = sym lacks ∙ trip.has_from in cc e)
+told_cost v name from to (reply.NoPlace which.To) some (now, (has, is, lacks)) = λ place profile a b walk trip leads. absurd (let e = sym lacks ∙ trip.has_to in cc e)
 told_cost v name from to (reply.NoPlace which.Id) some (now, never) = absurd never
 told_cost v name from to (reply.Ahead since number) some (asked, later, same) = absurd (cc asked)
 told_cost v name from to reply.OutOfMemory some answers = absurd (some refl)
 told_cost v name from to (reply.Version number closed count) some (now, never) = absurd never
 told_cost v name from to (reply.Places number rows) some (now, never) = absurd never
-told_cost v name from to (reply.Place number row closed) some (now, never) = absurd never
-told_cost v name from to (reply.Closures number closed) some (now, never) = absurd never
-told_cost v name from to (reply.ClosureDone number feature closed changed) some (now, never) = absurd never
+told_cost v name from to (reply.Place it) some (now, never) = absurd never
+told_cost v name from to (reply.Closures it) some (now, never) = absurd never
+told_cost v name from to (reply.ClosureDone done) some (now, never) = absurd never
 told_cost v name from to (reply.Published number dropped) some (now, never) = absurd never
 told_cost v name from to reply.NoFeature some (now, never) = absurd never
 told_cost v name from to (reply.FolderFault before after) some (now, never) = absurd never
@@ -67,15 +69,17 @@ stands_at v number n id named at =
 pub cost_of_numbers : (v : Version) (name : List ℕ) (start finish : ℕ) (from to : FeatureId) (cost : Option ℕ) → IsNamed start from → IsNamed finish to
     → IsCostBetween v name from to cost → IsCost v name start finish cost
 cost_of_numbers v name start finish from to (Some cost) is_from is_to has = record {
+  place = has.place;
   profile = has.profile;
   a = has.a;
   b = has.b;
-  trip = record { profile_is = has.trip.has_profile; start_is = (from, is_from, has.trip.has_from); finish_is = (to, is_to, has.trip.has_to) };
+  trip = record { place_is = has.trip.has_number; profile_is = has.trip.has_profile; start_is = (from, is_from, has.trip.has_from); finish_is = (to, is_to, has.trip.has_to) };
   walk = has.walk;
   least = has.least;
 }
-cost_of_numbers v name start finish from to None is_from is_to none = λ profile a b walk trip.
-    none profile a b walk (record {
+cost_of_numbers v name start finish from to None is_from is_to none = λ place profile a b walk trip.
+    none place profile a b walk (record {
+      has_number = trip.place_is;
       has_profile = trip.profile_is;
       has_from = stands_at v start a from is_from trip.start_is;
       has_to = stands_at v finish b to is_to trip.finish_is;

@@ -16,11 +16,12 @@ use Rattle.version_board.specs.Links.{links}
 use Rattle.version_board.specs.Views.{link_view}
 use Rattle.version_board.specs.Venues.{SeenVenue as Venue}
 use Rattle.version_board.specs.Built.{IsRejected, IsVenueOf}
+use Rattle.version_board.specs.Act.{Act}
 use Rattle.version_board.specs.Act.TheVariants.{Closed}
 use Rattle.version_board.specs.Closed.{Version}
 use Rattle.version_board.specs.Histories.{opening_of}
 use Rattle.version_board.specs.Versions.{after, Fits}
-use Rattle.version_board.specs.Ways.{Usable, profile_of}
+use Rattle.version_board.specs.Ways.{Usable, profile_number, profile_of}
 use Rattle.check_text.specs.Text.{rejected_text}
 use Rattle.gen_text.specs.Numbers.{identifier, unit_number, room_unit, lift_unit}
 use Rattle.gen_text.specs.Texts.{building_files}
@@ -50,24 +51,26 @@ abbrev pub StandsAt : Version → ℕ → ℕ → Type 0
 StandsAt v number n = (id : FeatureId) × IsNamed number id × (place_of v.features id ≡ Some n)
 
 -- a way of somebody with the profile of this name between two features, from node to node
-pub record IsTripOf (v : Version) (name : List ℕ) (start finish : ℕ) (profile : Profile) (a b : ℕ) : Type 0 where
+pub record IsTripOf (v : Version) (name : List ℕ) (start finish place : ℕ) (profile : Profile) (a b : ℕ) : Type 0 where
+  pub place_is : profile_number v.settings name ≡ Some place
   pub profile_is : profile_of v.settings name ≡ Some profile
   pub start_is : StandsAt v start a
   pub finish_is : StandsAt v finish b
 
 -- what a cheapest walk costs
 pub record HasCost (v : Version) (name : List ℕ) (start finish cost : ℕ) : Type 0 where
+  pub place : ℕ
   pub profile : Profile
   pub a : ℕ
   pub b : ℕ
-  pub trip : IsTripOf v name start finish profile a b
+  pub trip : IsTripOf v name start finish place profile a b
   pub walk : List Link
-  pub least : IsLeast link_view (Usable v profile) a b walk cost
+  pub least : IsLeast link_view (Usable v place profile) a b walk cost
 
 -- no walk leads from the one feature to the other
 abbrev pub HasNone : Version → List ℕ → ℕ → ℕ → Type 0
-HasNone v name start finish = (profile : Profile) (a b : ℕ) (walk : List Link) → IsTripOf v name start finish profile a b
-    → ¬ IsWalk link_view (Usable v profile) a b walk
+HasNone v name start finish = (place : ℕ) (profile : Profile) (a b : ℕ) (walk : List Link) → IsTripOf v name start finish place profile a b
+    → ¬ IsWalk link_view (Usable v place profile) a b walk
 
 -- the line of a way: the profile's name, and the cost, or `none`
 abbrev pub IsWayLine : Version → List ℕ → ℕ → ℕ → List ℕ → Type 0
@@ -75,11 +78,15 @@ IsWayLine v name start finish text =
     ((cost : ℕ) × HasCost v name start finish cost × (text ≡ line (name ++ codes " " ++ decimal cost)))
     ⊎ (HasNone v name start finish × (text ≡ line (name ++ codes " none")))
 
+-- the act that closes a feature
+abbrev pub closing : FeatureId → Act
+closing id = Closed (record { feature = id })
+
 -- the version behind the closing of a feature; where it can't be closed, the version before
 abbrev pub IsBehindClosing : ℕ → Version → Version → Type 0
 IsBehindClosing number v w =
-    ((id : FeatureId) × IsNamed number id × Fits v (Closed id) × (w ≡ after v (Closed id)))
-    ⊎ (((id : FeatureId) → IsNamed number id → ¬ Fits v (Closed id)) × (w ≡ v))
+    ((id : FeatureId) × IsNamed number id × Fits v (closing id) × (w ≡ after v (closing id)))
+    ⊎ (((id : FeatureId) → IsNamed number id → ¬ Fits v (closing id)) × (w ≡ v))
 
 -- the first room of the lowest level, the last of the highest, and the lift of the lowest
 abbrev pub first_room : ℕ → ℕ

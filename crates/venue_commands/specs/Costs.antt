@@ -15,12 +15,11 @@ use Rattle.version_board.specs.Nodes.{nodes}
 use Rattle.version_board.specs.Links.{links}
 use Rattle.version_board.specs.Views.{link_view}
 use Rattle.version_board.specs.Venues.{SeenVenue as Venue}
-use Rattle.version_board.specs.Act.TheVariants.{Closed}
 use Rattle.version_board.specs.Answers.{IsTrip}
 use Rattle.version_board.specs.Closed.{Version}
 use Rattle.version_board.specs.Versions.{after, Fits}
 use Rattle.version_board.specs.Ways.{Usable}
-use Rattle.venue_commands.specs.BuildingReports.{HasCost, HasNone, IsWayLine, IsBehindClosing, first_room, last_room, lowest_lift}
+use Rattle.venue_commands.specs.BuildingReports.{HasCost, HasNone, IsWayLine, IsBehindClosing, closing, first_room, last_room, lowest_lift}
 
 -- the question for a way, at whatever version stands, and without a certificate
 abbrev pub route_query : List ℕ → FeatureId → FeatureId → Query
@@ -33,17 +32,18 @@ cost_told _ = None
 
 -- what a cheapest walk between two features costs
 pub record HasCostBetween (v : Version) (name : List ℕ) (from to : FeatureId) (cost : ℕ) : Type 0 where
+  pub place : ℕ
   pub profile : Profile
   pub a : ℕ
   pub b : ℕ
-  pub trip : IsTrip v from to name profile a b
+  pub trip : IsTrip v from to name place profile a b
   pub walk : List Link
-  pub least : IsLeast link_view (Usable v profile) a b walk cost
+  pub least : IsLeast link_view (Usable v place profile) a b walk cost
 
 -- no walk leads from one feature to another
 abbrev pub HasNoneBetween : Version → List ℕ → FeatureId → FeatureId → Type 0
-HasNoneBetween v name from to = (profile : Profile) (a b : ℕ) (walk : List Link) → IsTrip v from to name profile a b
-    → ¬ IsWalk link_view (Usable v profile) a b walk
+HasNoneBetween v name from to = (place : ℕ) (profile : Profile) (a b : ℕ) (walk : List Link) → IsTrip v from to name place profile a b
+    → ¬ IsWalk link_view (Usable v place profile) a b walk
 
 -- the cost is that of a cheapest walk between two features, or there is none
 abbrev pub IsCostBetween : Version → List ℕ → FeatureId → FeatureId → Option ℕ → Type 0
@@ -62,7 +62,7 @@ way_line name None = line (name ++ codes " none")
 
 -- the version behind the closing of a feature; where it can't be closed, the version before
 abbrev pub IsBehindChange : FeatureId → Version → Version → Type 0
-IsBehindChange id v w = (Fits v (Closed id) × (w ≡ after v (Closed id))) ⊎ ((¬ Fits v (Closed id)) × (w ≡ v))
+IsBehindChange id v w = (Fits v (closing id) × (w ≡ after v (closing id))) ⊎ ((¬ Fits v (closing id)) × (w ≡ v))
 
 -- the lines that tell how large a venue is
 abbrev pub size_lines : Venue → List ℕ

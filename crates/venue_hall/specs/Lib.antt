@@ -1,4 +1,6 @@
 pub mod Facts
+pub mod Records
+pub mod Logging
 pub use Rattle.venue_history.specs.Openings
 pub use Rattle.venue_history.specs.Venues
 pub use Rattle.venue_history.specs.Changes
@@ -6,6 +8,7 @@ pub use Rattle.venue_history.specs.Histories
 pub use Rattle.venue_history.specs.Replies
 pub use Rattle.venue_history.specs.Versions
 pub use Rattle.venue_history.specs.declared.entry.Act
+pub use Rattle.venue_history.specs.declared.entry.Closing
 pub use Rattle.venue_history.specs.declared.entry.Entry
 pub use Rattle.venue_history.specs.Closed
 pub use Rattle.venue_history.specs.Shelves

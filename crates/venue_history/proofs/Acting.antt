@@ -9,6 +9,7 @@ use Rattle.venue_build.specs.Identity.{is_same}
 use Rattle.venue_build.specs.Nodes.{closables}
 use Rattle.venue_history.specs.declared.entry.Entry.{Entry}
 use Rattle.venue_history.specs.declared.entry.Act.TheVariants.{Closed}
+use Rattle.venue_history.specs.declared.entry.Closing.{Closing}
 use Rattle.venue_history.specs.Closed.{Version, is_one_of, is_closed}
 use Rattle.venue_history.specs.Versions.{Fits, still_closed, with_closed, without_closed}
 use Rattle.venue_history.specs.Histories.{Replays}
@@ -55,9 +56,10 @@ published_closed v features id = (
 )
 
 -- a closure: what was closed, and this
-pub closure_closed : (h : List Entry) (v : Version) (id other : FeatureId) → Replays h v → Fits v (Closed id)
-    → IsTrue (is_one_of (with_closed v id) other) ↔ (IsTrue (is_closed v other) ⊎ (other ≡ id))
-closure_closed h v id other r fits =
+pub closure_closed : (h : List Entry) (v : Version) (it : Closing) (other : FeatureId) → Replays h v → Fits v (Closed it)
+    → IsTrue (is_one_of (with_closed v it.feature) other) ↔ (IsTrue (is_closed v other) ⊎ (other ≡ it.feature))
+closure_closed h v it other r fits =
+    let id = it.feature in
     let test = λ (one : FeatureId). is_closed v one || is_same one id in (
       λ e. elim (either (is_closed v other) (is_same other id) (kept_from test (closables v.features) other e).1) [
         | inl before ↦ inl before

@@ -14,8 +14,8 @@ use Rattle.venue_history.specs.Histories.{after_all, MayAllFollow, replay_from, 
 -- each act makes one version
 after_number : (v : Version) (a : Act) → (after v a).number ≡ v.number + 1
 after_number v (Published venue) = refl
-after_number v (Closed id) = refl
-after_number v (Reopened id) = refl
+after_number v (Closed it) = refl
+after_number v (Reopened it) = refl
 
 all_number : (v : Version) (es : List Entry) → (after_all v es).number ≡ v.number + length es
 all_number v [] = omega arith
@@ -26,8 +26,8 @@ all_number v (e ∷ es) =
 
 act_number : (a : Act) (es : List Entry) (v : Version) → replay_from a es ≡ Some v → v.number ≡ 1 + length es
 act_number (Published venue) es v r = ap (λ (w : Version). w.number) (sym (same_Some (after_all _ es) v r)) ∙ all_number _ es
-act_number (Closed id) es v r = absurd (cc r)
-act_number (Reopened id) es v r = absurd (cc r)
+act_number (Closed it) es v r = absurd (cc r)
+act_number (Reopened it) es v r = absurd (cc r)
 
 -- the number of a version is the length of its history
 pub replay_number : (h : List Entry) (v : Version) → Replays h v → v.number ≡ length h
@@ -44,13 +44,13 @@ after_push v (d ∷ es) e = after_push (after v d.act) es e
 
 leads_push : (a : Act) (es : List Entry) (v : Version) (e : Entry) → replay_from a es ≡ Some v → replay_from a (es ++ e ∷ []) ≡ Some (after v e.act)
 leads_push (Published venue) es v e r = ap Some (after_push _ es e ∙ ap (λ (u : Version). after u e.act) (same_Some (after_all _ es) v r))
-leads_push (Closed id) es v e r = absurd (cc r)
-leads_push (Reopened id) es v e r = absurd (cc r)
+leads_push (Closed it) es v e r = absurd (cc r)
+leads_push (Reopened it) es v e r = absurd (cc r)
 
 legal_push : (a : Act) (es : List Entry) (v : Version) (e : Entry) → replay_from a es ≡ Some v → MayFollow v e → IsLegalFrom a es → IsLegalFrom a (es ++ e ∷ [])
 legal_push (Published venue) es v e r m l = (l.0, follow_push _ es e l.1 (subst (λ (u : Version). MayFollow u e) (sym (same_Some (after_all _ es) v r)) m))
-legal_push (Closed id) es v e r m l = absurd l
-legal_push (Reopened id) es v e r m l = absurd l
+legal_push (Closed it) es v e r m l = absurd l
+legal_push (Reopened it) es v e r m l = absurd l
 
 -- an entry more that may follow
 pub replay_push : (h : List Entry) (v : Version) (e : Entry) → Replays h v → MayFollow v e → Replays (h ++ e ∷ []) (after v e.act)
@@ -66,8 +66,8 @@ follow_cut v (e ∷ es) fs l = (l.0, follow_cut (after v e.act) es fs l.1)
 
 legal_cut : (a : Act) (es fs : List Entry) → IsLegalFrom a (es ++ fs) → IsLegalFrom a es
 legal_cut (Published venue) es fs l = (l.0, follow_cut _ es fs l.1)
-legal_cut (Closed id) es fs l = absurd l
-legal_cut (Reopened id) es fs l = absurd l
+legal_cut (Closed it) es fs l = absurd l
+legal_cut (Reopened it) es fs l = absurd l
 
 keeps_cut : (es fs : List Entry) → es ≢ [] → KeepsTheRules (es ++ fs) → KeepsTheRules es
 keeps_cut [] fs some k = absurd (some refl)
@@ -80,8 +80,8 @@ legal_beginning begin whole p some legal =
 
 act_leads : (a : Act) (es : List Entry) → IsLegalFrom a es → (v : Version) × (replay_from a es ≡ Some v)
 act_leads (Published venue) es l = (after_all _ es, refl)
-act_leads (Closed id) es l = absurd l
-act_leads (Reopened id) es l = absurd l
+act_leads (Closed it) es l = absurd l
+act_leads (Reopened it) es l = absurd l
 
 rules_lead : (h : List Entry) → KeepsTheRules h → (v : Version) × (replay h ≡ Some v)
 rules_lead [] k = absurd k

@@ -1,6 +1,6 @@
 -- To one change at one history belongs one kind of reply, where the shelf is told.
-use Rattle.std.proofs.Common.{◌≡◌, ◌≢◌, ◌∙◌, ℕ, ◌<◌, List, length, refl, sym, subst, arith, Option, Some, Bool, true, false}
-use Rattle.std.specs.Prelude.{Contains}
+use Rattle.std.proofs.Common.{◌≡◌, ◌≢◌, ◌∙◌, ℕ, ◌<◌, List, length, refl, sym, subst, arith, inl, inr, Option, Some, Bool, true, false}
+use Rattle.std.specs.Prelude.{Contains, if◌then◌else◌}
 use Rattle.std.specs.Arc.{arc_value}
 use Rattle.std.proofs.lemmas.Option.{same_Some}
 use Rattle.venue_types.specs.declared.feature_id.FeatureId.{FeatureId}
@@ -8,6 +8,8 @@ use Rattle.venue_types.specs.declared.files.Files.{Files}
 use Rattle.venue_types.specs.declared.finding.Report.{Report}
 use Rattle.venue_types.specs.declared.query.Change.{Change}
 use Rattle.venue_types.specs.declared.query.Change.TheVariants as change
+use Rattle.venue_types.specs.declared.query.Closure.{Closure}
+use Rattle.venue_types.specs.declared.reply.ClosureDone.{ClosureDone}
 use Rattle.venue_types.specs.declared.reply.Reply.{Reply}
 use Rattle.venue_types.specs.declared.reply.Reply.TheVariants as reply
 use Rattle.venue_types.specs.declared.settings.Settings.{Settings}
@@ -23,13 +25,14 @@ use Rattle.venue_history.specs.Histories.{Replays}
 use Rattle.venue_history.specs.Replies.{ReplyKind, kind_of, told, IsOutsideFault}
 use Rattle.venue_history.specs.Replies as kind
 use Rattle.venue_history.specs.Changes.{Makes, Breaks, StandsSo, StandsOtherwise, IsActOf, TellsOf, Refuses, Changes}
+use Rattle.venue_history.proofs.Changing.{closure_way}
 
 -- what the kind of a reply to a closure says, and whether it tells an accepted change
-data ClosureCause (v : Version) (feature : FeatureId) (closed : Bool) : ReplyKind → ℕ → Type 0 where
-  missing : ¬ Contains (closables v.features) feature → ClosureCause v feature closed kind.no_feature 0
-  same : StandsSo v feature closed → ClosureCause v feature closed kind.closure_done 0
-  full : StandsOtherwise v feature closed → v.number ≡ v.settings.last_version → ClosureCause v feature closed kind.history_full 0
-  done : StandsOtherwise v feature closed → v.number < v.settings.last_version → ClosureCause v feature closed kind.closure_done 1
+data ClosureCause (v : Version) (asked : Closure) : ReplyKind → ℕ → Type 0 where
+  missing : ¬ Contains (closables v.features) asked.feature → ClosureCause v asked kind.no_feature 0
+  same : StandsSo v asked → ClosureCause v asked kind.closure_done 0
+  full : StandsOtherwise v asked → v.number ≡ v.settings.last_version → ClosureCause v asked kind.history_full 0
+  done : StandsOtherwise v asked → v.number < v.settings.last_version → ClosureCause v asked kind.closure_done 1
 
 -- what that of a reply to a publication says
 data PublishCause (shelf : Option Shelf) (v : Version) (folder : List ℕ) : ReplyKind → ℕ → Type 0 where
@@ -37,12 +40,13 @@ data PublishCause (shelf : Option Shelf) (v : Version) (folder : List ℕ) : Rep
   full : (venue : Venue) → Makes shelf v folder venue → v.number ≡ v.settings.last_version → PublishCause shelf v folder kind.history_full 0
   done : (venue : Venue) → Makes shelf v folder venue → v.number < v.settings.last_version → PublishCause shelf v folder kind.published 1
 
-refused_closure : (shelf : Option Shelf) (v : Version) (feature : FeatureId) (closed : Bool) (r : Reply)
-    → Refuses shelf v (change.Closure feature closed) r → ClosureCause v feature closed (kind_of r) (told r)
-refused_closure shelf v feature closed reply.NoFeature is = missing is
-refused_closure shelf v feature closed (reply.ClosureDone number feature' closed' false) is = same is.0
-refused_closure shelf v feature closed (reply.HistoryFull number) is = full is.0 is.1.1
-refused_closure shelf v feature closed _ is = absurd is.1
+refused_closure : (shelf : Option Shelf) (v : Version) (asked : Closure) (r : Reply)
+    → Refuses shelf v (change.Closure asked) r → ClosureCause v asked (kind_of r) (told r)
+refused_closure shelf v asked reply.NoFeature is = missing is
+refused_closure shelf v asked (reply.ClosureDone it) is =
+    subst (λ (b : Bool). ClosureCause v asked kind.closure_done (if b then 1 else 0)) (sym is.1.changed_is) (same is.0)
+refused_closure shelf v asked (reply.HistoryFull number) is = full is.0 is.1.1
+refused_closure shelf v asked _ is = absurd is.1
 
 refused_publish : (shelf : Option Shelf) (v : Version) (folder : List ℕ) (r : Reply) → ¬ IsOutsideFault r
     → Refuses shelf v (change.Publish folder) r → PublishCause shelf v folder (kind_of r) (told r)
@@ -51,41 +55,48 @@ refused_publish shelf v folder (reply.Rejected report) inside is = rejected repo
 refused_publish shelf v folder (reply.HistoryFull number) inside is = full is.0.0 is.0.1 is.1.1
 refused_publish shelf v folder _ inside is = absurd is.1
 
-stands_otherwise : (shelf : Option Shelf) (v : Version) (feature : FeatureId) (closed : Bool) (a : Act) → IsActOf shelf v (change.Closure feature closed) a → StandsOtherwise v feature closed
-stands_otherwise shelf v feature closed (act.Closed id) is = is.2
-stands_otherwise shelf v feature closed (act.Reopened id) is = is.2
-stands_otherwise shelf v feature closed _ is = absurd is
+stands_otherwise : (shelf : Option Shelf) (v : Version) (asked : Closure) (a : Act) → IsActOf shelf v (change.Closure asked) a → StandsOtherwise v asked
+stands_otherwise shelf v asked (act.Closed it) is = is.2
+stands_otherwise shelf v asked (act.Reopened it) is = is.2
+stands_otherwise shelf v asked _ is = absurd is
 
-not_published : (shelf : Option Shelf) (v : Version) (feature : FeatureId) (closed : Bool) (a : Act) (number : ℕ) (dropped : List FeatureId)
-    → IsActOf shelf v (change.Closure feature closed) a → TellsOf v a (reply.Published number dropped) → ⊥
-not_published shelf v feature closed (act.Closed id) number dropped is tells = tells
-not_published shelf v feature closed (act.Reopened id) number dropped is tells = tells
-not_published shelf v feature closed (act.Published venue) number dropped is tells = is
+not_published : (shelf : Option Shelf) (v : Version) (asked : Closure) (a : Act) (number : ℕ) (dropped : List FeatureId)
+    → IsActOf shelf v (change.Closure asked) a → TellsOf v a (reply.Published number dropped) → ⊥
+not_published shelf v asked (act.Closed it) number dropped is tells = tells
+not_published shelf v asked (act.Reopened it) number dropped is tells = tells
+not_published shelf v asked (act.Published venue) number dropped is tells = is
 
 made_of : (shelf : Option Shelf) (v : Version) (folder : List ℕ) (a : Act) → IsActOf shelf v (change.Publish folder) a → (venue : Venue) × Makes shelf v folder venue
 made_of shelf v folder (act.Published venue) is = (arc_value venue, is)
 made_of shelf v folder _ is = absurd is
 
-not_closed : (shelf : Option Shelf) (v : Version) (folder : List ℕ) (a : Act) (number : ℕ) (feature : FeatureId) (closed changed : Bool)
-    → IsActOf shelf v (change.Publish folder) a → TellsOf v a (reply.ClosureDone number feature closed changed) → ⊥
-not_closed shelf v folder (act.Published venue) number feature closed changed is tells = tells
-not_closed shelf v folder (act.Closed id) number feature closed changed is tells = is
-not_closed shelf v folder (act.Reopened id) number feature closed changed is tells = is
+not_closed : (shelf : Option Shelf) (v : Version) (folder : List ℕ) (a : Act) (it : ClosureDone)
+    → IsActOf shelf v (change.Publish folder) a → TellsOf v a (reply.ClosureDone it) → ⊥
+not_closed shelf v folder (act.Published venue) it is tells = tells
+not_closed shelf v folder (act.Closed closing) it is tells = is
+not_closed shelf v folder (act.Reopened closing) it is tells = is
 
 -- a reply to a closure at the version of the history, and its cause
-record ClosureAt (feature : FeatureId) (closed : Bool) (h : List Entry) (r : Reply) : Type 0 where
+record ClosureAt (asked : Closure) (h : List Entry) (r : Reply) : Type 0 where
   version : Version
   stands : Replays h version
-  cause : ClosureCause version feature closed (kind_of r) (told r)
+  cause : ClosureCause version asked (kind_of r) (told r)
 
-closure_at : (shelf : Option Shelf) (worker : ℕ) (feature : FeatureId) (closed : Bool) (h k : List Entry) (r : Reply) → r ≢ reply.OutOfMemory
-    → Changes shelf worker (change.Closure feature closed) h r k → ClosureAt feature closed h r
-closure_at shelf worker feature closed h k reply.OutOfMemory some is = absurd (some refl)
-closure_at shelf worker feature closed h k (reply.ClosureDone number feature' closed' true) some is =
-    record { version = is.version; stands = is.stands; cause = done (stands_otherwise shelf is.version feature closed is.entry.act is.of_change) is.may.room }
-closure_at shelf worker feature closed h k (reply.Published number dropped) some is =
-    absurd (not_published shelf is.version feature closed is.entry.act number dropped is.of_change is.tells)
-closure_at shelf worker feature closed h k r some is = record { version = is.version; stands = is.stands; cause = refused_closure shelf is.version feature closed r is.cause }
+closure_at : (shelf : Option Shelf) (worker : ℕ) (asked : Closure) (h k : List Entry) (r : Reply) → r ≢ reply.OutOfMemory
+    → Changes shelf worker (change.Closure asked) h r k → ClosureAt asked h r
+closure_at shelf worker asked h k reply.OutOfMemory some is = absurd (some refl)
+closure_at shelf worker asked h k (reply.ClosureDone it) some is = elim (closure_way shelf worker (change.Closure asked) h k it is) [
+  | inl (e, made) ↦ record {
+    version = made.version;
+    stands = made.stands;
+    cause = subst (λ (b : Bool). ClosureCause made.version asked kind.closure_done (if b then 1 else 0)) (sym e)
+        (done (stands_otherwise shelf made.version asked made.entry.act made.of_change) made.may.room);
+  }
+  | inr (e, left) ↦ record { version = left.version; stands = left.stands; cause = refused_closure shelf left.version asked (reply.ClosureDone it) left.cause }
+]
+closure_at shelf worker asked h k (reply.Published number dropped) some is =
+    absurd (not_published shelf is.version asked is.entry.act number dropped is.of_change is.tells)
+closure_at shelf worker asked h k r some is = record { version = is.version; stands = is.stands; cause = refused_closure shelf is.version asked r is.cause }
 
 -- a reply to a publication at the version of the history, and its cause
 record PublishAt (shelf : Option Shelf) (folder : List ℕ) (h : List Entry) (r : Reply) : Type 0 where
@@ -96,8 +107,10 @@ record PublishAt (shelf : Option Shelf) (folder : List ℕ) (h : List Entry) (r 
 publish_at : (shelf : Option Shelf) (worker : ℕ) (folder : List ℕ) (h k : List Entry) (r : Reply) → r ≢ reply.OutOfMemory → ¬ IsOutsideFault r
     → Changes shelf worker (change.Publish folder) h r k → PublishAt shelf folder h r
 publish_at shelf worker folder h k reply.OutOfMemory some inside is = absurd (some refl)
-publish_at shelf worker folder h k (reply.ClosureDone number feature closed true) some inside is =
-    absurd (not_closed shelf is.version folder is.entry.act number feature closed true is.of_change is.tells)
+publish_at shelf worker folder h k (reply.ClosureDone it) some inside is = absurd (elim (closure_way shelf worker (change.Publish folder) h k it is) [
+  | inl (e, made) ↦ not_closed shelf made.version folder made.entry.act it made.of_change made.tells
+  | inr (e, left) ↦ left.cause.1
+])
 publish_at shelf worker folder h k (reply.Published number dropped) some inside is =
     let made = made_of shelf is.version folder is.entry.act is.of_change in
     record { version = is.version; stands = is.stands; cause = done made.0 made.1 is.may.room }
@@ -110,24 +123,24 @@ one_version h u v r s = same_Some u v (sym r.leads ∙ s.leads)
 Same : ReplyKind → ReplyKind → ℕ → ℕ → Type 0
 Same k l m n = (k ≡ l) × (m ≡ n)
 
-one_closure : (v : Version) (feature : FeatureId) (closed : Bool) (k l : ReplyKind) (m n : ℕ) → ClosureCause v feature closed k m → ClosureCause v feature closed l n → Same k l m n
+one_closure : (v : Version) (asked : Closure) (k l : ReplyKind) (m n : ℕ) → ClosureCause v asked k m → ClosureCause v asked l n → Same k l m n
 unfolding Same
-one_closure v feature closed _ _ _ _ (missing a) (missing b) = (refl, refl)
-one_closure v feature closed _ _ _ _ (missing a) (same b) = absurd (a b.0)
-one_closure v feature closed _ _ _ _ (missing a) (full b e) = absurd (a b.0)
-one_closure v feature closed _ _ _ _ (missing a) (done b e) = absurd (a b.0)
-one_closure v feature closed _ _ _ _ (same a) (missing b) = absurd (b a.0)
-one_closure v feature closed _ _ _ _ (same a) (same b) = (refl, refl)
-one_closure v feature closed _ _ _ _ (same a) (full b e) = absurd (b.1 a.1)
-one_closure v feature closed _ _ _ _ (same a) (done b e) = absurd (b.1 a.1)
-one_closure v feature closed _ _ _ _ (full a d) (missing b) = absurd (b a.0)
-one_closure v feature closed _ _ _ _ (full a d) (same b) = absurd (a.1 b.1)
-one_closure v feature closed _ _ _ _ (full a d) (full b e) = (refl, refl)
-one_closure v feature closed _ _ _ _ (full a d) (done b e) = absurd (omega arith)
-one_closure v feature closed _ _ _ _ (done a d) (missing b) = absurd (b a.0)
-one_closure v feature closed _ _ _ _ (done a d) (same b) = absurd (a.1 b.1)
-one_closure v feature closed _ _ _ _ (done a d) (full b e) = absurd (omega arith)
-one_closure v feature closed _ _ _ _ (done a d) (done b e) = (refl, refl)
+one_closure v asked _ _ _ _ (missing a) (missing b) = (refl, refl)
+one_closure v asked _ _ _ _ (missing a) (same b) = absurd (a b.0)
+one_closure v asked _ _ _ _ (missing a) (full b e) = absurd (a b.0)
+one_closure v asked _ _ _ _ (missing a) (done b e) = absurd (a b.0)
+one_closure v asked _ _ _ _ (same a) (missing b) = absurd (b a.0)
+one_closure v asked _ _ _ _ (same a) (same b) = (refl, refl)
+one_closure v asked _ _ _ _ (same a) (full b e) = absurd (b.1 a.1)
+one_closure v asked _ _ _ _ (same a) (done b e) = absurd (b.1 a.1)
+one_closure v asked _ _ _ _ (full a d) (missing b) = absurd (b a.0)
+one_closure v asked _ _ _ _ (full a d) (same b) = absurd (a.1 b.1)
+one_closure v asked _ _ _ _ (full a d) (full b e) = (refl, refl)
+one_closure v asked _ _ _ _ (full a d) (done b e) = absurd (omega arith)
+one_closure v asked _ _ _ _ (done a d) (missing b) = absurd (b a.0)
+one_closure v asked _ _ _ _ (done a d) (same b) = absurd (a.1 b.1)
+one_closure v asked _ _ _ _ (done a d) (full b e) = absurd (omega arith)
+one_closure v asked _ _ _ _ (done a d) (done b e) = (refl, refl)
 
 -- files are rejected or make a venue, and not both
 abbrev pub OneOutcome : Type 0
@@ -150,10 +163,10 @@ one_publish outcome s v folder _ _ _ _ (done c d e) (rejected a b) = absurd (not
 one_publish outcome s v folder _ _ _ _ (done a b c) (full d e f) = absurd (omega arith)
 one_publish outcome s v folder _ _ _ _ (done a b c) (done d e f) = (refl, refl)
 
-same_closure : (feature : FeatureId) (closed : Bool) (h : List Entry) (r s : Reply) → ClosureAt feature closed h r → ClosureAt feature closed h s → Same (kind_of r) (kind_of s) (told r) (told s)
-same_closure feature closed h r s a b =
-    let moved = subst (λ (v : Version). ClosureCause v feature closed (kind_of s) (told s)) (one_version h b.version a.version b.stands a.stands) b.cause in
-    one_closure a.version feature closed (kind_of r) (kind_of s) (told r) (told s) a.cause moved
+same_closure : (asked : Closure) (h : List Entry) (r s : Reply) → ClosureAt asked h r → ClosureAt asked h s → Same (kind_of r) (kind_of s) (told r) (told s)
+same_closure asked h r s a b =
+    let moved = subst (λ (v : Version). ClosureCause v asked (kind_of s) (told s)) (one_version h b.version a.version b.stands a.stands) b.cause in
+    one_closure a.version asked (kind_of r) (kind_of s) (told r) (told s) a.cause moved
 
 same_publish : OneOutcome → (shelf : Shelf) (folder : List ℕ) (h : List Entry) (r s : Reply) → PublishAt (Some shelf) folder h r → PublishAt (Some shelf) folder h s
     → Same (kind_of r) (kind_of s) (told r) (told s)
@@ -166,7 +179,7 @@ pub one_reply : OneOutcome → (shelf : Shelf) (worker : ℕ) (asked : Change) (
     → r ≢ reply.OutOfMemory → s ≢ reply.OutOfMemory → ¬ IsOutsideFault r → ¬ IsOutsideFault s
     → Changes (Some shelf) worker asked h r k → Changes (Some shelf) worker asked h s l → (kind_of r ≡ kind_of s) × (told r ≡ told s)
 unfolding Same
-one_reply outcome shelf worker (change.Closure feature closed) h k l r s some some' inside inside' is also =
-    same_closure feature closed h r s (closure_at (Some shelf) worker feature closed h k r some is) (closure_at (Some shelf) worker feature closed h l s some' also)
+one_reply outcome shelf worker (change.Closure asked) h k l r s some some' inside inside' is also =
+    same_closure asked h r s (closure_at (Some shelf) worker asked h k r some is) (closure_at (Some shelf) worker asked h l s some' also)
 one_reply outcome shelf worker (change.Publish folder) h k l r s some some' inside inside' is also =
     same_publish outcome shelf folder h r s (publish_at (Some shelf) worker folder h k r some inside is) (publish_at (Some shelf) worker folder h l s some' inside' also)

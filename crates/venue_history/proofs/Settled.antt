@@ -18,8 +18,8 @@ use Rattle.venue_history.specs.Histories.{after_all, MayAllFollow, opening_of, r
 
 after_settings : (v : Version) (a : Act) → (after v a).settings ≡ v.settings
 after_settings v (Published venue) = refl
-after_settings v (Closed id) = refl
-after_settings v (Reopened id) = refl
+after_settings v (Closed it) = refl
+after_settings v (Reopened it) = refl
 
 all_settings : (v : Version) (es : List Entry) → (after_all v es).settings ≡ v.settings
 all_settings v [] = refl
@@ -28,13 +28,13 @@ all_settings v (e ∷ es) = all_settings (after v e.act) es ∙ after_settings v
 -- the settings are those of the venue that was published first
 pub replay_settings : (a : Act) (venue : Venue) (es : List Entry) (v : Version) → replay_from a es ≡ Some v → IsPublished venue a → v.settings ≡ venue.settings
 replay_settings (Published first) venue es v r o = ap (λ (w : Version). w.settings) (sym (same_Some (after_all _ es) v r)) ∙ (all_settings _ es ∙ ap (λ (w : Venue). w.settings) o)
-replay_settings (Closed id) venue es v r o = absurd o
-replay_settings (Reopened id) venue es v r o = absurd o
+replay_settings (Closed it) venue es v r o = absurd o
+replay_settings (Reopened it) venue es v r o = absurd o
 
 after_valid : (v : Version) (a : Act) → AreValid v.features v.settings → Fits v a → AreValid (after v a).features (after v a).settings
 after_valid v (Published venue) valid fits = fits.1
-after_valid v (Closed id) valid fits = valid
-after_valid v (Reopened id) valid fits = valid
+after_valid v (Closed it) valid fits = valid
+after_valid v (Reopened it) valid fits = valid
 
 all_valid : (v : Version) (es : List Entry) → AreValid v.features v.settings → MayAllFollow v es → AreValid (after_all v es).features (after_all v es).settings
 all_valid v [] valid l = valid
@@ -42,8 +42,8 @@ all_valid v (e ∷ es) valid l = all_valid (after v e.act) es (after_valid v e.a
 
 act_valid : (a : Act) (es : List Entry) (v : Version) → replay_from a es ≡ Some v → IsLegalFrom a es → AreValid v.features v.settings
 act_valid (Published venue) es v r l = subst (λ (w : Version). AreValid w.features w.settings) (same_Some (after_all _ es) v r) (all_valid _ es l.0 l.1)
-act_valid (Closed id) es v r l = absurd l
-act_valid (Reopened id) es v r l = absurd l
+act_valid (Closed it) es v r l = absurd l
+act_valid (Reopened it) es v r l = absurd l
 
 -- every phase accepts the rows
 pub replay_valid : (h : List Entry) (v : Version) → Replays h v → ∥ AreValid v.features v.settings ∥₁
@@ -56,8 +56,8 @@ IsUnder settings e = (venue : Venue) → IsPublished venue e.act → venue.setti
 
 fit_settings : (v : Version) (a : Act) (venue : Venue) → Fits v a → IsPublished venue a → venue.settings ≡ v.settings
 fit_settings v (Published it) venue fits is = ap (λ (w : Venue). w.settings) (sym is) ∙ fits.0
-fit_settings v (Closed id) venue fits is = absurd is
-fit_settings v (Reopened id) venue fits is = absurd is
+fit_settings v (Closed it) venue fits is = absurd is
+fit_settings v (Reopened it) venue fits is = absurd is
 
 all_under : (v : Version) (es : List Entry) → MayAllFollow v es → All (IsUnder v.settings) es
 unfolding IsUnder
@@ -74,8 +74,8 @@ act_under (Published first) e es v same r l =
     All-cons (IsUnder v.settings) e es
     (λ venue is. ap (λ (w : Venue). w.settings) (sym (subst (IsPublished venue) same is)) ∙ settings)
     (subst (λ (s : Settings). All (IsUnder s) es) settings (all_under (opening_of (arc_value first)) es l.1))
-act_under (Closed id) e es v same r l = absurd l
-act_under (Reopened id) e es v same r l = absurd l
+act_under (Closed it) e es v same r l = absurd l
+act_under (Reopened it) e es v same r l = absurd l
 
 -- every venue that the history publishes has the settings
 pub replay_under : (h : List Entry) (v : Version) (e : Entry) (venue : Venue) → Replays h v → Contains h e → IsPublished venue e.act → venue.settings ≡ v.settings

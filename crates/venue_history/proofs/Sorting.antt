@@ -19,15 +19,17 @@ use Rattle.venue_history.specs.Replies.{ReplyKind, kind_of}
 use Rattle.venue_history.specs.Replies as kind
 
 -- where there is a walk of what may be used there isn't none
-not_both : (v : Version) (from to : FeatureId) (name : List ℕ) (p q : Profile) (a b a' b' cost : ℕ) (walk : List Link) → IsTrip v from to name p a b → IsTrip v from to name q a' b'
-    → IsLeast link_view (Usable v p) a b walk cost → HasNoWalk link_view (Usable v q) a' b' → ⊥
-not_both v from to name p q a b a' b' cost walk one other least none =
+not_both : (v : Version) (from to : FeatureId) (name : List ℕ) (m n : ℕ) (p q : Profile) (a b a' b' cost : ℕ) (walk : List Link)
+    → IsTrip v from to name m p a b → IsTrip v from to name n q a' b' → IsLeast link_view (Usable v m p) a b walk cost → HasNoWalk link_view (Usable v n q) a' b' → ⊥
+not_both v from to name m n p q a b a' b' cost walk one other least none =
+    let numbers = same_Some n m (sym other.has_number ∙ one.has_number) in
     let profiles = same_Some q p (sym other.has_profile ∙ one.has_profile) in
     let starts = same_Some a' a (sym other.has_from ∙ one.has_from) in
     let ends = same_Some b' b (sym other.has_to ∙ one.has_to) in
-    let here = subst (λ (r : Profile). HasNoWalk link_view (Usable v r) a' b') profiles none in
-    let from_a = subst (λ (n : ℕ). HasNoWalk link_view (Usable v p) n b') starts here in
-    let to_b = subst (λ (n : ℕ). HasNoWalk link_view (Usable v p) a n) ends from_a in
+    let same_number = subst (λ (o : ℕ). HasNoWalk link_view (Usable v o q) a' b') numbers none in
+    let here = subst (λ (r : Profile). HasNoWalk link_view (Usable v m r) a' b') profiles same_number in
+    let from_a = subst (λ (o : ℕ). HasNoWalk link_view (Usable v m p) o b') starts here in
+    let to_b = subst (λ (o : ℕ). HasNoWalk link_view (Usable v m p) a o) ends from_a in
     to_b walk least.leads
 
 -- what the kind of a reply on a place says
@@ -40,8 +42,8 @@ data RouteCause (v : Version) (from to : FeatureId) (name : List ℕ) : ReplyKin
   no_profile : LacksProfile v name → RouteCause v from to name kind.no_profile
   no_start : HasProfile v name → IsNoPlace v from → RouteCause v from to name (kind.no_place which.From)
   no_end : HasProfile v name → IsPlace v from → IsNoPlace v to → RouteCause v from to name (kind.no_place which.To)
-  walk : (p : Profile) (a b cost : ℕ) (w : List Link) → IsTrip v from to name p a b → IsLeast link_view (Usable v p) a b w cost → RouteCause v from to name kind.route
-  no_walk : (p : Profile) (a b : ℕ) → IsTrip v from to name p a b → HasNoWalk link_view (Usable v p) a b → RouteCause v from to name kind.no_route
+  walk : (m : ℕ) (p : Profile) (a b cost : ℕ) (w : List Link) → IsTrip v from to name m p a b → IsLeast link_view (Usable v m p) a b w cost → RouteCause v from to name kind.route
+  no_walk : (m : ℕ) (p : Profile) (a b : ℕ) → IsTrip v from to name m p a b → HasNoWalk link_view (Usable v m p) a b → RouteCause v from to name kind.no_route
 
 version_kind : (v : Version) (r : Reply) → AnswersAsk v ask.Version r → kind_of r ≡ kind.version
 version_kind v (reply.Version number closed count) is = refl
@@ -52,12 +54,12 @@ places_kind v (reply.Places number rows) is = refl
 places_kind v _ is = absurd is
 
 closures_kind : (v : Version) (r : Reply) → AnswersAsk v ask.Closures r → kind_of r ≡ kind.closures
-closures_kind v (reply.Closures number closed) is = refl
+closures_kind v (reply.Closures it) is = refl
 closures_kind v _ is = absurd is
 
 place_cause : (v : Version) (id : FeatureId) (r : Reply) → AnswersAsk v (ask.Place id) r → PlaceCause v id (kind_of r)
 place_cause v id (reply.NoPlace which.Id) is = nowhere is
-place_cause v id (reply.Place number row closed) is = somewhere is.0
+place_cause v id (reply.Place it) is = somewhere is.0
 place_cause v id _ is = absurd is
 
 route_cause : (v : Version) (from to : FeatureId) (name : List ℕ) (certificate : Bool) (r : Reply) → AnswersAsk v (ask.Route from to name certificate) r
@@ -66,8 +68,8 @@ route_cause v from to name certificate reply.NoProfile is = no_profile is
 route_cause v from to name certificate (reply.NoPlace which.From) is = no_start is.0 is.1
 route_cause v from to name certificate (reply.NoPlace which.To) is = no_end is.0 is.1 is.2
 route_cause v from to name certificate (reply.Route number from' to' name' start cost steps potentials) is =
-    walk is.2.profile is.2.a is.2.b cost is.2.walk is.2.trip is.2.least
-route_cause v from to name certificate (reply.NoRoute number from' to' name' reached) is = no_walk is.2.profile is.2.a is.2.b is.2.trip is.2.none
+    walk is.2.number is.2.profile is.2.a is.2.b cost is.2.walk is.2.trip is.2.least
+route_cause v from to name certificate (reply.NoRoute number from' to' name' reached) is = no_walk is.2.number is.2.profile is.2.a is.2.b is.2.trip is.2.none
 route_cause v from to name certificate _ is = absurd is
 
 one_place : (v : Version) (id : FeatureId) (k l : ReplyKind) → PlaceCause v id k → PlaceCause v id l → k ≡ l
@@ -80,28 +82,28 @@ one_route : (v : Version) (from to : FeatureId) (name : List ℕ) (k l : ReplyKi
 one_route v from to name _ _ (no_profile e) (no_profile f) = refl
 one_route v from to name _ _ (no_profile e) (no_start f g) = absurd (cc (e, f.1))
 one_route v from to name _ _ (no_profile e) (no_end f g h) = absurd (cc (e, f.1))
-one_route v from to name _ _ (no_profile e) (walk p a b cost w t l) = absurd (cc (e, t.has_profile))
-one_route v from to name _ _ (no_profile e) (no_walk p a b t n) = absurd (cc (e, t.has_profile))
+one_route v from to name _ _ (no_profile e) (walk m p a b cost w t l) = absurd (cc (e, t.has_profile))
+one_route v from to name _ _ (no_profile e) (no_walk m p a b t n) = absurd (cc (e, t.has_profile))
 one_route v from to name _ _ (no_start f g) (no_profile e) = absurd (cc (e, f.1))
 one_route v from to name _ _ (no_start f g) (no_start d e) = refl
 one_route v from to name _ _ (no_start f g) (no_end d e h) = absurd (cc (g, e.1))
-one_route v from to name _ _ (no_start f g) (walk p a b cost w t l) = absurd (cc (g, t.has_from))
-one_route v from to name _ _ (no_start f g) (no_walk p a b t n) = absurd (cc (g, t.has_from))
+one_route v from to name _ _ (no_start f g) (walk m p a b cost w t l) = absurd (cc (g, t.has_from))
+one_route v from to name _ _ (no_start f g) (no_walk m p a b t n) = absurd (cc (g, t.has_from))
 one_route v from to name _ _ (no_end d e h) (no_profile f) = absurd (cc (f, d.1))
 one_route v from to name _ _ (no_end d e h) (no_start f g) = absurd (cc (g, e.1))
 one_route v from to name _ _ (no_end d e h) (no_end d' e' h') = refl
-one_route v from to name _ _ (no_end d e h) (walk p a b cost w t l) = absurd (cc (h, t.has_to))
-one_route v from to name _ _ (no_end d e h) (no_walk p a b t n) = absurd (cc (h, t.has_to))
-one_route v from to name _ _ (walk p a b cost w t l) (no_profile e) = absurd (cc (e, t.has_profile))
-one_route v from to name _ _ (walk p a b cost w t l) (no_start f g) = absurd (cc (g, t.has_from))
-one_route v from to name _ _ (walk p a b cost w t l) (no_end d e h) = absurd (cc (h, t.has_to))
-one_route v from to name _ _ (walk p a b cost w t l) (walk p' a' b' cost' w' t' l') = refl
-one_route v from to name _ _ (walk p a b cost w t l) (no_walk q a' b' t' n) = absurd (not_both v from to name p q a b a' b' cost w t t' l n)
-one_route v from to name _ _ (no_walk p a b t n) (no_profile e) = absurd (cc (e, t.has_profile))
-one_route v from to name _ _ (no_walk p a b t n) (no_start f g) = absurd (cc (g, t.has_from))
-one_route v from to name _ _ (no_walk p a b t n) (no_end d e h) = absurd (cc (h, t.has_to))
-one_route v from to name _ _ (no_walk p a b t n) (walk q a' b' cost w t' l) = absurd (not_both v from to name q p a' b' a b cost w t' t l n)
-one_route v from to name _ _ (no_walk p a b t n) (no_walk p' a' b' t' n') = refl
+one_route v from to name _ _ (no_end d e h) (walk m p a b cost w t l) = absurd (cc (h, t.has_to))
+one_route v from to name _ _ (no_end d e h) (no_walk m p a b t n) = absurd (cc (h, t.has_to))
+one_route v from to name _ _ (walk m p a b cost w t l) (no_profile e) = absurd (cc (e, t.has_profile))
+one_route v from to name _ _ (walk m p a b cost w t l) (no_start f g) = absurd (cc (g, t.has_from))
+one_route v from to name _ _ (walk m p a b cost w t l) (no_end d e h) = absurd (cc (h, t.has_to))
+one_route v from to name _ _ (walk m p a b cost w t l) (walk m' p' a' b' cost' w' t' l') = refl
+one_route v from to name _ _ (walk m p a b cost w t l) (no_walk m' q a' b' t' n) = absurd (not_both v from to name m m' p q a b a' b' cost w t t' l n)
+one_route v from to name _ _ (no_walk m p a b t n) (no_profile e) = absurd (cc (e, t.has_profile))
+one_route v from to name _ _ (no_walk m p a b t n) (no_start f g) = absurd (cc (g, t.has_from))
+one_route v from to name _ _ (no_walk m p a b t n) (no_end d e h) = absurd (cc (h, t.has_to))
+one_route v from to name _ _ (no_walk m p a b t n) (walk m' q a' b' cost w t' l) = absurd (not_both v from to name m' m q p a' b' a b cost w t' t l n)
+one_route v from to name _ _ (no_walk m p a b t n) (no_walk m' p' a' b' t' n') = refl
 
 one_answer : (v : Version) (asked : Ask) (r s : Reply) → AnswersAsk v asked r → AnswersAsk v asked s → kind_of r ≡ kind_of s
 one_answer v ask.Version r s is also = version_kind v r is ∙ sym (version_kind v s also)

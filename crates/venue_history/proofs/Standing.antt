@@ -24,9 +24,9 @@ IsKeptBy v = (test : FeatureId → Bool) × (v.closed ≡ filter test (closables
 after_kept : (v : Version) (a : Act) → IsKeptBy v → IsKeptBy (after v a)
 unfolding IsKeptBy
 after_kept v (Published venue) kept = (is_closed v, refl)
-after_kept v (Closed id) kept = (_, refl)
-after_kept v (Reopened id) kept =
-    let others = λ (other : FeatureId). not (is_same other id) in
+after_kept v (Closed it) kept = (_, refl)
+after_kept v (Reopened it) kept =
+    let others = λ (other : FeatureId). not (is_same other it.feature) in
     (λ other. kept.0 other && others other, ap (filter others) kept.1 ∙ filter_filter kept.0 others (closables v.features))
 
 all_kept : (v : Version) (es : List Entry) → IsKeptBy v → IsKeptBy (after_all v es)
@@ -38,8 +38,8 @@ unfolding IsKeptBy
 act_kept (Published venue) es v r =
     let first = opening_of (arc_value venue) in
     subst IsKeptBy (same_Some (after_all first es) v r) (all_kept first es ((λ id. false), sym (filter_none (closables (arc_value venue).features))))
-act_kept (Closed id) es v r = absurd (cc r)
-act_kept (Reopened id) es v r = absurd (cc r)
+act_kept (Closed it) es v r = absurd (cc r)
+act_kept (Reopened it) es v r = absurd (cc r)
 
 replay_kept : (h : List Entry) (v : Version) → Replays h v → IsKeptBy v
 replay_kept [] v r = absurd (cc r.leads)

@@ -22,8 +22,8 @@ use Rattle.venue_build.specs.Identity.{is_same}
 use Rattle.venue_build.specs.Nodes.{nodes, place_of}
 use Rattle.venue_build.specs.Views.{link_view, potential_view}
 use Rattle.venue_build.specs.Places.{places}
-use Rattle.venue_history.specs.Closed.{Version, is_closed, closed_ids, closed_count}
-use Rattle.venue_history.specs.Ways.{Usable, profile_of, name_of, step_of, mark_of}
+use Rattle.venue_history.specs.Closed.{Version, is_closed, closed_rows, closed_count}
+use Rattle.venue_history.specs.Ways.{Usable, profile_number, profile_of, name_of, step_of, mark_of}
 
 -- the question asks for a version that isn't there yet
 abbrev pub IsTooEarly : Version → Option ℕ → Type 0
@@ -40,49 +40,52 @@ IfAsked true IsSo (Some x) = IsSo x
 IfAsked false IsSo None = Unit {0}
 IfAsked _ IsSo _ = ⊥
 
--- a route that can be asked for: there is a profile of the name, and both ends are places, at these nodes
-pub record IsTrip (v : Version) (from to : FeatureId) (name : List ℕ) (profile : Profile) (a b : ℕ) : Type 0 where
+-- a route that can be asked for: there is a profile of the name, with its number, and both ends are places, at these nodes
+pub record IsTrip (v : Version) (from to : FeatureId) (name : List ℕ) (number : ℕ) (profile : Profile) (a b : ℕ) : Type 0 where
+  pub has_number : profile_number v.settings name ≡ Some number
   pub has_profile : profile_of v.settings name ≡ Some profile
   pub has_from : place_of v.features from ≡ Some a
   pub has_to : place_of v.features to ≡ Some b
 
 -- the marks show that no walk from a to b costs less: potentials of nodes alone, which rise by node, lie below the cost, and are a certificate
-pub record AreShown (v : Version) (profile : Profile) (a b cost : ℕ) (marks : List Mark) : Type 0 where
+pub record AreShown (v : Version) (number : ℕ) (profile : Profile) (a b cost : ℕ) (marks : List Mark) : Type 0 where
   pub listed : List Potential
   pub told : marks ≡ map (mark_of v) listed
   pub nodes_alone : All (λ (p : Potential). p.node < length (nodes v.features)) listed
   pub rising : Ascends potential_view listed
   pub below : All (λ (p : Potential). p.value < cost) listed
-  pub certificate : IsCertificate link_view (Usable v profile) a b cost (potential potential_view cost listed)
+  pub certificate : IsCertificate link_view (Usable v number profile) a b cost (potential potential_view cost listed)
 
 -- the names are those of exactly the nodes to which a walk from a leads, and rise by node
-pub record AreReached (v : Version) (profile : Profile) (a : ℕ) (names : List FeatureId) : Type 0 where
+pub record AreReached (v : Version) (number : ℕ) (profile : Profile) (a : ℕ) (names : List FeatureId) : Type 0 where
   pub listed : List ℕ
   pub told : names ≡ map (name_of v) listed
   pub rising : IsStrictlyIncreasing listed
-  pub exact : (n : ℕ) → Contains listed n ↔ HasWalk link_view (Usable v profile) a n
+  pub exact : (n : ℕ) → Contains listed n ↔ HasWalk link_view (Usable v number profile) a n
 
 -- a cheapest walk of what may be used leads from place to place, step by step as told, from the node that is named
 pub record IsRoute (v : Version) (from to : FeatureId) (name : List ℕ) (certificate : Bool)
     (start : FeatureId) (cost : ℕ) (steps : List StepRow) (potentials : Option (List Mark)) : Type 0 where
+  pub number : ℕ
   pub profile : Profile
   pub a : ℕ
   pub b : ℕ
-  pub trip : IsTrip v from to name profile a b
+  pub trip : IsTrip v from to name number profile a b
   pub walk : List Link
-  pub least : IsLeast link_view (Usable v profile) a b walk cost
+  pub least : IsLeast link_view (Usable v number profile) a b walk cost
   pub stepped : steps ≡ map (step_of v) walk
   pub started : start ≡ name_of v a
-  pub shown : IfAsked certificate (AreShown v profile a b cost) potentials
+  pub shown : IfAsked certificate (AreShown v number profile a b cost) potentials
 
 -- no walk of what may be used leads from place to place
 pub record IsNoRoute (v : Version) (from to : FeatureId) (name : List ℕ) (certificate : Bool) (reached : Option (List FeatureId)) : Type 0 where
+  pub number : ℕ
   pub profile : Profile
   pub a : ℕ
   pub b : ℕ
-  pub trip : IsTrip v from to name profile a b
-  pub none : HasNoWalk link_view (Usable v profile) a b
-  pub shown : IfAsked certificate (AreReached v profile a) reached
+  pub trip : IsTrip v from to name number profile a b
+  pub none : HasNoWalk link_view (Usable v number profile) a b
+  pub shown : IfAsked certificate (AreReached v number profile a) reached
 
 -- the reply tells again what was asked
 pub record RepeatsTrip (from to : FeatureId) (name : List ℕ) (from' to' : FeatureId) (name' : List ℕ) : Type 0 where
@@ -111,8 +114,8 @@ abbrev pub AnswersAsk : Version → Ask → Reply → Type 0
 AnswersAsk v ask.Version (reply.Version number closed count) = (number ≡ v.number) × (closed ≡ closed_count v) × (count ≡ length (places v.features))
 AnswersAsk v ask.Places (reply.Places number rows) = (number ≡ v.number) × (rows ≡ places v.features)
 AnswersAsk v (ask.Place id) (reply.NoPlace which.Id) = IsNoPlace v id
-AnswersAsk v (ask.Place id) (reply.Place number row closed) = IsPlace v id × (number ≡ v.number) × (place_row v.features id ≡ Some row) × (closed ≡ is_closed v id)
-AnswersAsk v ask.Closures (reply.Closures number closed) = (number ≡ v.number) × (closed ≡ closed_ids v)
+AnswersAsk v (ask.Place id) (reply.Place it) = IsPlace v id × (it.number ≡ v.number) × (place_row v.features id ≡ Some it.row) × (it.closed ≡ is_closed v id)
+AnswersAsk v ask.Closures (reply.Closures it) = (it.number ≡ v.number) × (it.closed ≡ closed_rows v)
 AnswersAsk v (ask.Route from to name certificate) reply.NoProfile = LacksProfile v name
 AnswersAsk v (ask.Route from to name certificate) (reply.NoPlace which.From) = HasProfile v name × IsNoPlace v from
 AnswersAsk v (ask.Route from to name certificate) (reply.NoPlace which.To) = HasProfile v name × IsPlace v from × IsNoPlace v to

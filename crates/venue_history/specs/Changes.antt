@@ -7,6 +7,8 @@ use Rattle.venue_types.specs.declared.files.Files.{Files}
 use Rattle.venue_types.specs.declared.finding.Report.{Report}
 use Rattle.venue_types.specs.declared.query.Change.{Change}
 use Rattle.venue_types.specs.declared.query.Change.TheVariants as change
+use Rattle.venue_types.specs.declared.query.Closure.{Closure}
+use Rattle.venue_types.specs.declared.reply.ClosureDone.{ClosureDone}
 use Rattle.venue_types.specs.declared.reply.Reply.{Reply}
 use Rattle.venue_types.specs.declared.reply.Reply.TheVariants as reply
 use Rattle.venue_ports.specs.Causes.{Rose}
@@ -38,17 +40,17 @@ pub record Breaks (shelf : Option Shelf) (v : Version) (folder : List ℕ) (repo
   pub read : AreRead shelf folder files
   pub breaks : IsRejected files v.settings report
 
--- the feature can be closed, and stands so already
-abbrev pub StandsSo : Version → FeatureId → Bool → Type 0
-StandsSo v feature closed = Contains (closables v.features) feature × (is_closed v feature ≡ closed)
+-- the feature can be closed, and stands as asked already
+abbrev pub StandsSo : Version → Closure → Type 0
+StandsSo v asked = Contains (closables v.features) asked.feature × (is_closed v asked.feature ≡ asked.closed)
 
 -- the feature can be closed, and stands otherwise
-abbrev pub StandsOtherwise : Version → FeatureId → Bool → Type 0
-StandsOtherwise v feature closed = Contains (closables v.features) feature × (is_closed v feature ≢ closed)
+abbrev pub StandsOtherwise : Version → Closure → Type 0
+StandsOtherwise v asked = Contains (closables v.features) asked.feature × (is_closed v asked.feature ≢ asked.closed)
 
 -- the change would add an entry, if it didn't come late: the feature can be closed and stands otherwise, or the files make a venue
 abbrev pub IsDue : Option Shelf → Version → Change → Type 0
-IsDue shelf v (change.Closure feature closed) = StandsOtherwise v feature closed
+IsDue shelf v (change.Closure asked) = StandsOtherwise v asked
 IsDue shelf v (change.Publish folder) = (venue : Venue) × Makes shelf v folder venue
 
 -- a change that is due comes late: the version is the last one, and the reply tells its number
@@ -56,19 +58,25 @@ abbrev pub IsLate : Version → Reply → Type 0
 IsLate v (reply.HistoryFull number) = (number ≡ v.number) × (v.number ≡ v.settings.last_version)
 IsLate v _ = ⊥
 
+-- the reply tells, at the version of this number, that the feature stands as asked; `changed` tells whether it stood otherwise before
+pub record TellsClosure (number : ℕ) (asked : Closure) (changed : Bool) (done : ClosureDone) : Type 0 where
+  pub number_is : done.number ≡ number
+  pub feature_is : done.feature ≡ asked.feature
+  pub closed_is : done.closed ≡ asked.closed
+  pub changed_is : done.changed ≡ changed
+
 -- the reply is right where the change leaves the history as it is
 abbrev pub Refuses : Option Shelf → Version → Change → Reply → Type 0
-Refuses shelf v (change.Closure feature closed) reply.NoFeature = ¬ Contains (closables v.features) feature
-Refuses shelf v (change.Closure feature closed) (reply.ClosureDone number feature' closed' false) =
-    StandsSo v feature closed × (number ≡ v.number) × (feature' ≡ feature) × (closed' ≡ closed)
+Refuses shelf v (change.Closure asked) reply.NoFeature = ¬ Contains (closables v.features) asked.feature
+Refuses shelf v (change.Closure asked) (reply.ClosureDone done) = StandsSo v asked × TellsClosure v.number asked false done
 Refuses shelf v (change.Publish folder) (reply.FolderFault before after) = Rose before after
 Refuses shelf v (change.Publish folder) (reply.Rejected report) = Breaks shelf v folder report
 Refuses shelf v asked r = IsDue shelf v asked × IsLate v r
 
 -- the act to which the change comes at the version
 abbrev pub IsActOf : Option Shelf → Version → Change → Act → Type 0
-IsActOf shelf v (change.Closure feature closed) (act.Closed id) = (closed ≡ true) × (id ≡ feature) × StandsOtherwise v feature closed
-IsActOf shelf v (change.Closure feature closed) (act.Reopened id) = (closed ≡ false) × (id ≡ feature) × StandsOtherwise v feature closed
+IsActOf shelf v (change.Closure asked) (act.Closed it) = (asked.closed ≡ true) × (it.feature ≡ asked.feature) × StandsOtherwise v asked
+IsActOf shelf v (change.Closure asked) (act.Reopened it) = (asked.closed ≡ false) × (it.feature ≡ asked.feature) × StandsOtherwise v asked
 IsActOf shelf v (change.Publish folder) (act.Published venue) = Makes shelf v folder (arc_value venue)
 IsActOf shelf v _ _ = ⊥
 
@@ -78,8 +86,8 @@ dropped_ids v features = filter (λ id. not (is_one_of (closables features) id))
 
 -- the reply tells that the act was done at the version
 abbrev pub TellsOf : Version → Act → Reply → Type 0
-TellsOf v (act.Closed id) (reply.ClosureDone number feature closed changed) = (number ≡ v.number + 1) × (feature ≡ id) × (closed ≡ true) × (changed ≡ true)
-TellsOf v (act.Reopened id) (reply.ClosureDone number feature closed changed) = (number ≡ v.number + 1) × (feature ≡ id) × (closed ≡ false) × (changed ≡ true)
+TellsOf v (act.Closed it) (reply.ClosureDone done) = TellsClosure (v.number + 1) (record { feature = it.feature; closed = true }) true done
+TellsOf v (act.Reopened it) (reply.ClosureDone done) = TellsClosure (v.number + 1) (record { feature = it.feature; closed = false }) true done
 TellsOf v (act.Published venue) (reply.Published number dropped) = (number ≡ v.number + 1) × (dropped ≡ dropped_ids v (arc_value venue).features)
 TellsOf v _ _ = ⊥
 
@@ -101,10 +109,15 @@ pub record IsAccepted (shelf : Option Shelf) (worker : ℕ) (asked : Change) (h 
   pub tells : TellsOf version entry.act r
   pub grown : k ≡ h ++ entry ∷ []
 
+-- accepted where something changed, and else refused or needless
+abbrev pub IsAcceptedIf : Bool → Option Shelf → ℕ → Change → List Entry → Reply → List Entry → Type 0
+IsAcceptedIf true shelf worker asked h r k = IsAccepted shelf worker asked h r k
+IsAcceptedIf false shelf worker asked h r k = IsRefused shelf asked h r k
+
 -- the worker asks for the change at the history h, the reply is r, and the history is k then; want of memory may stand for
 -- every other answer, and changes nothing
 abbrev pub Changes : Option Shelf → ℕ → Change → List Entry → Reply → List Entry → Type 0
-Changes shelf worker asked h (reply.ClosureDone number feature closed true) k = IsAccepted shelf worker asked h (reply.ClosureDone number feature closed true) k
+Changes shelf worker asked h (reply.ClosureDone done) k = IsAcceptedIf done.changed shelf worker asked h (reply.ClosureDone done) k
 Changes shelf worker asked h (reply.Published number dropped) k = IsAccepted shelf worker asked h (reply.Published number dropped) k
 Changes shelf worker asked h reply.OutOfMemory k = k ≡ h
 Changes shelf worker asked h r k = IsRefused shelf asked h r k

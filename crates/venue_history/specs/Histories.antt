@@ -26,8 +26,8 @@ opening_of venue = opening venue.features venue.settings
 -- the version after a first act and these entries, if that act is a publication
 abbrev pub replay_from : Act → List Entry → Option Version
 replay_from (Published venue) es = Some (after_all (opening_of (arc_value venue)) es)
-replay_from (Closed id) es = None
-replay_from (Reopened id) es = None
+replay_from (Closed it) es = None
+replay_from (Reopened it) es = None
 
 -- the version to which a history leads, if it begins with a publication
 abbrev pub replay : List Entry → Option Version
@@ -37,14 +37,14 @@ replay (e ∷ es) = replay_from e.act es
 -- the first act is a publication of rows that every phase accepts, and each of these entries may follow
 abbrev pub IsLegalFrom : Act → List Entry → Type 0
 IsLegalFrom (Published venue) es = AreValid (arc_value venue).features (arc_value venue).settings × MayAllFollow (opening_of (arc_value venue)) es
-IsLegalFrom (Closed id) es = ⊥
-IsLegalFrom (Reopened id) es = ⊥
+IsLegalFrom (Closed it) es = ⊥
+IsLegalFrom (Reopened it) es = ⊥
 
 -- the act publishes this venue
 abbrev pub IsPublished : Venue → Act → Type 0
 IsPublished venue (Published it) = arc_value it ≡ venue
-IsPublished venue (Closed id) = ⊥
-IsPublished venue (Reopened id) = ⊥
+IsPublished venue (Closed it) = ⊥
+IsPublished venue (Reopened it) = ⊥
 
 -- worker 0 publishes first, and each further entry may be made at the version after those before it
 abbrev pub KeepsTheRules : List Entry → Type 0

@@ -1,12 +1,12 @@
 -- What a reply tells by itself.
-use Rattle.std.specs.Prelude.{ℕ, true}
+use Rattle.std.specs.Prelude.{ℕ, if◌then◌else◌}
 use Rattle.venue_types.specs.declared.reply.Reply.{Reply}
 use Rattle.venue_types.specs.declared.reply.Reply.TheVariants as reply
 use Rattle.venue_types.specs.declared.reply.Which.{Which}
 
 -- 1 where the reply tells that a change was accepted, else 0
 abbrev pub told : Reply → ℕ
-told (reply.ClosureDone number feature closed true) = 1
+told (reply.ClosureDone done) = if done.changed then 1 else 0
 told (reply.Published number dropped) = 1
 told _ = 0
 
@@ -43,11 +43,11 @@ pub data ReplyKind : Type 0 where
 abbrev pub kind_of : Reply → ReplyKind
 kind_of (reply.Version number closed count) = version
 kind_of (reply.Places number rows) = places
-kind_of (reply.Place number row closed) = place
-kind_of (reply.Closures number closed) = closures
+kind_of (reply.Place it) = place
+kind_of (reply.Closures it) = closures
 kind_of (reply.Route number from to profile start cost steps potentials) = route
 kind_of (reply.NoRoute number from to profile reached) = no_route
-kind_of (reply.ClosureDone number feature closed changed) = closure_done
+kind_of (reply.ClosureDone done) = closure_done
 kind_of (reply.Published number dropped) = published
 kind_of (reply.Ahead since number) = ahead
 kind_of reply.NoProfile = no_profile

@@ -32,14 +32,14 @@ without_closed v id = filter (λ other. not (is_same other id)) v.closed
 -- that can be closed and is not, and a reopening one that is closed
 abbrev pub Fits : Version → Act → Type 0
 Fits v (Published venue) = ((arc_value venue).settings ≡ v.settings) × AreValid (arc_value venue).features v.settings
-Fits v (Closed id) = Contains (closables v.features) id × ¬ IsTrue (is_closed v id)
-Fits v (Reopened id) = IsTrue (is_closed v id)
+Fits v (Closed it) = Contains (closables v.features) it.feature × ¬ IsTrue (is_closed v it.feature)
+Fits v (Reopened it) = IsTrue (is_closed v it.feature)
 
 -- the version after the act
 abbrev pub after : Version → Act → Version
 after v (Published venue) = record v { number = v.number + 1; features = (arc_value venue).features; closed = still_closed v (arc_value venue).features }
-after v (Closed id) = record v { number = v.number + 1; closed = with_closed v id }
-after v (Reopened id) = record v { number = v.number + 1; closed = without_closed v id }
+after v (Closed it) = record v { number = v.number + 1; closed = with_closed v it.feature }
+after v (Reopened it) = record v { number = v.number + 1; closed = without_closed v it.feature }
 
 -- the entry may be made at the version: there is room for one version more, one of sixteen workers makes it, and it can be done
 pub record MayFollow (v : Version) (e : Entry) : Type 0 where

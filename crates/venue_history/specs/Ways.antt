@@ -1,6 +1,6 @@
 -- The links that somebody may use at a version, and how a reply names nodes and ways.
-use Rattle.std.specs.Prelude.{ℕ, List, Option, Some, None, slice_get}
-use Rattle.std.specs.List.{find}
+use Rattle.std.specs.Prelude.{ℕ, List, Option, Some, None, option_and_then, slice_get}
+use Rattle.std.specs.List.{position_from}
 use Rattle.std.specs.Str.{bytes_eq}
 use Rattle.venue_types.specs.declared.feature_id.FeatureId.{FeatureId}
 use Rattle.venue_types.specs.declared.link.Link.{Link}
@@ -13,13 +13,17 @@ use Rattle.venue_build.specs.Nodes.{nodes, closables}
 use Rattle.venue_build.specs.Usable.{IsUsable}
 use Rattle.venue_history.specs.Closed.{Version, closed_for}
 
--- the profile of this name, the first if there are several
-unfoldable pub profile_of : Settings → List ℕ → Option Profile
-profile_of settings name = find (λ (p : Profile). bytes_eq p.name name) settings.profiles
+-- the number of the profile of this name: the place in the settings, from 0, of the first that has it
+unfoldable pub profile_number : Settings → List ℕ → Option ℕ
+profile_number settings name = position_from (λ (p : Profile). bytes_eq p.name name) 0 settings.profiles
 
--- the link may be used by somebody with the profile, where what is closed for the profile is
-abbrev pub Usable : Version → Profile → Link → Type 0
-Usable v profile link = IsUsable v.features v.settings (closed_for v profile) profile link
+-- the profile of this name: the one at its number
+unfoldable pub profile_of : Settings → List ℕ → Option Profile
+profile_of settings name = option_and_then (slice_get settings.profiles) (profile_number settings name)
+
+-- the link may be used by somebody with the profile of this number, where what is closed for that profile is
+abbrev pub Usable : Version → ℕ → Profile → Link → Type 0
+Usable v number profile link = IsUsable v.features v.settings (closed_for v number) profile link
 
 -- the identifier that stands for no feature
 abbrev pub no_name : FeatureId

@@ -4,15 +4,21 @@ use std::sync::Arc;
 use venue_build::Venue;
 use venue_types::FeatureId;
 
+/// A feature that was closed, or opened again.
+#[derive(Clone, Copy, Debug, PartialEq, Eq)]
+pub struct Closing {
+    pub feature: FeatureId,
+}
+
 /// What was done.
 #[derive(Drop)]
 pub enum Act {
     /// This venue stands from here on.
     Published(Arc<Venue>),
     /// The feature is closed.
-    Closed(FeatureId),
+    Closed(Closing),
     /// The feature is open again.
-    Reopened(FeatureId),
+    Reopened(Closing),
 }
 
 /// A change that was accepted.

@@ -10,13 +10,13 @@ ghost use Rattle.venue_types.specs.declared.query.Change.{Change as AChange};
 ghost use Rattle.venue_types.specs.declared.query.Query.{Query as AQuery};
 ghost use Rattle.venue_types.specs.declared.reply.Reply.{Reply as AReply};
 ghost use Rattle.venue_types.specs.declared.reply.Reply.TheVariants as reply;
-ghost use Rattle.venue_types.specs.declared.settings.Profile.{Profile as AProfile};
 ghost use Rattle.venue_build.specs.Nodes.{closables};
 ghost use Rattle.venue_build.specs.Venues.{SeenVenue as AVenue};
 ghost use Rattle.venue_build.specs.Report.{AreValid};
 ghost use Rattle.venue_folder.specs.Shelves.{Shelf};
 ghost use Rattle.venue_history.specs.declared.entry.Entry.{Entry as AnEntry};
 ghost use Rattle.venue_history.specs.declared.entry.Act.TheVariants.{Published, Closed, Reopened};
+ghost use Rattle.venue_history.specs.declared.entry.Closing.{Closing};
 ghost use Rattle.venue_history.specs.Closed.{Version, is_closed, closed_for, closed_ids, closed_count};
 ghost use Rattle.venue_history.specs.Versions.{Fits, MayFollow, after};
 ghost use Rattle.venue_history.specs.Histories.{IsPublished, IsLegal, Replays};
@@ -65,7 +65,7 @@ pub fn version_law()
 pub fn closed_law()
     ensures ids { (v : Version) (id : FeatureId) → IsTrue (is_closed v id) ↔ Contains (closed_ids v) id }
     ensures count { (v : Version) → closed_count v ≡ length (closed_ids v) }
-    ensures for_profile { (v : Version) (profile : AProfile) (id : FeatureId) → IsTrue (is_closed v id) ↔ Contains (closed_for v profile) id }
+    ensures for_profile { (v : Version) (number : ℕ) (id : FeatureId) → IsTrue (is_closed v id) ↔ Contains (closed_for v number) id }
 {}
 
 /// What each act does to what is closed: a publication keeps of it what can be closed still, a closure adds one feature, and a
@@ -73,9 +73,9 @@ pub fn closed_law()
 pub fn act_law()
     ensures published { (v : Version) (venue : Arc AVenue Global) (id : FeatureId)
         → IsTrue (is_closed (after v (Published venue)) id) ↔ (IsTrue (is_closed v id) × Contains (closables (arc_value venue).features) id) }
-    ensures closed { (h : List AnEntry) (v : Version) (id other : FeatureId) → Replays h v → Fits v (Closed id)
-        → IsTrue (is_closed (after v (Closed id)) other) ↔ (IsTrue (is_closed v other) ⊎ (other ≡ id)) }
-    ensures reopened { (v : Version) (id other : FeatureId) → IsTrue (is_closed (after v (Reopened id)) other) ↔ (IsTrue (is_closed v other) × (other ≢ id)) }
+    ensures closed { (h : List AnEntry) (v : Version) (it : Closing) (other : FeatureId) → Replays h v → Fits v (Closed it)
+        → IsTrue (is_closed (after v (Closed it)) other) ↔ (IsTrue (is_closed v other) ⊎ (other ≡ it.feature)) }
+    ensures reopened { (v : Version) (it : Closing) (other : FeatureId) → IsTrue (is_closed (after v (Reopened it)) other) ↔ (IsTrue (is_closed v other) × (other ≢ it.feature)) }
 {}
 
 /// To one question at one version belongs one kind of reply, but for want of memory.

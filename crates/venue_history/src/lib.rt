@@ -6,7 +6,7 @@ mod entry;
 mod laws;
 mod opening;
 
-pub use entry::{Act, Entry};
+pub use entry::{Act, Closing, Entry};
 pub use laws::{
     act_law, answer_law, beginning_law, change_law, closed_law, entry_law, legal_law, number_law,
     refusal_law, version_law,

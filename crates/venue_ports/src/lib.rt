@@ -17,6 +17,7 @@ mod memory_disks;
 mod memory_doors;
 mod memory_folders;
 mod memory_stream;
+mod output;
 mod outside;
 mod plan;
 mod quiet;

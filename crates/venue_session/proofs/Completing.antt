@@ -1,12 +1,12 @@
 -- What is asked for gets what it asks for.
 use Rattle.std.proofs.Common.{◌≡◌, ◌∙◌, ◌⊎◌, ℕ, ◌<◌, inl, inr, List, length, refl, sym, subst, arith, Option, Some, Bool, true, false}
-use Rattle.venue_types.specs.declared.feature_id.FeatureId.{FeatureId}
 use Rattle.venue_types.specs.declared.files.Files.{Files}
 use Rattle.venue_types.specs.declared.finding.Report.{Report}
 use Rattle.venue_types.specs.declared.query.Ask.{Ask}
 use Rattle.venue_types.specs.declared.query.Ask.TheVariants as ask
 use Rattle.venue_types.specs.declared.query.Change.{Change}
 use Rattle.venue_types.specs.declared.query.Change.TheVariants as change
+use Rattle.venue_types.specs.declared.query.Closure.{Closure}
 use Rattle.venue_types.specs.declared.query.Query.{Query}
 use Rattle.venue_types.specs.declared.reply.Reply.{Reply}
 use Rattle.venue_types.specs.declared.reply.Reply.TheVariants as reply
@@ -20,7 +20,7 @@ use Rattle.venue_hall.specs.Act.{Act}
 use Rattle.venue_hall.specs.Act.TheVariants as act
 use Rattle.venue_hall.specs.Entry.{Entry}
 use Rattle.venue_hall.specs.Answers.{IsTooEarly, AnswersAsk, Answers}
-use Rattle.venue_hall.specs.Changes.{Makes, Breaks, IsActOf, TellsOf, Refuses, StandsSo, Changes}
+use Rattle.venue_hall.specs.Changes.{Makes, Breaks, IsActOf, TellsOf, Refuses, StandsSo, IsRefused, IsAccepted, IsAcceptedIf, Changes}
 use Rattle.venue_hall.specs.Closed.{Version}
 use Rattle.venue_hall.specs.Histories.{Replays}
 use Rattle.venue_hall.specs.Replies.{kind_of, closure_done, out_of_memory}
@@ -34,8 +34,8 @@ told_kind : (v : Version) (asked : Ask) (r : Reply) → IsThere v asked → Answ
 told_kind v ask.Version (reply.Version number closed count) there is = refl
 told_kind v ask.Places (reply.Places number rows) there is = refl
 told_kind v (ask.Place id) (reply.NoPlace which.Id) there is = absurd (cc (is, there.1))
-told_kind v (ask.Place id) (reply.Place number row closed) there is = refl
-told_kind v ask.Closures (reply.Closures number closed) there is = refl
+told_kind v (ask.Place id) (reply.Place it) there is = refl
+told_kind v ask.Closures (reply.Closures it) there is = refl
 told_kind v (ask.Route from to name certificate) reply.NoProfile there is = absurd (cc (is, there.0.1))
 told_kind v (ask.Route from to name certificate) (reply.NoPlace which.From) there is = absurd (cc (is.1, there.1.1))
 told_kind v (ask.Route from to name certificate) (reply.NoPlace which.To) there is = absurd (cc (is.2, there.2.1))
@@ -63,10 +63,10 @@ not_both outcome s v folder report venue b m =
 
 -- a change that can be made, with room for one version more, is refused for no cause of its own
 not_refused : OneOutcome → (s : Shelf) (v : Version) (asked : Change) (r : Reply) → HasRoom v → CanBeMade (Some s) v asked → Refuses (Some s) v asked r → IsMadeKind asked (kind_of r)
-not_refused outcome s v (change.Closure feature closed) reply.NoFeature room can is = absurd (is can)
-not_refused outcome s v (change.Closure feature closed) (reply.ClosureDone number feature' closed' false) room can is = refl
-not_refused outcome s v (change.Closure feature closed) (reply.HistoryFull number) room can is = absurd (omega (arith, room, is.1.1))
-not_refused outcome s v (change.Closure feature closed) _ room can is = absurd is.1
+not_refused outcome s v (change.Closure closure) reply.NoFeature room can is = absurd (is can)
+not_refused outcome s v (change.Closure closure) (reply.ClosureDone it) room can is = refl
+not_refused outcome s v (change.Closure closure) (reply.HistoryFull number) room can is = absurd (omega (arith, room, is.1.1))
+not_refused outcome s v (change.Closure closure) _ room can is = absurd is.1
 not_refused outcome s v (change.Publish folder) (reply.FolderFault before after) room can is = inr refl
 not_refused outcome s v (change.Publish folder) (reply.Rejected report) room can is = absurd (not_both outcome s v folder report can.0 is can.1)
 not_refused outcome s v (change.Publish folder) (reply.HistoryFull number) room can is = absurd (omega (arith, room, is.1.1))
@@ -74,11 +74,11 @@ not_refused outcome s v (change.Publish folder) _ room can is = absurd is.1
 
 -- an act is told by the kind of reply that its change asks for
 act_told : (shelf : Option Shelf) (v : Version) (asked : Change) (a : Act) (r : Reply) → IsActOf shelf v asked a → TellsOf v a r → IsMadeKind asked (kind_of r)
-act_told shelf v (change.Closure feature closed) (act.Closed id) (reply.ClosureDone number feature' closed' changed) is tells = refl
-act_told shelf v (change.Closure feature closed) (act.Reopened id) (reply.ClosureDone number feature' closed' changed) is tells = refl
+act_told shelf v (change.Closure closure) (act.Closed closing) (reply.ClosureDone it) is tells = refl
+act_told shelf v (change.Closure closure) (act.Reopened closing) (reply.ClosureDone it) is tells = refl
 act_told shelf v (change.Publish folder) (act.Published venue) (reply.Published number dropped) is tells = inl refl
-act_told shelf v (change.Closure feature closed) (act.Closed id) _ is tells = absurd tells
-act_told shelf v (change.Closure feature closed) (act.Reopened id) _ is tells = absurd tells
+act_told shelf v (change.Closure closure) (act.Closed closing) _ is tells = absurd tells
+act_told shelf v (change.Closure closure) (act.Reopened closing) _ is tells = absurd tells
 act_told shelf v (change.Publish folder) (act.Published venue) _ is tells = absurd tells
 act_told shelf v _ _ r is tells = absurd is
 
@@ -91,32 +91,40 @@ one_version h u v r s = some_version u v (sym r.leads ∙ s.leads)
 refused_here : (shelf : Option Shelf) (asked : Change) (h : List Entry) (u v : Version) (r : Reply) → Replays h u → Replays h v → Refuses shelf u asked r → Refuses shelf v asked r
 refused_here shelf asked h u v r one other is = subst (λ (w : Version). Refuses shelf w asked r) (one_version h u v one other) is
 
+either : (changed : Bool) (shelf : Option Shelf) (worker : ℕ) (asked : Change) (h k : List Entry) (r : Reply) → IsAcceptedIf changed shelf worker asked h r k
+    → IsAccepted shelf worker asked h r k ⊎ IsRefused shelf asked h r k
+either true shelf worker asked h k r is = inl is
+either false shelf worker asked h k r is = inr is
+
 pub change_told : OneOutcome → (shelf : Shelf) (worker : ℕ) (asked : Change) (h k : List Entry) (v : Version) (r : Reply) → Replays h v → HasRoom v
     → CanBeMade (Some shelf) v asked → Changes (Some shelf) worker asked h r k → IsMadeKind asked (kind_of r) ⊎ (kind_of r ≡ out_of_memory)
 change_told outcome shelf worker asked h k v reply.OutOfMemory stands room can is = inr refl
-change_told outcome shelf worker asked h k v (reply.ClosureDone number feature closed true) stands room can is =
-    inl (act_told (Some shelf) is.version asked is.entry.act (reply.ClosureDone number feature closed true) is.of_change is.tells)
+change_told outcome shelf worker asked h k v (reply.ClosureDone it) stands room can is = inl (elim (either it.changed (Some shelf) worker asked h k (reply.ClosureDone it) is) [
+  | inl made ↦ act_told (Some shelf) made.version asked made.entry.act (reply.ClosureDone it) made.of_change made.tells
+  | inr left ↦ not_refused outcome shelf v asked (reply.ClosureDone it) room can
+      (refused_here (Some shelf) asked h left.version v (reply.ClosureDone it) left.stands stands left.cause)
+])
 change_told outcome shelf worker asked h k v (reply.Published number dropped) stands room can is =
     inl (act_told (Some shelf) is.version asked is.entry.act (reply.Published number dropped) is.of_change is.tells)
 change_told outcome shelf worker asked h k v r stands room can is =
     inl (not_refused outcome shelf v asked r room can (refused_here (Some shelf) asked h is.version v r is.stands stands is.cause))
 
 -- a closure that stands so already is told so
-not_moved : (shelf : Option Shelf) (v : Version) (feature : FeatureId) (closed : Bool) (r : Reply) → StandsSo v feature closed → Refuses shelf v (change.Closure feature closed) r
+not_moved : (shelf : Option Shelf) (v : Version) (closure : Closure) (r : Reply) → StandsSo v closure → Refuses shelf v (change.Closure closure) r
     → kind_of r ≡ closure_done
-not_moved shelf v feature closed reply.NoFeature so is = absurd (is so.0)
-not_moved shelf v feature closed (reply.ClosureDone number feature' closed' false) so is = refl
-not_moved shelf v feature closed (reply.HistoryFull number) so is = absurd (is.0.1 so.1)
-not_moved shelf v feature closed _ so is = absurd is.1
+not_moved shelf v closure reply.NoFeature so is = absurd (is so.0)
+not_moved shelf v closure (reply.ClosureDone it) so is = refl
+not_moved shelf v closure (reply.HistoryFull number) so is = absurd (is.0.1 so.1)
+not_moved shelf v closure _ so is = absurd is.1
 
-pub standing_told : (shelf : Option Shelf) (worker : ℕ) (feature : FeatureId) (closed : Bool) (h k : List Entry) (v : Version) (r : Reply) → Replays h v
-    → StandsSo v feature closed → Changes shelf worker (change.Closure feature closed) h r k → (kind_of r ≡ closure_done) ⊎ (kind_of r ≡ out_of_memory)
-standing_told shelf worker feature closed h k v reply.OutOfMemory stands so is = inr refl
-standing_told shelf worker feature closed h k v (reply.ClosureDone number feature' closed' true) stands so is = inl refl
-standing_told shelf worker feature closed h k v (reply.Published number dropped) stands so is =
-    inl (act_told shelf is.version (change.Closure feature closed) is.entry.act (reply.Published number dropped) is.of_change is.tells)
-standing_told shelf worker feature closed h k v r stands so is =
-    inl (not_moved shelf v feature closed r so (refused_here shelf (change.Closure feature closed) h is.version v r is.stands stands is.cause))
+pub standing_told : (shelf : Option Shelf) (worker : ℕ) (closure : Closure) (h k : List Entry) (v : Version) (r : Reply) → Replays h v
+    → StandsSo v closure → Changes shelf worker (change.Closure closure) h r k → (kind_of r ≡ closure_done) ⊎ (kind_of r ≡ out_of_memory)
+standing_told shelf worker closure h k v reply.OutOfMemory stands so is = inr refl
+standing_told shelf worker closure h k v (reply.ClosureDone it) stands so is = inl refl
+standing_told shelf worker closure h k v (reply.Published number dropped) stands so is =
+    inl (act_told shelf is.version (change.Closure closure) is.entry.act (reply.Published number dropped) is.of_change is.tells)
+standing_told shelf worker closure h k v r stands so is =
+    inl (not_moved shelf v closure r so (refused_here shelf (change.Closure closure) h is.version v r is.stands stands is.cause))
 
 -- ---- the same of an exchange
 
@@ -137,9 +145,10 @@ exchange_asked keys shelf worker before bytes x query v exchange is leads new th
 changed_here : OneOutcome → (shelf : Shelf) (worker : ℕ) (asked : Change) (h k : List Entry) (r : Reply) → Changes (Some shelf) worker asked h r k
     → ((v : Version) → Replays h v → HasRoom v × CanBeMade (Some shelf) v asked) → IsMadeKind asked (kind_of r) ⊎ (kind_of r ≡ out_of_memory)
 changed_here outcome shelf worker asked h k reply.OutOfMemory is may = inr refl
-changed_here outcome shelf worker asked h k (reply.ClosureDone number feature closed true) is may =
-    let can = may is.version is.stands in
-    change_told outcome shelf worker asked h k is.version (reply.ClosureDone number feature closed true) is.stands can.0 can.1 is
+changed_here outcome shelf worker asked h k (reply.ClosureDone it) is may = elim (either it.changed (Some shelf) worker asked h k (reply.ClosureDone it) is) [
+  | inl made ↦ (let can = may made.version made.stands in change_told outcome shelf worker asked h k made.version (reply.ClosureDone it) made.stands can.0 can.1 is)
+  | inr left ↦ (let can = may left.version left.stands in change_told outcome shelf worker asked h k left.version (reply.ClosureDone it) left.stands can.0 can.1 is)
+]
 changed_here outcome shelf worker asked h k (reply.Published number dropped) is may =
     let can = may is.version is.stands in
     change_told outcome shelf worker asked h k is.version (reply.Published number dropped) is.stands can.0 can.1 is
@@ -161,26 +170,26 @@ exchange_changed outcome keys shelf worker before bytes x asked exchange is may 
     right_changed outcome shelf worker before asked x.answer x.seen
     (subst (λ (m : Message). IsRight (Some shelf) worker before m x.answer x.seen) is exchange.right) may
 
-standing_here : (shelf : Option Shelf) (worker : ℕ) (feature : FeatureId) (closed : Bool) (h k : List Entry) (r : Reply)
-    → Changes shelf worker (change.Closure feature closed) h r k → ((v : Version) → Replays h v → StandsSo v feature closed)
+standing_here : (shelf : Option Shelf) (worker : ℕ) (closure : Closure) (h k : List Entry) (r : Reply)
+    → Changes shelf worker (change.Closure closure) h r k → ((v : Version) → Replays h v → StandsSo v closure)
     → (kind_of r ≡ closure_done) ⊎ (kind_of r ≡ out_of_memory)
-standing_here shelf worker feature closed h k reply.OutOfMemory is so = inr refl
-standing_here shelf worker feature closed h k (reply.ClosureDone number feature' closed' true) is so = inl refl
-standing_here shelf worker feature closed h k (reply.Published number dropped) is so =
-    standing_told shelf worker feature closed h k is.version (reply.Published number dropped) is.stands (so is.version is.stands) is
-standing_here shelf worker feature closed h k r is so = standing_told shelf worker feature closed h k is.version r is.stands (so is.version is.stands) is
+standing_here shelf worker closure h k reply.OutOfMemory is so = inr refl
+standing_here shelf worker closure h k (reply.ClosureDone it) is so = inl refl
+standing_here shelf worker closure h k (reply.Published number dropped) is so =
+    standing_told shelf worker closure h k is.version (reply.Published number dropped) is.stands (so is.version is.stands) is
+standing_here shelf worker closure h k r is so = standing_told shelf worker closure h k is.version r is.stands (so is.version is.stands) is
 
-right_standing : (shelf : Option Shelf) (worker : ℕ) (before : List Entry) (feature : FeatureId) (closed : Bool) (answer : Response) (seen : List Entry)
-    → IsRight shelf worker before (Message.Do (change.Closure feature closed)) answer seen
-    → ((h : List Entry) (v : Version) → IsPrefix before h → Replays h v → StandsSo v feature closed) → IsReplyOf (λ kind. kind ≡ closure_done) answer
-right_standing shelf worker before feature closed (Of r) seen (h, grows, changes) so =
-    standing_here shelf worker feature closed h seen r changes (λ v stands. so h v grows stands)
-right_standing shelf worker before feature closed (No refusal) seen is so = absurd is
-right_standing shelf worker before feature closed (Bare refusal) seen is so = absurd is
+right_standing : (shelf : Option Shelf) (worker : ℕ) (before : List Entry) (closure : Closure) (answer : Response) (seen : List Entry)
+    → IsRight shelf worker before (Message.Do (change.Closure closure)) answer seen
+    → ((h : List Entry) (v : Version) → IsPrefix before h → Replays h v → StandsSo v closure) → IsReplyOf (λ kind. kind ≡ closure_done) answer
+right_standing shelf worker before closure (Of r) seen (h, grows, changes) so =
+    standing_here shelf worker closure h seen r changes (λ v stands. so h v grows stands)
+right_standing shelf worker before closure (No refusal) seen is so = absurd is
+right_standing shelf worker before closure (Bare refusal) seen is so = absurd is
 
-pub exchange_standing : (keys : List (List ℕ)) (shelf : Option Shelf) (worker : ℕ) (before : List Entry) (bytes : List ℕ) (x : Exchange) (feature : FeatureId) (closed : Bool)
-    → IsExchange keys shelf worker before bytes x → x.message ≡ Message.Do (change.Closure feature closed)
-    → ((h : List Entry) (v : Version) → IsPrefix before h → Replays h v → StandsSo v feature closed) → IsReplyOf (λ kind. kind ≡ closure_done) x.answer
-exchange_standing keys shelf worker before bytes x feature closed exchange is so =
-    right_standing shelf worker before feature closed x.answer x.seen
+pub exchange_standing : (keys : List (List ℕ)) (shelf : Option Shelf) (worker : ℕ) (before : List Entry) (bytes : List ℕ) (x : Exchange) (closure : Closure)
+    → IsExchange keys shelf worker before bytes x → x.message ≡ Message.Do (change.Closure closure)
+    → ((h : List Entry) (v : Version) → IsPrefix before h → Replays h v → StandsSo v closure) → IsReplyOf (λ kind. kind ≡ closure_done) x.answer
+exchange_standing keys shelf worker before bytes x closure exchange is so =
+    right_standing shelf worker before closure x.answer x.seen
     (subst (λ (m : Message). IsRight shelf worker before m x.answer x.seen) is exchange.right) so

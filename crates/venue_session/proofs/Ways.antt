@@ -16,7 +16,7 @@ use Rattle.venue_hall.specs.Answers.{AnswersAsk, IsTrip, RepeatsTrip}
 use Rattle.venue_hall.specs.Changes.{Refuses}
 use Rattle.venue_hall.specs.Closed.{Version}
 use Rattle.venue_hall.specs.Histories.{Replays}
-use Rattle.venue_hall.specs.Ways.{profile_of}
+use Rattle.venue_hall.specs.Ways.{profile_number, profile_of}
 use Rattle.venue_hall.specs.Facts.{Facts}
 use Rattle.venue_wire.specs.declared.messages.Message.{Message}
 use Rattle.wire_replies.specs.declared.response.Response.{Response}
@@ -25,9 +25,10 @@ use Rattle.venue_session.specs.Steps.{IsRight}
 use Rattle.venue_session.specs.Headline.{TellsTheWay}
 
 -- the trip that was asked for is the one that is told again
-same_trip : (v : Version) (from to from' to' : FeatureId) (name name' : List ℕ) (profile : Profile) (a b : ℕ)
-    → RepeatsTrip from to name from' to' name' → IsTrip v from to name profile a b → IsTrip v from' to' name' profile a b
-same_trip v from to from' to' name name' profile a b same trip = record {
+same_trip : (v : Version) (from to from' to' : FeatureId) (name name' : List ℕ) (place : ℕ) (profile : Profile) (a b : ℕ)
+    → RepeatsTrip from to name from' to' name' → IsTrip v from to name place profile a b → IsTrip v from' to' name' place profile a b
+same_trip v from to from' to' name name' place profile a b same trip = record {
+  has_number = ap (λ (n : List ℕ). profile_number v.settings n) same.name_same ∙ trip.has_number;
   has_profile = ap (λ (n : List ℕ). profile_of v.settings n) same.name_same ∙ trip.has_profile;
   has_from = ap (λ (id : FeatureId). place_of v.features id) same.from_same ∙ trip.has_from;
   has_to = ap (λ (id : FeatureId). place_of v.features id) same.to_same ∙ trip.has_to;
@@ -38,12 +39,13 @@ route_told : (seen : List Entry) (v : Version) (asked : Ask) (number cost : ℕ)
     → TellsTheWay seen (Of (reply.Route number from to name start cost steps potentials))
 route_told seen v (ask.Route from' to' name' certificate) number cost from to start name steps potentials stands is = (
   v,
+  is.2.number,
   is.2.profile,
   is.2.a,
   is.2.b,
   stands,
   is.0,
-  same_trip v from' to' from to name' name is.2.profile is.2.a is.2.b is.1 is.2.trip,
+  same_trip v from' to' from to name' name is.2.number is.2.profile is.2.a is.2.b is.1 is.2.trip,
   is.2.walk,
   is.2.least,
   is.2.started,
@@ -55,12 +57,13 @@ none_told : (seen : List Entry) (v : Version) (asked : Ask) (number : ℕ) (from
     → Replays seen v → AnswersAsk v asked (reply.NoRoute number from to name reached) → TellsTheWay seen (Of (reply.NoRoute number from to name reached))
 none_told seen v (ask.Route from' to' name' certificate) number from to name reached stands is = (
   v,
+  is.2.number,
   is.2.profile,
   is.2.a,
   is.2.b,
   stands,
   is.0,
-  same_trip v from' to' from to name' name is.2.profile is.2.a is.2.b is.1 is.2.trip,
+  same_trip v from' to' from to name' name is.2.number is.2.profile is.2.a is.2.b is.1 is.2.trip,
   is.2.none,
 )
 none_told seen v _ number from to name reached stands is = absurd is
@@ -68,13 +71,13 @@ none_told seen v _ number from to name reached stands is = absurd is
 -- a change is answered by no route
 no_route : (shelf : Option Shelf) (v : Version) (asked : Change) (number cost : ℕ) (from to start : FeatureId) (name : List ℕ) (steps : List StepRow)
     (potentials : Option (List Mark)) → Refuses shelf v asked (reply.Route number from to name start cost steps potentials) → ⊥
-no_route shelf v (change.Closure feature closed) number cost from to start name steps potentials is = is.1
+no_route shelf v (change.Closure closure) number cost from to start name steps potentials is = is.1
 no_route shelf v (change.Publish folder) number cost from to start name steps potentials is = is.1
 
 -- nor by that there is none
 no_none : (shelf : Option Shelf) (v : Version) (asked : Change) (number : ℕ) (from to : FeatureId) (name : List ℕ) (reached : Option (List FeatureId))
     → Refuses shelf v asked (reply.NoRoute number from to name reached) → ⊥
-no_none shelf v (change.Closure feature closed) number from to name reached is = is.1
+no_none shelf v (change.Closure closure) number from to name reached is = is.1
 no_none shelf v (change.Publish folder) number from to name reached is = is.1
 
 -- a right answer tells a way at the history that is seen then

@@ -36,12 +36,12 @@ HasRoom v = v.number < v.settings.last_version
 
 -- the change can be made: the feature can be closed, or the files of the folder make a venue
 abbrev pub CanBeMade : Option Shelf → Version → Change → Type 0
-CanBeMade shelf v (change.Closure feature closed) = Contains (closables v.features) feature
+CanBeMade shelf v (change.Closure asked) = Contains (closables v.features) asked.feature
 CanBeMade shelf v (change.Publish folder) = (venue : Venue) × Makes shelf v folder venue
 
 -- the reply tells that the change stands; or, of a publication, that the folder couldn't be read
 abbrev pub IsMadeKind : Change → ReplyKind → Type 0
-IsMadeKind (change.Closure feature closed) kind = kind ≡ closure_done
+IsMadeKind (change.Closure asked) kind = kind ≡ closure_done
 IsMadeKind (change.Publish folder) kind = (kind ≡ published) ⊎ (kind ≡ folder_fault)
 
 -- the answer is a reply of such a kind, or that memory ran out

@@ -52,16 +52,16 @@ IsRight shelf worker before _ _ seen = ⊥
 -- there is none; the other replies tell of no walk, and one that is added needs its own equation
 abbrev pub TellsTheWay : List Entry → Response → Type 0
 TellsTheWay seen (Of (reply.Route number from to name start cost steps potentials)) =
-    (v : Version) × (profile : Profile) × (a : ℕ) × (b : ℕ) × Replays seen v × (number ≡ v.number) × IsTrip v from to name profile a b
-    × (walk : List Link) × IsLeast link_view (Usable v profile) a b walk cost × (start ≡ name_of v a) × (steps ≡ map (step_of v) walk)
+    (v : Version) × (place : ℕ) × (profile : Profile) × (a : ℕ) × (b : ℕ) × Replays seen v × (number ≡ v.number) × IsTrip v from to name place profile a b
+    × (walk : List Link) × IsLeast link_view (Usable v place profile) a b walk cost × (start ≡ name_of v a) × (steps ≡ map (step_of v) walk)
 TellsTheWay seen (Of (reply.NoRoute number from to name reached)) =
-    (v : Version) × (profile : Profile) × (a : ℕ) × (b : ℕ) × Replays seen v × (number ≡ v.number) × IsTrip v from to name profile a b
-    × HasNoWalk link_view (Usable v profile) a b
+    (v : Version) × (place : ℕ) × (profile : Profile) × (a : ℕ) × (b : ℕ) × Replays seen v × (number ≡ v.number) × IsTrip v from to name place profile a b
+    × HasNoWalk link_view (Usable v place profile) a b
 TellsTheWay seen (Of (reply.Version number closed places)) = Unit {0}
 TellsTheWay seen (Of (reply.Places number rows)) = Unit {0}
-TellsTheWay seen (Of (reply.Place number row closed)) = Unit {0}
-TellsTheWay seen (Of (reply.Closures number closed)) = Unit {0}
-TellsTheWay seen (Of (reply.ClosureDone number feature closed changed)) = Unit {0}
+TellsTheWay seen (Of (reply.Place told)) = Unit {0}
+TellsTheWay seen (Of (reply.Closures told)) = Unit {0}
+TellsTheWay seen (Of (reply.ClosureDone done)) = Unit {0}
 TellsTheWay seen (Of (reply.Published number dropped)) = Unit {0}
 TellsTheWay seen (Of (reply.Ahead since number)) = Unit {0}
 TellsTheWay seen (Of reply.NoProfile) = Unit {0}

@@ -1,10 +1,10 @@
 //! The headline, and which requests are not refused.
 
-ghost use Rattle.std.specs.Prelude.{◌≡◌, ◌⊎◌, ℕ, ◌++◌, Bool, List, Option, Some};
+ghost use Rattle.std.specs.Prelude.{◌≡◌, ◌⊎◌, ℕ, ◌++◌, List, Option, Some};
 ghost use mathlib.Core.List.{IsPrefix};
-ghost use Rattle.venue_types.specs.declared.feature_id.FeatureId.{FeatureId};
 ghost use Rattle.venue_types.specs.declared.query.Change.{Change};
-ghost use Rattle.venue_types.specs.declared.query.Change.TheVariants.{Closure};
+ghost use Rattle.venue_types.specs.declared.query.Change.TheVariants.{Closure as AskedClosure};
+ghost use Rattle.venue_types.specs.declared.query.Closure.{Closure};
 ghost use Rattle.venue_types.specs.declared.query.Query.{Query};
 ghost use Rattle.venue_types.specs.declared.reply.Reply.{Reply};
 ghost use Rattle.venue_hall.specs.Shelves.{Shelf};
@@ -47,8 +47,8 @@ pub fn complete_law()
         → IsOfKind query.what (kind_of r) ⊎ (kind_of r ≡ out_of_memory) }
     ensures changes { (shelf : Shelf) (worker : ℕ) (asked : Change) (h k : List Entry) (v : Version) (r : Reply) → Replays h v → HasRoom v
         → CanBeMade (Some shelf) v asked → Changes (Some shelf) worker asked h r k → IsMadeKind asked (kind_of r) ⊎ (kind_of r ≡ out_of_memory) }
-    ensures standing { (shelf : Option Shelf) (worker : ℕ) (feature : FeatureId) (closed : Bool) (h k : List Entry) (v : Version) (r : Reply) → Replays h v
-        → StandsSo v feature closed → Changes shelf worker (Closure feature closed) h r k → (kind_of r ≡ closure_done) ⊎ (kind_of r ≡ out_of_memory) }
+    ensures standing { (shelf : Option Shelf) (worker : ℕ) (closure : Closure) (h k : List Entry) (v : Version) (r : Reply) → Replays h v
+        → StandsSo v closure → Changes shelf worker (AskedClosure closure) h r k → (kind_of r ≡ closure_done) ⊎ (kind_of r ≡ out_of_memory) }
 {
     one_outcome();
 }
@@ -63,9 +63,9 @@ pub fn exchange_law()
     ensures changed { (keys : List (List ℕ)) (shelf : Shelf) (worker : ℕ) (before : List Entry) (bytes : List ℕ) (x : Exchange) (asked : Change)
         → IsExchange keys (Some shelf) worker before bytes x → x.message ≡ Message.Do asked
         → ((h : List Entry) (v : Version) → IsPrefix before h → Replays h v → HasRoom v × CanBeMade (Some shelf) v asked) → IsReplyOf (IsMadeKind asked) x.answer }
-    ensures standing { (keys : List (List ℕ)) (shelf : Option Shelf) (worker : ℕ) (before : List Entry) (bytes : List ℕ) (x : Exchange) (feature : FeatureId) (closed : Bool)
-        → IsExchange keys shelf worker before bytes x → x.message ≡ Message.Do (Closure feature closed)
-        → ((h : List Entry) (v : Version) → IsPrefix before h → Replays h v → StandsSo v feature closed) → IsReplyOf (λ kind. kind ≡ closure_done) x.answer }
+    ensures standing { (keys : List (List ℕ)) (shelf : Option Shelf) (worker : ℕ) (before : List Entry) (bytes : List ℕ) (x : Exchange) (closure : Closure)
+        → IsExchange keys shelf worker before bytes x → x.message ≡ Message.Do (AskedClosure closure)
+        → ((h : List Entry) (v : Version) → IsPrefix before h → Replays h v → StandsSo v closure) → IsReplyOf (λ kind. kind ≡ closure_done) x.answer }
 {
     one_outcome();
 }

@@ -89,7 +89,7 @@ fn tells_change(reply: &Reply) -> bool
     ensures { told_by (Of reply.now) ≡ (if result then 1 else 0) }
 {
     match reply {
-        Reply::ClosureDone { changed, .. } => *changed,
+        Reply::ClosureDone(done) => done.changed,
         Reply::Published { .. } => true,
         _ => false,
     }

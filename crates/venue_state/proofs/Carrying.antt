@@ -9,7 +9,7 @@ use Rattle.std.proofs.lemmas.Option.{get_or_from_slice_get}
 use Rattle.venue_types.specs.declared.feature_id.FeatureId.{FeatureId}
 use Rattle.route_search.specs.Identity.{is_same}
 use Rattle.route_search.proofs.Identifiers.{same_id, id_same}
-use Rattle.route_search.specs.Marking.{chosen}
+use Rattle.route_search.specs.Marking.{chosen, is_set}
 use Rattle.venue_history.specs.Closed.{is_one_of}
 use Rattle.venue_history.proofs.Identities.{one_of_there, there_one_of, filter_has}
 use Rattle.venue_state.specs.Tallies.{remarked, gone_from}
@@ -18,7 +18,7 @@ use Rattle.venue_state.proofs.Marking.{tested, differs, if_so, if_not, chosen_ma
 -- ---- filters
 
 pub agree_within : (p q : FeatureId → Bool) (xs : List FeatureId) → ((x : FeatureId) → Contains xs x → p x ≡ q x) → filter p xs ≡ filter q xs
-agree_within p q xs same = sym (chosen_map p xs) ∙ ap (λ (ms : List Bool). chosen ms xs) (agree_map p q xs same) ∙ chosen_map q xs
+agree_within p q xs same = sym (chosen_map p xs) ∙ ap (λ (ms : List Bool). chosen is_set ms xs) (agree_map p q xs same) ∙ chosen_map q xs
 
 -- what a filter keeps is what passes
 kept_exactly : (p : FeatureId → Bool) (xs : List FeatureId) (x : FeatureId) → Contains xs x → is_one_of (filter p xs) x ≡ p x
@@ -101,24 +101,24 @@ gone_one ids closed i d front whole within none e =
 -- ---- marked identifiers listed
 
 rests : (marks : List Bool) (ids : List FeatureId) (k : ℕ) (id : FeatureId) → k < length marks → k < length ids → slice_get ids k ≡ Some id
-    → chosen (drop k marks) (drop k ids) ≡ chosen (slice_index_or marks k false ∷ drop (k + 1) marks) (id ∷ drop (k + 1) ids)
+    → chosen is_set (drop k marks) (drop k ids) ≡ chosen is_set (slice_index_or marks k false ∷ drop (k + 1) marks) (id ∷ drop (k + 1) ids)
 rests marks ids k id marked within at =
-    ap (λ (ms : List Bool). chosen ms (drop k ids)) (rest_at marks k false marked)
-    ∙ ap (λ (xs : List FeatureId). chosen (slice_index_or marks k false ∷ drop (k + 1) marks) xs) (rest_at ids k id within)
-    ∙ ap (λ (x : FeatureId). chosen (slice_index_or marks k false ∷ drop (k + 1) marks) (x ∷ drop (k + 1) ids)) (get_or_from_slice_get ids k id id at)
+    ap (λ (ms : List Bool). chosen is_set ms (drop k ids)) (rest_at marks k false marked)
+    ∙ ap (λ (xs : List FeatureId). chosen is_set (slice_index_or marks k false ∷ drop (k + 1) marks) xs) (rest_at ids k id within)
+    ∙ ap (λ (x : FeatureId). chosen is_set (slice_index_or marks k false ∷ drop (k + 1) marks) (x ∷ drop (k + 1) ids)) (get_or_from_slice_get ids k id id at)
 
 pub listed_one : (marks : List Bool) (ids : List FeatureId) (k : ℕ) (id : FeatureId) (front whole : List FeatureId) → k < length marks → k < length ids → slice_get ids k ≡ Some id
-    → slice_index_or marks k false ≡ true → front ++ chosen (drop k marks) (drop k ids) ≡ whole
-    → (front ++ id ∷ []) ++ chosen (drop (k + 1) marks) (drop (k + 1) ids) ≡ whole
+    → slice_index_or marks k false ≡ true → front ++ chosen is_set (drop k marks) (drop k ids) ≡ whole
+    → (front ++ id ∷ []) ++ chosen is_set (drop (k + 1) marks) (drop (k + 1) ids) ≡ whole
 listed_one marks ids k id front whole marked within at is e =
-    append_assoc front (id ∷ []) (chosen (drop (k + 1) marks) (drop (k + 1) ids))
-    ∙ ap (λ (b : Bool). front ++ chosen (b ∷ drop (k + 1) marks) (id ∷ drop (k + 1) ids)) (sym is)
+    append_assoc front (id ∷ []) (chosen is_set (drop (k + 1) marks) (drop (k + 1) ids))
+    ∙ ap (λ (b : Bool). front ++ chosen is_set (b ∷ drop (k + 1) marks) (id ∷ drop (k + 1) ids)) (sym is)
     ∙ ap (λ (ys : List FeatureId). front ++ ys) (sym (rests marks ids k id marked within at)) ∙ e
 
 pub listed_not : (marks : List Bool) (ids : List FeatureId) (k : ℕ) (d : FeatureId) (front whole : List FeatureId) → k < length marks → k < length ids
-    → slice_index_or marks k false ≡ false → front ++ chosen (drop k marks) (drop k ids) ≡ whole
-    → front ++ chosen (drop (k + 1) marks) (drop (k + 1) ids) ≡ whole
+    → slice_index_or marks k false ≡ false → front ++ chosen is_set (drop k marks) (drop k ids) ≡ whole
+    → front ++ chosen is_set (drop (k + 1) marks) (drop (k + 1) ids) ≡ whole
 listed_not marks ids k d front whole marked within is e =
-    ap (λ (b : Bool). front ++ chosen (b ∷ drop (k + 1) marks) (slice_index_or ids k d ∷ drop (k + 1) ids)) (sym is)
-    ∙ ap (λ (xs : List FeatureId). front ++ chosen (slice_index_or marks k false ∷ drop (k + 1) marks) xs) (sym (rest_at ids k d within))
-    ∙ ap (λ (ms : List Bool). front ++ chosen ms (drop k ids)) (sym (rest_at marks k false marked)) ∙ e
+    ap (λ (b : Bool). front ++ chosen is_set (b ∷ drop (k + 1) marks) (slice_index_or ids k d ∷ drop (k + 1) ids)) (sym is)
+    ∙ ap (λ (xs : List FeatureId). front ++ chosen is_set (slice_index_or marks k false ∷ drop (k + 1) marks) xs) (sym (rest_at ids k d within))
+    ∙ ap (λ (ms : List Bool). front ++ chosen is_set ms (drop k ids)) (sym (rest_at marks k false marked)) ∙ e

@@ -1,15 +1,16 @@
 -- From what becomes of a change at a board to what becomes of the history.
-use Rattle.std.proofs.Common.{◌≡◌, ℕ, ◌≤◌, true, false, refl, arith, List, [], ◌∷◌, ◌++◌, Option, Some, None, length}
+use Rattle.std.proofs.Common.{◌≡◌, ℕ, ◌≤◌, Bool, true, false, refl, sym, subst, arith, List, [], ◌∷◌, ◌++◌, Option, Some, None, length}
 use Rattle.venue_types.specs.declared.files.Files.{Files}
 use Rattle.venue_types.specs.declared.query.Change.{Change}
 use Rattle.venue_types.specs.declared.query.Change.TheVariants as change
+use Rattle.venue_types.specs.declared.reply.ClosureDone.{ClosureDone}
 use Rattle.venue_types.specs.declared.reply.Reply.{Reply}
 use Rattle.venue_types.specs.declared.reply.Reply.TheVariants as reply
 use Rattle.venue_history.specs.Shelves.{Shelf}
 use Rattle.venue_history.specs.declared.entry.Act.{Act}
 use Rattle.venue_history.specs.declared.entry.Act.TheVariants as act
 use Rattle.venue_history.specs.declared.entry.Entry.{Entry}
-use Rattle.venue_history.specs.Changes.{IsActOf, TellsOf, IsAccepted, Changes}
+use Rattle.venue_history.specs.Changes.{IsActOf, TellsOf, Refuses, IsRefused, IsAccepted, IsAcceptedIf, Changes}
 use Rattle.venue_history.specs.Closed.{Version}
 use Rattle.venue_history.specs.Histories.{Replays}
 use Rattle.venue_history.specs.Versions.{after}
@@ -18,20 +19,33 @@ use Rattle.venue_state.specs.Making.{Brings, IsMade, Leaves, CountsFault}
 
 -- the files that were read show which act comes of the change
 act_of : (shelf : Option Shelf) (v : Version) (asked : Change) (done : Act) (files : Option Files) → Brings shelf v asked done files → IsActOf shelf v asked done
-act_of shelf v (change.Closure feature closed) done None is = is
+act_of shelf v (change.Closure closure) done None is = is
 act_of shelf v (change.Publish folder) (act.Published venue) (Some files) is = record { files = files; read = is.0; makes = is.1 }
-act_of shelf v (change.Closure feature closed) done (Some files) is = absurd is
-act_of shelf v (change.Publish folder) (act.Closed id) files is = absurd is
-act_of shelf v (change.Publish folder) (act.Reopened id) files is = absurd is
+act_of shelf v (change.Closure closure) done (Some files) is = absurd is
+act_of shelf v (change.Publish folder) (act.Closed it) files is = absurd is
+act_of shelf v (change.Publish folder) (act.Reopened it) files is = absurd is
 act_of shelf v (change.Publish folder) (act.Published venue) None is = absurd is
+
+changed_closure : (shelf : Option Shelf) (worker : ℕ) (asked : Change) (h k : List Entry) (told : ClosureDone) → told.changed ≡ true
+    → IsAccepted shelf worker asked h (reply.ClosureDone told) k → Changes shelf worker asked h (reply.ClosureDone told) k
+changed_closure shelf worker asked h k told changed is =
+    subst (λ (b : Bool). IsAcceptedIf b shelf worker asked h (reply.ClosureDone told) k) (sym changed) is
+
+-- a closure that leaves the history as it is tells that nothing changed
+unchanged : (shelf : Option Shelf) (v : Version) (asked : Change) (told : ClosureDone) → Refuses shelf v asked (reply.ClosureDone told) → told.changed ≡ false
+unchanged shelf v (change.Closure closure) told is = is.1.changed_is
+unchanged shelf v (change.Publish folder) told is = absurd is.1
+
+refused_closure : (shelf : Option Shelf) (worker : ℕ) (asked : Change) (h k : List Entry) (told : ClosureDone) → told.changed ≡ false
+    → IsRefused shelf asked h (reply.ClosureDone told) k → Changes shelf worker asked h (reply.ClosureDone told) k
+refused_closure shelf worker asked h k told same is =
+    subst (λ (b : Bool). IsAcceptedIf b shelf worker asked h (reply.ClosureDone told) k) (sym same) is
 
 -- a reply that tells an act belongs to an accepted change
 told_changes : (shelf : Option Shelf) (v : Version) (worker : ℕ) (asked : Change) (h k : List Entry) (done : Act) (r : Reply) → TellsOf v done r
     → IsAccepted shelf worker asked h r k → Changes shelf worker asked h r k
-told_changes shelf v worker asked h k (act.Closed id) (reply.ClosureDone number feature closed true) tells is = is
-told_changes shelf v worker asked h k (act.Closed id) (reply.ClosureDone number feature closed false) tells is = absurd (let e : false ≡ true = tells.3 in cc)
-told_changes shelf v worker asked h k (act.Reopened id) (reply.ClosureDone number feature closed true) tells is = is
-told_changes shelf v worker asked h k (act.Reopened id) (reply.ClosureDone number feature closed false) tells is = absurd (let e : false ≡ true = tells.3 in cc)
+told_changes shelf v worker asked h k (act.Closed it) (reply.ClosureDone told) tells is = changed_closure shelf worker asked h k told tells.changed_is is
+told_changes shelf v worker asked h k (act.Reopened it) (reply.ClosureDone told) tells is = changed_closure shelf worker asked h k told tells.changed_is is
 told_changes shelf v worker asked h k (act.Published venue) (reply.Published number dropped) tells is = is
 told_changes shelf v worker asked h k _ _ tells is = absurd tells
 
@@ -56,7 +70,8 @@ no_room shelf worker asked h k same = same
 
 -- a reply that leaves the history as it is
 pub stays : (shelf : Option Shelf) (v : Version) (worker : ℕ) (asked : Change) (h k : List Entry) (r : Reply) → Replays h v → Leaves shelf v asked r → k ≡ h → Changes shelf worker asked h r k
-stays shelf v worker asked h k (reply.ClosureDone number feature closed true) stands leaves same = absurd leaves
+stays shelf v worker asked h k (reply.ClosureDone told) stands leaves same =
+    refused_closure shelf worker asked h k told (unchanged shelf v asked told leaves) (record { kept = same; version = v; stands = stands; cause = leaves })
 stays shelf v worker asked h k (reply.Published number dropped) stands leaves same = absurd leaves
 stays shelf v worker asked h k reply.OutOfMemory stands leaves same = same
 stays shelf v worker asked h k _ stands leaves same = record { kept = same; version = v; stands = stands; cause = leaves }
@@ -69,12 +84,12 @@ begun (e ∷ es) v stands = omega arith
 -- an act leaves the settings
 pub same_settings : (v : Version) (done : Act) → (after v done).settings ≡ v.settings
 same_settings v (act.Published venue) = refl
-same_settings v (act.Closed id) = refl
-same_settings v (act.Reopened id) = refl
+same_settings v (act.Closed it) = refl
+same_settings v (act.Reopened it) = refl
 
 -- what is ready tells no fault
 pub made_counts : (v : Version) (done : Act) (r : Reply) → TellsOf v done r → (before now : ℕ) → now ≡ before → CountsFault before now r
-made_counts v (act.Closed id) (reply.ClosureDone number feature closed changed) tells before now same = same
-made_counts v (act.Reopened id) (reply.ClosureDone number feature closed changed) tells before now same = same
+made_counts v (act.Closed it) (reply.ClosureDone told) tells before now same = same
+made_counts v (act.Reopened it) (reply.ClosureDone told) tells before now same = same
 made_counts v (act.Published venue) (reply.Published number dropped) tells before now same = same
 made_counts v _ _ tells before now same = absurd tells

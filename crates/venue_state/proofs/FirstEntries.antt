@@ -25,8 +25,8 @@ first_act e k legal = ∥∥₁_map legal (λ (rules : KeepsTheRules (e ∷ k)).
 
 act_published : (a : Act) (k : List Entry) → ∥ IsLegalFrom a k ∥₁ → (venue : Venue) × IsPublished venue a
 act_published (Published venue) k legal = (arc_value venue, refl)
-act_published (Closed id) k legal = absurd (∥∥₁_elim legal ⊥_prop (λ (from : IsLegalFrom (Closed id) k). from))
-act_published (Reopened id) k legal = absurd (∥∥₁_elim legal ⊥_prop (λ (from : IsLegalFrom (Reopened id) k). from))
+act_published (Closed it) k legal = absurd (∥∥₁_elim legal ⊥_prop (λ (from : IsLegalFrom (Closed it) k). from))
+act_published (Reopened it) k legal = absurd (∥∥₁_elim legal ⊥_prop (λ (from : IsLegalFrom (Reopened it) k). from))
 
 -- it is a publication
 pub first_published : (e : Entry) (k : List Entry) → IsLegal (e ∷ k) → (venue : Venue) × IsPublished venue e.act
@@ -34,8 +34,8 @@ first_published e k legal = act_published e.act k (first_act e k legal)
 
 act_valid : (a : Act) (k : List Entry) (venue : Venue) → IsLegalFrom a k → IsPublished venue a → AreValid venue.features venue.settings
 act_valid (Published it) k venue from is = subst (λ (v : Venue). AreValid v.features v.settings) is from.0
-act_valid (Closed id) k venue from is = absurd from
-act_valid (Reopened id) k venue from is = absurd from
+act_valid (Closed it) k venue from is = absurd from
+act_valid (Reopened it) k venue from is = absurd from
 
 -- of rows that every phase accepts
 pub first_valid : (e : Entry) (k : List Entry) (venue : Venue) → IsLegal (e ∷ k) → IsPublished venue e.act → ∥ AreValid venue.features venue.settings ∥₁

@@ -24,8 +24,8 @@ all_may v (d ∷ es) k e all = all_may (after v d.act) es k e all.1
 
 act_may : (a : Act) (es k : List Entry) (e : Entry) (v : Version) → replay_from a es ≡ Some v → IsLegalFrom a (es ++ e ∷ k) → MayFollow v e
 act_may (Published venue) es k e v leads legal = subst (λ (u : Version). MayFollow u e) (same_Some (after_all _ es) v leads) (all_may _ es k e legal.1)
-act_may (Closed id) es k e v leads legal = absurd legal
-act_may (Reopened id) es k e v leads legal = absurd legal
+act_may (Closed it) es k e v leads legal = absurd legal
+act_may (Reopened it) es k e v leads legal = absurd legal
 
 -- the next entry of a legal history may be made
 pub next_may : (h k : List Entry) (e : Entry) (v : Version) → Replays h v → IsLegal (h ++ e ∷ k) → ∥ MayFollow v e ∥₁
@@ -41,8 +41,8 @@ next_worker_range h k e v stands legal = ∥∥₁_elim (next_may h k e v stands
 
 fits_settings : (v : Version) (a : Act) → ∥ Fits v a ∥₁ → HasSettings v a
 fits_settings v (Published venue) fits = ∥∥₁_elim fits (hlevel props) (λ (f : Fits v (Published venue)). f.0)
-fits_settings v (Closed id) fits = tt
-fits_settings v (Reopened id) fits = tt
+fits_settings v (Closed it) fits = tt
+fits_settings v (Reopened it) fits = tt
 
 -- a venue that it publishes has the version's settings
 pub next_settings : (h k : List Entry) (e : Entry) (v : Version) → Replays h v → IsLegal (h ++ e ∷ k) → HasSettings v e.act
@@ -54,13 +54,13 @@ ClosedIds = (v : Version) (id : FeatureId) → IsTrue (is_closed v id) ↔ Conta
 
 not_lacking : ClosedIds → (v : Version) (a : Act) → All (Contains (closables v.features)) (closed_ids v) → Fits v a → LacksFeature v a → ⊥
 not_lacking ids v (Published venue) all fits lacks = lacks
-not_lacking ids v (Closed id) all fits lacks = lacks fits.0
-not_lacking ids v (Reopened id) all fits lacks = lacks (All-contains (Contains (closables v.features)) (closed_ids v) id all ((ids v id).0 fits))
+not_lacking ids v (Closed it) all fits lacks = lacks fits.0
+not_lacking ids v (Reopened it) all fits lacks = lacks (All-contains (Contains (closables v.features)) (closed_ids v) it.feature all ((ids v it.feature).0 fits))
 
 not_done : (v : Version) (a : Act) → Fits v a → IsDone v a → ⊥
 not_done v (Published venue) fits done = done
-not_done v (Closed id) fits done = fits.1 done.1
-not_done v (Reopened id) fits done = done.1 fits
+not_done v (Closed it) fits done = fits.1 done.1
+not_done v (Reopened it) fits done = done.1 fits
 
 -- only want of memory keeps it from being made ready
 pub next_unready : ClosedIds → (h k : List Entry) (e : Entry) (v : Version) (why : Unready) → All (Contains (closables v.features)) (closed_ids v)

@@ -7,7 +7,7 @@ use Rattle.walk_laws.specs.Walks.{IsWalk, HasWalk}
 use Rattle.venue_types.specs.declared.features.Features.{Features}
 use Rattle.venue_types.specs.declared.settings.Settings.{Settings}
 use Rattle.route_search.specs.Nodes.{closables}
-use Rattle.route_search.specs.Marking.{chosen, marked}
+use Rattle.route_search.specs.Marking.{chosen, is_set, marked}
 use Rattle.route_search.specs.Networks.{Network, IsNetworkOf, IsPassable}
 use Rattle.route_search.specs.Usable.{IsUsable}
 use Rattle.route_search.specs.Views.{link_view}
@@ -15,7 +15,7 @@ use Rattle.route_search.specs.declared.found.Found.{Found}
 use Rattle.route_search.specs.declared.found.Found.TheVariants.{Route, Cut}
 use Rattle.route_search.specs.Answers.{IsAnswer}
 use Rattle.route_search.specs.Answers as search
-use Rattle.venue_history.specs.Closed.{Version}
+use Rattle.venue_history.specs.Closed.{Version, closed_ids, closed_for}
 use Rattle.venue_history.specs.Ways.{Usable, name_of}
 use Rattle.venue_history.specs.Answers.{IfAsked, IsTrip, AreReached, IsNoRoute}
 
@@ -51,24 +51,24 @@ abbrev pub PassesUsable : Type 0
 PassesUsable = (features : Features) (settings : Settings) (given : Network) (closed : List FeatureId) (profile : Profile) (link : Link)
     → IsNetworkOf features settings given → IsPassable given closed profile link ↔ IsUsable features settings closed profile link
 
-marked_is : (v : Version) (given : Network) (marks : List Bool) → IsNetworkOf v.features v.settings given → chosen marks (closables v.features) ≡ v.closed
-    → marked given marks ≡ v.closed
+marked_is : (v : Version) (given : Network) (marks : List Bool) → IsNetworkOf v.features v.settings given → chosen is_set marks (closables v.features) ≡ closed_ids v
+    → marked given marks ≡ closed_ids v
 unfolding marked
-marked_is v given marks net e = ap (chosen marks) net.closables_are ∙ e
+marked_is v given marks net e = ap (chosen is_set marks) net.closables_are ∙ e
 
 -- an answer over the graph is one at the version
-pub version_answer : PassesUsable → (v : Version) (given : Network) (marks : List Bool) (profile : Profile) (a b : ℕ) (found : Found)
-    → IsNetworkOf v.features v.settings given → chosen marks (closables v.features) ≡ v.closed
-    → IsAnswer (IsPassable given (marked given marks) profile) a b found → IsAnswer (Usable v profile) a b found
-version_answer law v given marks profile a b found net chosen_is =
+pub version_answer : PassesUsable → (v : Version) (given : Network) (marks : List Bool) (number : ℕ) (profile : Profile) (a b : ℕ) (found : Found)
+    → IsNetworkOf v.features v.settings given → chosen is_set marks (closables v.features) ≡ closed_ids v
+    → IsAnswer (IsPassable given (marked given marks) profile) a b found → IsAnswer (Usable v number profile) a b found
+version_answer law v given marks number profile a b found net chosen_is =
     let same = marked_is v given marks net chosen_is in
-    answer_over (IsPassable given (marked given marks) profile) (Usable v profile)
+    answer_over (IsPassable given (marked given marks) profile) (Usable v number profile)
     (λ link p.
-    let u = (law v.features v.settings given v.closed profile link net).0 (subst (λ (closed : List FeatureId). IsPassable given closed profile link) same p) in
+    let u = (law v.features v.settings given (closed_for v number) profile link net).0 (subst (λ (closed : List FeatureId). IsPassable given closed profile link) same p) in
     record { there = u.there; allowed = u.allowed; free = u.free })
     (λ link q.
     subst (λ (closed : List FeatureId). IsPassable given closed profile link) (sym same)
-    ((law v.features v.settings given v.closed profile link net).1 (record { there = q.there; allowed = q.allowed; free = q.free })))
+    ((law v.features v.settings given (closed_for v number) profile link net).1 (record { there = q.there; allowed = q.allowed; free = q.free })))
     a b found
 
 asked_so : {X : Type 0} (certificate : Bool) (o : Option X) (P Q : X → Type 0) → ((x : X) → P x → Q x) → IfAsked certificate P o → IfAsked certificate Q o
@@ -80,14 +80,15 @@ asked_so false (Some x) P Q so p = absurd p
 -- what is told where there is none
 pub cut_told : (v : Version) (from to : FeatureId) (name : List ℕ) (certificate : Bool) (a : ℕ) (nodes : List ℕ) (names : Option (List FeatureId))
     → IfAsked certificate (λ told. told ≡ map (name_of v) nodes) names
-    → (profile : Profile) (b : ℕ) → IsTrip v from to name profile a b → search.IsNoRoute (Usable v profile) a b nodes
+    → (number : ℕ) (profile : Profile) (b : ℕ) → IsTrip v from to name number profile a b → search.IsNoRoute (Usable v number profile) a b nodes
     → IsNoRoute v from to name certificate names
-cut_told v from to name certificate a nodes names told profile b trip r = record {
+cut_told v from to name certificate a nodes names told number profile b trip r = record {
+  number = number;
   profile = profile;
   a = a;
   b = b;
   trip = trip;
   none = r.none;
-  shown = asked_so certificate names (λ told. told ≡ map (name_of v) nodes) (AreReached v profile a)
+  shown = asked_so certificate names (λ told. told ≡ map (name_of v) nodes) (AreReached v number profile a)
       (λ told is. record { listed = nodes; told = is; rising = r.rising; exact = r.exact }) told;
 }

@@ -6,6 +6,7 @@ pub use Rattle.venue_history.specs.Venues
 pub use Rattle.venue_history.specs.Report
 pub use Rattle.venue_history.specs.Versions
 pub use Rattle.venue_history.specs.declared.entry.Act
+pub use Rattle.venue_history.specs.declared.entry.Closing
 pub use Rattle.venue_history.specs.Histories
 pub use Rattle.venue_history.specs.declared.entry.Entry
 pub use Rattle.venue_history.specs.Answers

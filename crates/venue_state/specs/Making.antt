@@ -1,10 +1,10 @@
 -- Changes that are made ready, wherever their history is kept.
-use Rattle.std.specs.Prelude.{◌≡◌, ℕ, ◌≤◌, List, Option, Some, None, Bool, true, false}
+use Rattle.std.specs.Prelude.{◌≡◌, ℕ, ◌≤◌, List, Option, Some, None, if◌then◌else◌}
 use Rattle.std.specs.Arc.{arc_value}
-use Rattle.venue_types.specs.declared.feature_id.FeatureId.{FeatureId}
 use Rattle.venue_types.specs.declared.files.Files.{Files}
 use Rattle.venue_types.specs.declared.query.Change.{Change}
 use Rattle.venue_types.specs.declared.query.Change.TheVariants as change
+use Rattle.venue_types.specs.declared.query.Closure.{Closure}
 use Rattle.venue_types.specs.declared.reply.Reply.{Reply}
 use Rattle.venue_types.specs.declared.reply.Reply.TheVariants as reply
 use Rattle.venue_types.specs.declared.settings.Settings.{Settings}
@@ -14,6 +14,7 @@ use Rattle.venue_history.specs.Built.{IsRejected, IsVenueOf}
 use Rattle.venue_history.specs.Shelves.{Shelf}
 use Rattle.venue_history.specs.declared.entry.Act.{Act}
 use Rattle.venue_history.specs.declared.entry.Act.TheVariants as act
+use Rattle.venue_history.specs.declared.entry.Closing.{Closing}
 use Rattle.venue_history.specs.Changes.{AreRead, IsActOf, TellsOf, Refuses}
 use Rattle.venue_history.specs.Closed.{Version}
 use Rattle.venue_history.specs.Versions.{MayFollow, after}
@@ -26,21 +27,23 @@ abbrev pub shelf_of : Option (List StoredFile) → List ℕ → Option Shelf
 shelf_of None base = None
 shelf_of (Some stored) base = Some (record { stored = stored; base = base })
 
--- the act that closes the feature, or opens it again
-abbrev pub closure_act : FeatureId → Bool → Act
-closure_act feature true = act.Closed feature
-closure_act feature false = act.Reopened feature
+-- what a closure closes, or opens again
+abbrev pub closing_of : Closure → Closing
+closing_of asked = record { feature = asked.feature }
+
+-- the act that does so
+abbrev pub closure_act : Closure → Act
+closure_act asked = if asked.closed then act.Closed (closing_of asked) else act.Reopened (closing_of asked)
 
 -- the reply leaves the history as it is, and is right where it does, or memory ran out
 abbrev pub Leaves : Option Shelf → Version → Change → Reply → Type 0
 Leaves shelf v asked reply.OutOfMemory = Unit {0}
-Leaves shelf v asked (reply.ClosureDone number feature closed true) = ⊥
 Leaves shelf v asked (reply.Published number dropped) = ⊥
 Leaves shelf v asked r = Refuses shelf v asked r
 
 -- the act to which the change comes, and the files that were read for it: a publication's venue is made of them, a closure has none
 abbrev pub Brings : Option Shelf → Version → Change → Act → Option Files → Type 0
-Brings shelf v (change.Closure feature closed) asked None = IsActOf shelf v (change.Closure feature closed) asked
+Brings shelf v (change.Closure asked) done None = IsActOf shelf v (change.Closure asked) done
 Brings shelf v (change.Publish folder) (act.Published venue) (Some files) = AreRead shelf folder files × IsVenueOf files v.settings (arc_value venue)
 Brings shelf v _ _ _ = ⊥
 

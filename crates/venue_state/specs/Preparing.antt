@@ -30,8 +30,8 @@ pub record AreHandles (one other : Option Version) (next : Version) : Type 0 whe
 -- the closed identifiers that the act drops, in their order: those that new rows can't close
 abbrev pub dropped_by : Version → Act → List FeatureId
 dropped_by v (Published venue) = dropped_ids v (arc_value venue).features
-dropped_by v (Closed id) = []
-dropped_by v (Reopened id) = []
+dropped_by v (Closed it) = []
+dropped_by v (Reopened it) = []
 
 -- the act is ready: its entry may follow the version, and the board is that of the version after it
 pub record IsReady (v : Version) (act : Act) (worker : ℕ) (ready : NextBoard) : Type 0 where
@@ -49,20 +49,20 @@ pub record IsPrepared (v : Version) (act : Act) (worker : ℕ) (prepared : Given
 -- the act is a publication under the version's settings, or none
 abbrev pub HasSettings : Version → Act → Type 0
 HasSettings v (Published venue) = (arc_value venue).settings ≡ v.settings
-HasSettings v (Closed id) = Unit {0}
-HasSettings v (Reopened id) = Unit {0}
+HasSettings v (Closed it) = Unit {0}
+HasSettings v (Reopened it) = Unit {0}
 
 -- the act names a feature that can't be closed
 abbrev pub LacksFeature : Version → Act → Type 0
 LacksFeature v (Published venue) = ⊥
-LacksFeature v (Closed id) = ¬ Contains (closables v.features) id
-LacksFeature v (Reopened id) = ¬ Contains (closables v.features) id
+LacksFeature v (Closed it) = ¬ Contains (closables v.features) it.feature
+LacksFeature v (Reopened it) = ¬ Contains (closables v.features) it.feature
 
 -- the act names a feature that can be closed and stands so already
 abbrev pub IsDone : Version → Act → Type 0
 IsDone v (Published venue) = ⊥
-IsDone v (Closed id) = Contains (closables v.features) id × IsTrue (is_closed v id)
-IsDone v (Reopened id) = Contains (closables v.features) id × ¬ IsTrue (is_closed v id)
+IsDone v (Closed it) = Contains (closables v.features) it.feature × IsTrue (is_closed v it.feature)
+IsDone v (Reopened it) = Contains (closables v.features) it.feature × ¬ IsTrue (is_closed v it.feature)
 
 -- the act names no feature, or one that can be closed and stands otherwise
 abbrev pub IsDue : Version → Act → Type 0

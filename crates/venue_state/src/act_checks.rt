@@ -35,12 +35,12 @@ fn judge_feature(board: &Board, act: &Act) -> Result<(), Unready>
             every_venue(venue);
             Ok(())
         }
-        Act::Closed(id) => match board.state(*id) {
+        Act::Closed(it) => match board.state(it.feature) {
             None => Err(Unready::NoFeature),
             Some(true) => Err(Unready::Unchanged),
             Some(false) => Ok(()),
         },
-        Act::Reopened(id) => match board.state(*id) {
+        Act::Reopened(it) => match board.state(it.feature) {
             None => Err(Unready::NoFeature),
             Some(true) => Ok(()),
             Some(false) => Err(Unready::Unchanged),

@@ -4,8 +4,9 @@ ghost use Rattle.std.specs.Prelude.{◌≡◌, ◌+◌, ◌≤◌, length, IfOk,
 ghost use Rattle.std.specs.Arc.{arc_value};
 ghost use Rattle.route_search.specs.Nodes.{closables};
 ghost use Rattle.route_search.specs.Graphs.{network};
-ghost use Rattle.route_search.specs.Marking.{chosen};
+ghost use Rattle.route_search.specs.Marking.{chosen, is_set};
 ghost use Rattle.route_search.specs.Networks.{IsNetworkOf};
+ghost use Rattle.venue_history.specs.Closed.{closed_ids, closed_count};
 ghost use Rattle.venue_history.specs.Versions.{opening};
 ghost use Rattle.venue_state.specs.Boards.{IsStand, version_of};
 
@@ -99,7 +100,7 @@ impl Board {
     /// How many features are closed.
     #[tactic(auto, unfolding(crate::specs::Boards::version_of))]
     pub(crate) fn closed_count(&self) -> u32
-        ensures { result ≡ length self.now.closed }
+        ensures { result ≡ closed_count self.now }
     {
         self.stand.closed
     }
@@ -141,7 +142,7 @@ impl Board {
     #[tactic(auto, unfolding(crate::specs::Boards::version_of))]
     pub(crate) fn marks(&self) -> &Marks
         ensures whole { length result.now ≡ length (closables self.now.features) }
-        ensures closed { chosen result.now (closables self.now.features) ≡ self.now.closed }
+        ensures closed { chosen is_set result.now (closables self.now.features) ≡ closed_ids self.now }
     {
         &self.stand.marks
     }

@@ -3,9 +3,9 @@
 ghost use Rattle.std.specs.Prelude.{◌≡◌, ◌+◌, ◌≤◌, IfOk, [], filter};
 ghost use Rattle.std.specs.Arc.{arc_value};
 ghost use Rattle.route_search.specs.Nodes.{closables};
-ghost use Rattle.route_search.specs.Marking.{chosen};
+ghost use Rattle.route_search.specs.Marking.{chosen, is_set};
 ghost use Rattle.venue_history.specs.Changes.{dropped_ids};
-ghost use Rattle.venue_history.specs.Closed.{is_one_of};
+ghost use Rattle.venue_history.specs.Closed.{is_one_of, closed_ids};
 ghost use Rattle.venue_history.specs.Versions.{after, still_closed};
 ghost use Rattle.venue_state.specs.Preparing.{HasSettings, dropped_by};
 ghost use Rattle.venue_state.specs.Tallies.{IsTally, remarked};
@@ -41,8 +41,8 @@ pub(crate) fn following(
 {
     match act {
         Act::Published(venue) => published(alloc, board, number, venue),
-        Act::Closed(id) => changed(alloc, board, number, *id, true),
-        Act::Reopened(id) => changed(alloc, board, number, *id, false),
+        Act::Closed(it) => changed(alloc, board, number, it.feature, true),
+        Act::Reopened(it) => changed(alloc, board, number, it.feature, false),
     }
 }
 
@@ -75,8 +75,8 @@ fn changed(
 ) -> Result<After, OutOfMemory>
     requires next { number ≡ board.now.number + 1 }
     requires room { number ≤ board.now.settings.last_version }
-    ensures next { IfOk result (λ a. a.board ≡ record board.now { number = board.now.number + 1; closed = remarked (closables board.now.features) board.now.closed id closed }) }
-    ensures order { board.now.closed ≡ filter (is_one_of board.now.closed) (closables board.now.features) }
+    ensures next { IfOk result (λ a. a.board ≡ record board.now { number = board.now.number + 1; closed = remarked (closables board.now.features) (closed_ids board.now) id closed }) }
+    ensures order { closed_ids board.now ≡ filter (is_one_of (closed_ids board.now)) (closables board.now.features) }
     ensures dropped { IfOk result (λ a. a.dropped ≡ []) }
 {
     board.order_law();
@@ -101,7 +101,7 @@ fn next_board(
     requires room { number ≤ board.now.settings.last_version }
     requires settings { (arc_value venue.now).settings ≡ board.now.settings }
     requires tallied { IsTally (closables (arc_value venue.now).features) tally }
-    ensures { IfOk result (λ next. next ≡ record board.now { number = board.now.number + 1; features = (arc_value venue.now).features; closed = chosen tally.marks (closables (arc_value venue.now).features) }) }
+    ensures { IfOk result (λ next. next ≡ record board.now { number = board.now.number + 1; features = (arc_value venue.now).features; closed = chosen is_set tally.marks (closables (arc_value venue.now).features) }) }
 {
     let venue = Arc::try_clone(venue)?;
     let settings = Arc::try_clone(board.settings())?;

@@ -2,11 +2,12 @@
 
 ghost use Rattle.std.specs.Prelude.{◌≡◌, ℕ, ◌+◌, ◌<◌, ◌≤◌, List as AList, Option as AnOption, IfOk, IfErr, OnOk, All, Contains, length};
 ghost use Rattle.std.specs.Arc.{arc_value};
-ghost use Rattle.venue_types.specs.declared.query.Change.TheVariants.{Closure, Publish};
+ghost use Rattle.venue_types.specs.declared.query.Change.TheVariants.{Closure as AskedClosure, Publish};
 ghost use Rattle.route_search.specs.Nodes.{closables};
 ghost use Rattle.venue_history.specs.Built.{IsVenueOf};
 ghost use Rattle.venue_history.specs.Shelves.{Shelf};
 ghost use Rattle.venue_history.specs.Changes.{AreRead};
+ghost use Rattle.venue_history.specs.Closed.{closed_ids};
 ghost use Rattle.venue_state.specs.Making.{shelf_of, closure_act, IsOutcome, CountsOutcome, IsUnread, IsUnmade};
 
 use crate::base_folders::BaseFolders;
@@ -15,9 +16,11 @@ use crate::prepared::NextBoard;
 use crate::unready::Unready;
 use std::alloc::Global;
 use std::sync::Arc;
-use venue_history::{Act, Built, Venue, build, closed_law};
+use venue_history::{Act, Built, Closing, Venue, build, closed_law};
 use venue_ports::{Folders, ReadFault};
-use venue_types::{Change, FeatureId, Files, List, OutOfMemory, Reply, Settings, Text};
+use venue_types::{
+    Change, Closure, ClosureDone, FeatureId, Files, List, OutOfMemory, Reply, Settings, Text,
+};
 
 /// What becomes of a change.
 #[derive(Drop)]
@@ -38,13 +41,16 @@ fn next_number(board: &Board, settings: &Settings) -> u32
 }
 
 // What closes a feature, or opens it again.
-fn closure_act(feature: FeatureId, closed: bool) -> Act
-    ensures { result ≡ closure_act feature closed }
+fn closure_act(asked: Closure) -> Act
+    ensures { result ≡ closure_act asked }
 {
-    if closed {
-        Act::Closed(feature)
+    let closing = Closing {
+        feature: asked.feature,
+    };
+    if asked.closed {
+        Act::Closed(closing)
     } else {
-        Act::Reopened(feature)
+        Act::Reopened(closing)
     }
 }
 
@@ -54,36 +60,35 @@ fn ready_closure(
     board: &Board,
     settings: &Settings,
     worker: u8,
-    feature: FeatureId,
-    closed: bool,
+    asked: Closure,
 ) -> Outcome
     requires some { 1 ≤ worker }
     requires range { worker ≤ 16 }
     requires settings { settings.now ≡ board.now.settings }
-    requires closable { All (Contains (closables board.now.features)) board.now.closed }
-    ensures outcome { (shelf : AnOption Shelf) → IsOutcome shelf board.now worker (Closure feature closed) result }
+    requires closable { All (Contains (closables board.now.features)) (closed_ids board.now) }
+    ensures outcome { (shelf : AnOption Shelf) → IsOutcome shelf board.now worker (AskedClosure asked) result }
     ensures counts { (n : ℕ) → CountsOutcome n n result }
 {
     closed_law();
-    let act = closure_act(feature, closed);
+    let act = closure_act(asked);
     match board.ready(alloc, act, worker) {
         Ok(ready) => {
             let number = next_number(board, settings);
-            let reply = Reply::ClosureDone {
+            let done = ClosureDone {
                 number,
-                feature,
-                closed,
+                feature: asked.feature,
+                closed: asked.closed,
                 changed: true,
             };
-            Outcome::Made(ready, reply, None)
+            Outcome::Made(ready, Reply::ClosureDone(done), None)
         }
         Err(Unready::NoFeature) => Outcome::Stays(Reply::NoFeature),
-        Err(Unready::Unchanged) => Outcome::Stays(Reply::ClosureDone {
+        Err(Unready::Unchanged) => Outcome::Stays(Reply::ClosureDone(ClosureDone {
             number: board.number(),
-            feature,
-            closed,
+            feature: asked.feature,
+            closed: asked.closed,
             changed: false,
-        }),
+        })),
         Err(Unready::Full) => Outcome::Stays(Reply::HistoryFull {
             number: board.number(),
         }),
@@ -228,16 +233,14 @@ pub fn ready_change<F: Folders>(
     requires some { 1 ≤ worker }
     requires range { worker ≤ 16 }
     requires settings { settings.now ≡ board.now.settings }
-    requires closable { All (Contains (closables board.now.features)) board.now.closed }
+    requires closable { All (Contains (closables board.now.features)) (closed_ids board.now) }
     ensures outcome { IsOutcome (shelf_of (F.files reader.old.folders) reader.old.base) board.now worker change.now result }
     ensures counts { CountsOutcome (F.faults reader.old.folders) (F.faults reader.new.folders) result }
     ensures same { F.files reader.new.folders ≡ F.files reader.old.folders }
     ensures base { reader.new.base ≡ reader.old.base }
 {
     match change {
-        Change::Closure { feature, closed } => {
-            ready_closure(alloc, board, settings, worker, *feature, *closed)
-        }
+        Change::Closure(asked) => ready_closure(alloc, board, settings, worker, *asked),
         Change::Publish { folder } => ready_folder(alloc, board, settings, worker, reader, folder),
     }
 }

@@ -1,17 +1,17 @@
 //! What is closed at a board's version.
 
-ghost use Rattle.std.specs.Prelude.{◌≡◌, ◌≢◌, IfOk, IfSome, IfNone, AllPairs, Contains, filter};
+ghost use Rattle.std.specs.Prelude.{◌≡◌, ◌≢◌, IfOk, IfSome, IfNone, AllPairs, Contains, filter, map};
 ghost use Rattle.route_search.specs.Graphs.{network};
-ghost use Rattle.route_search.specs.Marking.{AreMarksOf, chosen};
+ghost use Rattle.route_search.specs.Marking.{AreMarksOf, chosen, is_set};
 ghost use Rattle.route_search.specs.Nodes.{closables};
-ghost use Rattle.venue_history.specs.Closed.{is_closed, is_one_of};
+ghost use Rattle.venue_history.specs.Closed.{is_closed, is_one_of, closed_ids, closed_row, closed_rows};
 ghost use Rattle.venue_state.specs.Tallies.{IsTally, gone_from};
 
 use crate::board::Board;
 use crate::tally::{Tally, mark};
 use route_search::{Graph, Marks};
 use std::alloc::Global;
-use venue_types::{FeatureId, List, OutOfMemory};
+use venue_types::{ClosedRow, FeatureId, List, OutOfMemory};
 
 impl Board {
     /// Whether a feature is closed, if it can be closed.
@@ -29,7 +29,7 @@ impl Board {
     /// What can be closed stands once, and what is closed in the order of it.
     pub(crate) fn order_law(&self)
         ensures once { AllPairs (λ a b. a ≢ b) (closables self.now.features) }
-        ensures order { self.now.closed ≡ filter (is_one_of self.now.closed) (closables self.now.features) }
+        ensures order { closed_ids self.now ≡ filter (is_one_of (closed_ids self.now)) (closables self.now.features) }
     {
         self.graph().range_law();
         let _marks = self.marks();
@@ -37,16 +37,24 @@ impl Board {
 
     /// The features that are closed, in their order.
     pub(crate) fn closed_ids(&self, alloc: Global) -> Result<List<FeatureId>, OutOfMemory>
-        ensures { IfOk result (λ ids. ids ≡ self.now.closed) }
+        ensures { IfOk result (λ ids. ids ≡ closed_ids self.now) }
     {
         let marks = self.marks();
         marked_ids(alloc, self.graph(), marks)
     }
 
+    /// The features that are closed, as a reply lists them.
+    pub(crate) fn closed_rows(&self, alloc: Global) -> Result<List<ClosedRow>, OutOfMemory>
+        ensures { IfOk result (λ rows. rows ≡ closed_rows self.now) }
+    {
+        let ids = self.closed_ids(alloc)?;
+        rows_of(alloc, ids.as_slice())
+    }
+
     /// A copy of the marks, with their count.
     pub(crate) fn tally(&self, alloc: Global) -> Result<Tally, OutOfMemory>
         ensures tallied { IfOk result (IsTally (closables self.now.features)) }
-        ensures same { IfOk result (λ tally. chosen tally.marks (closables self.now.features) ≡ self.now.closed) }
+        ensures same { IfOk result (λ tally. chosen is_set tally.marks (closables self.now.features) ≡ closed_ids self.now) }
     {
         let marks = self.marks().copy(alloc)?;
         Ok(Tally {
@@ -56,10 +64,21 @@ impl Board {
     }
 }
 
+// Closed features as a reply lists them.
+fn rows_of(alloc: Global, ids: &[FeatureId]) -> Result<List<ClosedRow>, OutOfMemory>
+    ensures { IfOk result (λ rows. rows ≡ map closed_row ids.now) }
+{
+    let mut rows = Vec::with_capacity(alloc, ids.len())?;
+    for id in ids {
+        rows.push(ClosedRow { id: *id })?;
+    }
+    Ok(List::from_vec(rows))
+}
+
 // The features that are marked, in their order.
 fn marked_ids(alloc: Global, graph: &Graph, marks: &Marks) -> Result<List<FeatureId>, OutOfMemory>
     requires { AreMarksOf (network graph.now) marks.now }
-    ensures { IfOk result (λ ids. ids ≡ chosen marks.now (network graph.now).closables) }
+    ensures { IfOk result (λ ids. ids ≡ chosen is_set marks.now (network graph.now).closables) }
 {
     let mut ids = List::new(alloc);
     for k in 0..graph.closables() {
@@ -84,7 +103,7 @@ pub(crate) fn carry_over(
     closed: &[FeatureId],
 ) -> Result<Carried, OutOfMemory>
     ensures tallied { IfOk result (λ c. IsTally (network graph.now).closables c.tally) }
-    ensures marked { IfOk result (λ c. chosen c.tally.marks (network graph.now).closables ≡ filter (is_one_of closed.now) (network graph.now).closables) }
+    ensures marked { IfOk result (λ c. chosen is_set c.tally.marks (network graph.now).closables ≡ filter (is_one_of closed.now) (network graph.now).closables) }
     ensures dropped { IfOk result (λ c. c.dropped ≡ gone_from (network graph.now).closables closed.now) }
 {
     let mut tally = Tally {

@@ -9,7 +9,9 @@ ghost use Rattle.venue_history.specs.Closed.{is_closed};
 use crate::board::Board;
 use std::alloc::Global;
 use venue_history::{Venue, every_name};
-use venue_types::{Ask, FeatureId, List, OutOfMemory, PlaceRow, Query, Reply, Which};
+use venue_types::{
+    Ask, ClosuresTold, FeatureId, List, OutOfMemory, PlaceRow, PlaceTold, Query, Reply, Which,
+};
 
 impl Board {
     /// Answers a question at this version. The version is told in no time, a place by its number in an index, what is closed and all
@@ -62,10 +64,10 @@ impl Board {
                 rows: place_rows(alloc, self.venue())?,
             }),
             Ask::Place(id) => self.place(alloc, *id),
-            Ask::Closures => Ok(Reply::Closures {
+            Ask::Closures => Ok(Reply::Closures(ClosuresTold {
                 number: self.number(),
-                closed: self.closed_ids(alloc)?,
-            }),
+                closed: self.closed_rows(alloc)?,
+            })),
             Ask::Route {
                 from,
                 to,
@@ -84,11 +86,11 @@ impl Board {
         match venue.place_of(id) {
             Some(n) => {
                 let row = venue.place(alloc, n)?;
-                Ok(Reply::Place {
+                Ok(Reply::Place(PlaceTold {
                     number: self.number(),
                     row,
                     closed: self.is_closed(id),
-                })
+                }))
             }
             None => Ok(Reply::NoPlace(Which::Id)),
         }

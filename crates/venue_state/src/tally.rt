@@ -2,7 +2,7 @@
 
 ghost use Rattle.std.specs.Prelude.{◌≡◌};
 ghost use Rattle.route_search.specs.Graphs.{network};
-ghost use Rattle.route_search.specs.Marking.{chosen};
+ghost use Rattle.route_search.specs.Marking.{chosen, is_set};
 ghost use Rattle.venue_history.specs.Closed.{is_one_of};
 ghost use Rattle.venue_state.specs.Tallies.{IsTally, remarked};
 
@@ -20,7 +20,7 @@ pub(crate) struct Tally {
 pub(crate) fn mark(tally: &mut Tally, graph: &Graph, id: FeatureId, closed: bool) -> bool
     requires tallied { IsTally (network graph.now).closables tally.old }
     ensures tallied { IsTally (network graph.now).closables tally.new }
-    ensures marked { chosen tally.new.marks (network graph.now).closables ≡ remarked (network graph.now).closables (chosen tally.old.marks (network graph.now).closables) id closed }
+    ensures marked { chosen is_set tally.new.marks (network graph.now).closables ≡ remarked (network graph.now).closables (chosen is_set tally.old.marks (network graph.now).closables) id closed }
     ensures can { result ≡ is_one_of (network graph.now).closables id }
 {
     graph.range_law();

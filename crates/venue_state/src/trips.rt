@@ -1,14 +1,13 @@
 //! Questions for a way.
 
-ghost use Rattle.std.specs.Prelude.{◌≡◌, ◌<◌, ℕ, IfOk, IfSome, IfNone, map, length};
-ghost use Rattle.std.specs.Option.{option_copied};
+ghost use Rattle.std.specs.Prelude.{◌≡◌, ◌<◌, ℕ, Some, None, IfOk, IfSome, IfNone, map, length};
 ghost use Rattle.venue_types.specs.declared.link.Link.{Link};
 ghost use Rattle.venue_types.specs.declared.query.Ask.TheVariants as ask;
 ghost use Rattle.venue_types.specs.declared.settings.Profile.{Profile as AProfile};
 ghost use Rattle.route_search.specs.Nodes.{nodes, place_of};
 ghost use Rattle.route_search.specs.Answers.{IsAnswer, IsSmall};
 ghost use Rattle.venue_history.specs.Answers.{AnswersAsk, IfAsked, IsTrip};
-ghost use Rattle.venue_history.specs.Ways.{Usable, profile_of, name_of, mark_of};
+ghost use Rattle.venue_history.specs.Ways.{Usable, profile_number, profile_of, name_of, mark_of};
 
 use crate::board::Board;
 use route_search::{Found, least, passable_law};
@@ -26,17 +25,36 @@ struct Trip {
     profile: Text,
 }
 
+// A profile of the settings, and its number there.
+#[derive(Clone, Copy)]
+struct Numbered<'a> {
+    number: usize,
+    profile: &'a Profile,
+}
+
 impl Board {
-    // The profile of a name, the first if there are several.
-    #[tactic(auto, unfolding(venue_history::specs::Ways::profile_of))]
-    fn profile(&self, name: &Text) -> Option<&Profile>
-        ensures { option_copied result ≡ profile_of self.now.settings name.now }
+    // The number of the profile of a name, the first if there are several.
+    #[tactic(auto, unfolding(venue_history::specs::Ways::profile_number))]
+    fn profile_number(&self, name: &Text) -> Option<usize>
+        ensures { result ≡ profile_number self.now.settings name.now }
     {
         let name = name.as_str();
         self.settings()
             .profiles
             .iter()
-            .find(|profile| profile.name.as_str() == name)
+            .position(|profile| profile.name.as_str() == name)
+    }
+
+    // The profile of a name with its number, the first if there are several.
+    #[tactic(auto, unfolding(venue_history::specs::Ways::profile_of))]
+    fn profile(&self, name: &Text) -> Option<Numbered<'_>>
+        ensures number { IfSome result (λ it. profile_number self.now.settings name.now ≡ Some it.number) }
+        ensures profile { IfSome result (λ it. profile_of self.now.settings name.now ≡ Some it.profile.now) }
+        ensures none { IfNone result (profile_of self.now.settings name.now ≡ None) }
+    {
+        let number = self.profile_number(name)?;
+        let profile = self.settings().profiles.get(number)?;
+        Some(Numbered { number, profile })
     }
 
     // The node at which a place is.
@@ -60,12 +78,12 @@ impl Board {
     {
         match self.profile(profile) {
             None => Ok(Reply::NoProfile),
-            Some(allowed) => match self.node_of(from) {
+            Some(traveller) => match self.node_of(from) {
                 None => Ok(Reply::NoPlace(Which::From)),
                 Some(a) => match self.node_of(to) {
                     None => Ok(Reply::NoPlace(Which::To)),
                     Some(b) => {
-                        let found = self.found(alloc, allowed, a, b)?;
+                        let found = self.found(alloc, &traveller, a, b)?;
                         let trip = Trip {
                             from,
                             to,
@@ -78,14 +96,20 @@ impl Board {
         }
     }
 
-    // The answer of the search from node to node.
-    fn found(&self, alloc: Global, profile: &Profile, a: u32, b: u32) -> Result<Found, OutOfMemory>
+    // The answer of the search from node to node, for somebody of a profile.
+    fn found(
+        &self,
+        alloc: Global,
+        traveller: &Numbered<'_>,
+        a: u32,
+        b: u32,
+    ) -> Result<Found, OutOfMemory>
         requires a_node { a < length (nodes self.now.features) }
         requires b_node { b < length (nodes self.now.features) }
-        ensures answer { IfOk result (IsAnswer (Usable self.now profile.now) a b) }
+        ensures answer { IfOk result (IsAnswer (Usable self.now traveller.now.number traveller.now.profile.now) a b) }
         ensures small { IfOk result (IsSmall (length (nodes self.now.features))) }
     {
-        searched::<Brand>(alloc, Blank::new(1), self, profile, a, b)
+        searched::<Brand>(alloc, Blank::new(1), self, traveller, a, b)
     }
 
     // What was found as a reply.
@@ -97,8 +121,8 @@ impl Board {
         a: u32,
         found: Found,
     ) -> Result<Reply, OutOfMemory>
-        ensures { IfOk result (λ reply. (profile : AProfile) (b : ℕ) → IsTrip self.now trip.from trip.to trip.profile profile a b
-            → IsAnswer (Usable self.now profile) a b found → IsSmall (length (nodes self.now.features)) found → AnswersAsk self.now (ask.Route trip.from trip.to trip.profile certificate) reply) }
+        ensures { IfOk result (λ reply. (number : ℕ) (profile : AProfile) (b : ℕ) → IsTrip self.now trip.from trip.to trip.profile number profile a b
+            → IsAnswer (Usable self.now number profile) a b found → IsSmall (length (nodes self.now.features)) found → AnswersAsk self.now (ask.Route trip.from trip.to trip.profile certificate) reply) }
     {
         let Trip { from, to, profile } = trip;
         match found {
@@ -166,7 +190,7 @@ fn searched<L: Ledger>(
     alloc: Global,
     blank: Blank,
     board: &Board,
-    profile: &Profile,
+    traveller: &Numbered<'_>,
     a: u32,
     b: u32,
 ) -> Result<Found, OutOfMemory>
@@ -175,7 +199,7 @@ fn searched<L: Ledger>(
     requires some { 0 < L.parts }
     requires a_node { a < length (nodes board.now.features) }
     requires b_node { b < length (nodes board.now.features) }
-    ensures answer { IfOk result (IsAnswer (Usable board.now profile.now) a b) }
+    ensures answer { IfOk result (IsAnswer (Usable board.now traveller.now.number traveller.now.profile.now) a b) }
     ensures small { IfOk result (IsSmall (length (nodes board.now.features))) }
 {
     passable_law();
@@ -184,7 +208,7 @@ fn searched<L: Ledger>(
         alloc,
         board.graph(),
         board.marks(),
-        profile,
+        traveller.profile,
         a,
         b,
         &mut steps,

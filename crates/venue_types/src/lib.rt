@@ -32,8 +32,10 @@ pub use link::{Link, LinkFacts, Node, Potential, Touches};
 pub use list::List;
 pub use memory::OutOfMemory;
 pub use point::{Line, Part, Point, Ring, Shape, Spot};
-pub use query::{Ask, Change, Query};
-pub use reply::{Mark, PlaceRow, Reply, StepRow, Which};
+pub use query::{Ask, Change, Closure, Query};
+pub use reply::{
+    ClosedRow, ClosureDone, ClosuresTold, Mark, PlaceRow, PlaceTold, Reply, StepRow, Which,
+};
 pub use room::{push_reserved, reserve};
 pub use settings::{Extras, Profile, Settings};
 pub use text::Text;

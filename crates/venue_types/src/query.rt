@@ -29,11 +29,18 @@ pub enum Ask {
     },
 }
 
+/// A closure that staff ask for: the feature is to be closed, or to be open again.
+#[derive(Clone, Copy, Debug, PartialEq, Eq)]
+pub struct Closure {
+    pub feature: FeatureId,
+    pub closed: bool,
+}
+
 /// A change that staff ask for.
 #[derive(Drop)]
 pub enum Change {
     /// Closes a feature, or opens it again.
-    Closure { feature: FeatureId, closed: bool },
+    Closure(Closure),
     /// Publishes the folder of this name.
     Publish { folder: Text },
 }

@@ -36,6 +36,36 @@ pub enum Which {
     Id,
 }
 
+/// A place as a reply tells it, and whether it is closed.
+#[derive(Drop)]
+pub struct PlaceTold {
+    pub number: u32,
+    pub row: PlaceRow,
+    pub closed: bool,
+}
+
+/// A feature that is closed.
+#[derive(Clone, Copy, Debug, PartialEq, Eq)]
+pub struct ClosedRow {
+    pub id: FeatureId,
+}
+
+/// What is closed, as a reply tells it.
+#[derive(Drop)]
+pub struct ClosuresTold {
+    pub number: u32,
+    pub closed: List<ClosedRow>,
+}
+
+/// The feature is closed or open now as asked; `changed` tells whether it was otherwise before.
+#[derive(Clone, Copy, Debug, PartialEq, Eq)]
+pub struct ClosureDone {
+    pub number: u32,
+    pub feature: FeatureId,
+    pub closed: bool,
+    pub changed: bool,
+}
+
 /// The answer to a question or a change; `number` is that of the version at which it is given.
 #[derive(Drop)]
 pub enum Reply {
@@ -49,15 +79,8 @@ pub enum Reply {
         number: u32,
         rows: List<PlaceRow>,
     },
-    Place {
-        number: u32,
-        row: PlaceRow,
-        closed: bool,
-    },
-    Closures {
-        number: u32,
-        closed: List<FeatureId>,
-    },
+    Place(PlaceTold),
+    Closures(ClosuresTold),
     /// A cheapest walk, from the node `start`; the potentials are there where they were asked for.
     Route {
         number: u32,
@@ -77,13 +100,7 @@ pub enum Reply {
         profile: Text,
         reached: Option<List<FeatureId>>,
     },
-    /// The feature is closed or open now as asked; `changed` tells whether it was otherwise before.
-    ClosureDone {
-        number: u32,
-        feature: FeatureId,
-        closed: bool,
-        changed: bool,
-    },
+    ClosureDone(ClosureDone),
     /// The folder is published; `dropped` are the closed features that it can't close any more.
     Published {
         number: u32,

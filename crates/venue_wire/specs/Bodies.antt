@@ -29,7 +29,7 @@ text_in name value = option_and_then as_str (get name value)
 -- the feature and how it is to stand
 abbrev pub closure_in : Data → Option Change
 closure_in value =
-    option_and_then (λ feature. option_map (λ closed. Closure feature closed) (option_and_then as_bool (get (codes "closed") value)))
+    option_and_then (λ feature. option_map (λ closed. Closure (record { feature = feature; closed = closed })) (option_and_then as_bool (get (codes "closed") value)))
     (option_and_then identifier_read (text_in (codes "feature") value))
 
 -- the folder to be published

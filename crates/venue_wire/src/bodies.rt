@@ -12,7 +12,7 @@ use crate::messages::Message;
 use crate::paths::Path;
 use serde_json::Value;
 use std::alloc::Global;
-use venue_types::{Change, FeatureId, OutOfMemory, Text};
+use venue_types::{Change, Closure, FeatureId, OutOfMemory, Text};
 use wire_frames::Refusal;
 
 // The value of a body, if it is one.
@@ -44,7 +44,7 @@ fn closure_in(value: &Value) -> Option<Change>
 {
     let feature = FeatureId::read(text_in(value, "feature")?.as_bytes())?;
     let closed = value.get("closed")?.as_bool()?;
-    Some(Change::Closure { feature, closed })
+    Some(Change::Closure(Closure { feature, closed }))
 }
 
 // The folder to be published. A refusal takes no memory.

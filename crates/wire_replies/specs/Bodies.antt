@@ -1,5 +1,5 @@
 -- The JSON body of each reply, its members in the order of their names' bytes.
-use Rattle.std.specs.Prelude.{ℕ, Bool, List, [], ◌∷◌, map, take, fold, codes, Option, Some, None, option_map}
+use Rattle.std.specs.Prelude.{ℕ, List, [], ◌∷◌, map, take, fold, codes, Option, Some, None, option_map}
 use Rattle.serde_json.specs.Data.{Data, null, boolean, number, unsigned, string, array, object, Members, member, no_members, put}
 use Rattle.serde_json.specs.Find.{of_integer}
 use Rattle.serde_json.specs.View.{items_of}
@@ -9,8 +9,12 @@ use Rattle.venue_types.specs.declared.feature_id.FeatureId.{FeatureId}
 use Rattle.venue_types.specs.declared.features.Label.{Label}
 use Rattle.venue_types.specs.declared.finding.Finding.{Finding}
 use Rattle.venue_types.specs.declared.finding.Report.{Report}
+use Rattle.venue_types.specs.declared.reply.ClosedRow.{ClosedRow}
+use Rattle.venue_types.specs.declared.reply.ClosureDone.{ClosureDone}
+use Rattle.venue_types.specs.declared.reply.ClosuresTold.{ClosuresTold}
 use Rattle.venue_types.specs.declared.reply.Mark.{Mark}
 use Rattle.venue_types.specs.declared.reply.PlaceRow.{PlaceRow}
+use Rattle.venue_types.specs.declared.reply.PlaceTold.{PlaceTold}
 use Rattle.venue_types.specs.declared.reply.Reply.{Reply}
 use Rattle.venue_types.specs.declared.reply.Reply.TheVariants as reply
 use Rattle.venue_types.specs.declared.reply.StepRow.{StepRow}
@@ -97,21 +101,25 @@ places_data version rows =
     object (member (codes "places") (list_data row_data rows) (member (codes "version") (count version) no_members))
 
 -- one place, and whether it is closed
-abbrev pub place_data : ℕ → PlaceRow → Bool → Data
-place_data version row closed =
+abbrev pub place_data : PlaceTold → Data
+place_data told =
     object
-    (member (codes "closed") (boolean closed)
-    (member (codes "id") (id_data row.id)
-    (member (codes "kind") (string (class_name row.class))
-    (member (codes "name") (name_data row.name)
-    (member (codes "ordinal") (number (of_integer row.ordinal))
-    (member (codes "version") (count version)
+    (member (codes "closed") (boolean told.closed)
+    (member (codes "id") (id_data told.row.id)
+    (member (codes "kind") (string (class_name told.row.class))
+    (member (codes "name") (name_data told.row.name)
+    (member (codes "ordinal") (number (of_integer told.row.ordinal))
+    (member (codes "version") (count told.number)
     no_members))))))
 
+-- a feature that is closed
+abbrev pub closed_data : ClosedRow → Data
+closed_data row = id_data row.id
+
 -- what is closed
-abbrev pub closures_data : ℕ → List FeatureId → Data
-closures_data version closed =
-    object (member (codes "closures") (list_data id_data closed) (member (codes "version") (count version) no_members))
+abbrev pub closures_data : ClosuresTold → Data
+closures_data told =
+    object (member (codes "closures") (list_data closed_data told.closed) (member (codes "version") (count told.number) no_members))
 
 -- a walk
 abbrev pub route_data : ℕ → FeatureId → FeatureId → List ℕ → FeatureId → ℕ → List StepRow → Option (List Mark) → Data
@@ -141,13 +149,13 @@ no_route_data version from to profile reached =
     no_members))))))
 
 -- a feature that was closed or opened
-abbrev pub closure_data : ℕ → FeatureId → Bool → Bool → Data
-closure_data version feature closed changed =
+abbrev pub closure_data : ClosureDone → Data
+closure_data done =
     object
-    (member (codes "changed") (boolean changed)
-    (member (codes "closed") (boolean closed)
-    (member (codes "feature") (id_data feature)
-    (member (codes "version") (count version)
+    (member (codes "changed") (boolean done.changed)
+    (member (codes "closed") (boolean done.closed)
+    (member (codes "feature") (id_data done.feature)
+    (member (codes "version") (count done.number)
     no_members))))
 
 -- a folder that was published
@@ -187,12 +195,12 @@ full_data version =
 abbrev pub body_of : Reply → Data
 body_of (reply.Version version closed places) = version_data version closed places
 body_of (reply.Places version rows) = places_data version rows
-body_of (reply.Place version row closed) = place_data version row closed
-body_of (reply.Closures version closed) = closures_data version closed
+body_of (reply.Place told) = place_data told
+body_of (reply.Closures told) = closures_data told
 body_of (reply.Route version from to profile start cost steps potentials) =
     route_data version from to profile start cost steps potentials
 body_of (reply.NoRoute version from to profile reached) = no_route_data version from to profile reached
-body_of (reply.ClosureDone version feature closed changed) = closure_data version feature closed changed
+body_of (reply.ClosureDone done) = closure_data done
 body_of (reply.Published version dropped) = published_data version dropped
 body_of (reply.Ahead since version) = ahead_data since version
 body_of reply.NoProfile = error_data (codes "no_such_profile")

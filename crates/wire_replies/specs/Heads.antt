@@ -12,11 +12,11 @@ use Rattle.wire_frames.specs.declared.refusals.Refusal.TheVariants as refusal
 abbrev pub reply_status : Reply → ℕ
 reply_status (reply.Version version closed places) = 200
 reply_status (reply.Places version rows) = 200
-reply_status (reply.Place version row closed) = 200
-reply_status (reply.Closures version closed) = 200
+reply_status (reply.Place told) = 200
+reply_status (reply.Closures told) = 200
 reply_status (reply.Route version from to profile start cost steps potentials) = 200
 reply_status (reply.NoRoute version from to profile reached) = 200
-reply_status (reply.ClosureDone version feature closed changed) = 200
+reply_status (reply.ClosureDone done) = 200
 reply_status (reply.Published version dropped) = 200
 reply_status (reply.Ahead since version) = 409
 reply_status reply.NoProfile = 404

@@ -8,7 +8,9 @@ use crate::labels::Name;
 use crate::written::{Written, begin, end, member, write_items};
 use json::Writer;
 use std::alloc::{AllocError, Global};
-use venue_types::{FeatureId, Finding, List, PlaceRow, Report, Which};
+use venue_types::{
+    ClosureDone, ClosuresTold, FeatureId, Finding, List, PlaceRow, PlaceTold, Report, Which,
+};
 
 // How many findings are told at most.
 const SHOWN: usize = 500;
@@ -55,52 +57,45 @@ pub(crate) fn write_places(
 pub(crate) fn write_place(
     alloc: Global,
     out: &mut Writer,
-    version: u32,
-    row: &PlaceRow,
-    closed: bool,
+    told: &PlaceTold,
 ) -> Result<(), AllocError>
-    ensures { OnOk result (Adds (data_tokens (bodies.place_data version row.now closed)) out.old out.new) }
+    ensures { OnOk result (Adds (data_tokens (bodies.place_data told.now)) out.old out.new) }
 {
     begin(out)?;
-    member(alloc, out, "closed", &closed)?;
-    member(alloc, out, "id", &row.id)?;
-    member(alloc, out, "kind", &row.class)?;
-    member(alloc, out, "name", &Name(&row.name))?;
-    member(alloc, out, "ordinal", &row.ordinal)?;
-    member(alloc, out, "version", &version)?;
+    member(alloc, out, "closed", &told.closed)?;
+    member(alloc, out, "id", &told.row.id)?;
+    member(alloc, out, "kind", &told.row.class)?;
+    member(alloc, out, "name", &Name(&told.row.name))?;
+    member(alloc, out, "ordinal", &told.row.ordinal)?;
+    member(alloc, out, "version", &told.number)?;
     end(out)
 }
 
 pub(crate) fn write_closures(
     alloc: Global,
     out: &mut Writer,
-    version: u32,
-    closed: &List<FeatureId>,
+    told: &ClosuresTold,
 ) -> Result<(), AllocError>
-    ensures { OnOk result (Adds (data_tokens (bodies.closures_data version closed.now)) out.old out.new) }
+    ensures { OnOk result (Adds (data_tokens (bodies.closures_data told.now)) out.old out.new) }
 {
     begin(out)?;
-    member(alloc, out, "closures", closed)?;
-    member(alloc, out, "version", &version)?;
+    member(alloc, out, "closures", &told.closed)?;
+    member(alloc, out, "version", &told.number)?;
     end(out)
 }
 
 pub(crate) fn write_closure(
     alloc: Global,
     out: &mut Writer,
-    version: u32,
-    feature: FeatureId,
-    closed: bool,
-    changed: bool,
+    done: &ClosureDone,
 ) -> Result<(), AllocError>
-    ensures { OnOk result
-        (Adds (data_tokens (bodies.closure_data version feature closed changed)) out.old out.new) }
+    ensures { OnOk result (Adds (data_tokens (bodies.closure_data done.now)) out.old out.new) }
 {
     begin(out)?;
-    member(alloc, out, "changed", &changed)?;
-    member(alloc, out, "closed", &closed)?;
-    member(alloc, out, "feature", &feature)?;
-    member(alloc, out, "version", &version)?;
+    member(alloc, out, "changed", &done.changed)?;
+    member(alloc, out, "closed", &done.closed)?;
+    member(alloc, out, "feature", &done.feature)?;
+    member(alloc, out, "version", &done.number)?;
     end(out)
 }
 

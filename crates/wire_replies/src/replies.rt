@@ -27,12 +27,8 @@ impl Written for Reply {
                 places,
             } => write_version(alloc, out, *number, *closed, *places),
             Reply::Places { number, rows } => write_places(alloc, out, *number, rows),
-            Reply::Place {
-                number,
-                row,
-                closed,
-            } => write_place(alloc, out, *number, row, *closed),
-            Reply::Closures { number, closed } => write_closures(alloc, out, *number, closed),
+            Reply::Place(told) => write_place(alloc, out, told),
+            Reply::Closures(told) => write_closures(alloc, out, told),
             Reply::Route {
                 number,
                 from,
@@ -66,12 +62,7 @@ impl Written for Reply {
                 };
                 write_no_route(alloc, out, &asked, reached)
             }
-            Reply::ClosureDone {
-                number,
-                feature,
-                closed,
-                changed,
-            } => write_closure(alloc, out, *number, *feature, *closed, *changed),
+            Reply::ClosureDone(done) => write_closure(alloc, out, done),
             Reply::Published { number, dropped } => write_published(alloc, out, *number, dropped),
             Reply::Ahead { since, number } => write_ahead(alloc, out, *since, *number),
             Reply::NoProfile => write_error(alloc, out, "no_such_profile"),

@@ -5,7 +5,7 @@ use crate::words::{FileNumber, RuleNumber};
 use crate::written::{Written, begin, end, member};
 use json::Writer;
 use std::alloc::{AllocError, Global};
-use venue_types::{Finding, Mark, PlaceRow, StepRow};
+use venue_types::{ClosedRow, Finding, Mark, PlaceRow, StepRow};
 
 impl Written for StepRow {
     ghost use Rattle.wire_replies.specs.Bodies.{step_data};
@@ -32,6 +32,16 @@ impl Written for Mark {
         member(alloc, out, "node", &self.node)?;
         member(alloc, out, "value", &self.value)?;
         end(out)
+    }
+}
+
+impl Written for ClosedRow {
+    ghost use Rattle.wire_replies.specs.Bodies.{closed_data};
+
+    ghost shown = { closed_data };
+
+    fn write_to(&self, alloc: Global, out: &mut Writer) -> Result<(), AllocError> {
+        self.id.write_to(alloc, out)
     }
 }
 

@@ -20,7 +20,7 @@ use venue_types::{Link, Profile};
 use walk_laws::Steps;
 
 // The flags of the nodes of these features.
-fn flags_of(
+pub(super) fn flags_of(
     rt: &impl Abort,
     alloc: Global,
     graph: &Graph,

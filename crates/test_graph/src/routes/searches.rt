@@ -87,22 +87,29 @@ fn speaks_against(found: &Found, link: &Link) -> bool {
     }
 }
 
-// No link that may be used speaks against the answer.
-fn judge_links(
-    rt: &impl Abort,
+// The links that the profile allows and nothing closes.
+pub(super) fn usable(
+    alloc: Global,
     graph: &Graph,
-    links: &[Link],
     marks: &Marks,
     profile: &Profile,
-    found: &Found,
-)
-    requires links { links.now ≡ (network graph.now).links }
-    requires marks { AreMarksOf (network graph.now) marks.now }
+) -> Result<Vec<Link>, Fail>
+    requires { AreMarksOf (network graph.now) marks.now }
 {
-    for link in links {
+    let mut usable = Vec::new(alloc);
+    let links = graph.listed(alloc)?;
+    for link in links.as_slice() {
         if graph.is_free(link, marks) && allows(profile, &graph.facts(link)) {
-            assert!(rt; !speaks_against(found, link));
+            usable.push(*link)?;
         }
+    }
+    Ok(usable)
+}
+
+// No link speaks against the answer.
+pub(super) fn judge_links(rt: &impl Abort, links: &[Link], found: &Found) {
+    for link in links {
+        assert!(rt; !speaks_against(found, link));
     }
 }
 
@@ -163,17 +170,15 @@ fn judge<L: Ledger>(
     rt: &impl Abort,
     alloc: Global,
     graph: &Graph,
-    links: &[Link],
     profile: &Profile,
     row: &Row,
     steps: &mut Steps<L>,
-) -> Result<(), Fail>
-    requires { links.now ≡ (network graph.now).links }
-{
+) -> Result<(), Fail> {
     let marks = marks_of(rt, alloc, graph, row.closed)?;
     let found = search(rt, alloc, graph, &marks, profile, row, steps)?;
     judge_found(rt, graph, &found, row);
-    judge_links(rt, graph, links, &marks, profile, &found);
+    let links = usable(alloc, graph, &marks, profile)?;
+    judge_links(rt, &links, &found);
     Ok(())
 }
 
@@ -184,11 +189,9 @@ fn judge_venue<L: Ledger>(
     steps: &mut Steps<L>,
 ) -> Result<(), Fail> {
     let profiles = venue.settings().profiles.as_slice();
-    let graph = venue.graph();
-    let links = graph.listed(alloc)?;
     for row in &ROWS {
         let profile = profiles.get(row.profile).expect(rt, "a profile");
-        judge(rt, alloc, graph, links.as_slice(), profile, row, steps)?;
+        judge(rt, alloc, venue.graph(), profile, row, steps)?;
     }
     Ok(())
 }

@@ -1,7 +1,7 @@
 //! Sessions at two seats of one hall over the station, while a disk or a client fails.
 
 ghost use Rattle.std.specs.Prelude.{◌≡◌, ◌≤◌, None, length};
-ghost use Rattle.venue_ports.specs.InMemory.{stream_left, stream_written, stream_faults};
+ghost use Rattle.venue_ports.specs.InMemory.{stream_left, stream_written, stream_starts, stream_faults};
 ghost use Rattle.venue_state.specs.Making.{shelf_of};
 ghost use Rattle.shared_hall.specs.Copied.{entries_in, book_in};
 
@@ -122,7 +122,7 @@ impl<'a, H: Hall> Stream for Interrupted<'a, H> {
 
     ghost written = { λ s. stream_written s.stream };
 
-    ghost starts = { λ _. None };
+    ghost starts = { λ s. stream_starts s.stream };
 
     ghost faults = { λ s. stream_faults s.stream };
 

@@ -2,7 +2,7 @@
 
 ghost use Rattle.std.specs.Prelude.{◌≡◌, None, false, IfOk};
 ghost use Rattle.venue_ports.specs.Doors.{doors_ready, doors_accepted, doors_binds, doors_bound, doors_faults};
-ghost use Rattle.venue_ports.specs.InMemory.{stream_left, stream_written, stream_faults};
+ghost use Rattle.venue_ports.specs.InMemory.{stream_left, stream_written, stream_starts, stream_faults};
 
 use super::outside::{Ended, doors, folders, joined, run_over, stream};
 use super::texts::{FIRST, VERSION};
@@ -27,7 +27,7 @@ impl<'a, R: Wait> Stream for HeardStream<'a, R> {
 
     ghost written = { λ s. stream_written s.stream };
 
-    ghost starts = { λ _. None };
+    ghost starts = { λ s. stream_starts s.stream };
 
     ghost faults = { λ s. stream_faults s.stream };
 

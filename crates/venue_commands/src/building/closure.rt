@@ -12,7 +12,7 @@ ghost use Rattle.venue_commands.specs.Costs.{IsBehindChange};
 use crate::building::hall::{OwnHall, changed};
 use crate::building::ways::named;
 use std::alloc::Global;
-use venue_types::{Change, FeatureId, OutOfMemory, Reply};
+use venue_types::{Change, Closure, FeatureId, OutOfMemory, Reply};
 use version_board::entry_law;
 
 // Whether a reply tells that memory ran out.
@@ -34,10 +34,10 @@ fn close(hall: &mut OwnHall, feature: FeatureId) -> Result<(), OutOfMemory>
     entry_law();
     let reply = changed(
         hall,
-        &Change::Closure {
+        &Change::Closure(Closure {
             feature,
             closed: true,
-        },
+        }),
     );
     judged(&reply)
 }

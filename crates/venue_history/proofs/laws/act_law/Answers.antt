@@ -9,4 +9,4 @@ pub returns-clause-closed : goal.returns-clause-closed
 returns-clause-closed c = closure_closed
 
 pub returns-clause-reopened : goal.returns-clause-reopened
-returns-clause-reopened c = reopening_closed
+returns-clause-reopened c v it other = reopening_closed v it.feature other

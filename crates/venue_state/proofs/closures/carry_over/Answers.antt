@@ -5,14 +5,14 @@ use Rattle.venue_types.specs.declared.feature_id.FeatureId.{FeatureId}
 use Rattle.venue_history.specs.Closed.{is_one_of}
 use Rattle.venue_history.proofs.Identities.{filter_none}
 use Rattle.route_search.specs.Graphs.{network}
-use Rattle.route_search.specs.Marking.{chosen, marked}
+use Rattle.route_search.specs.Marking.{chosen, is_set, marked}
 use Rattle.route_search.specs.Networks.{Network}
 use Rattle.venue_state.specs.Tallies.{gone_from}
 use Rattle.venue_state.proofs.Carrying.{carried_mark, gone_one, gone_not}
 use Rattle.venue_state.proofs.closures.carry_over.Goals as goal
 use Rattle.venue_state.proofs.closures.carry_over.Goals.{then-not-mark+in_ok-push, else-not-mark}
 
-none_chosen : (given : Network) (marks : List Bool) → marked given marks ≡ [] → chosen marks given.closables ≡ []
+none_chosen : (given : Network) (marks : List Bool) → marked given marks ≡ [] → chosen is_set marks given.closables ≡ []
 unfolding marked
 none_chosen given marks none = none
 

@@ -7,7 +7,7 @@ use Rattle.venue_types.specs.declared.feature_id.FeatureId.{FeatureId}
 use Rattle.route_search.specs.Numbering.{number_among}
 use Rattle.route_search.proofs.Finding.{stands_there}
 use Rattle.route_search.specs.Graphs.{network}
-use Rattle.route_search.specs.Marking.{chosen}
+use Rattle.route_search.specs.Marking.{chosen, is_set}
 use Rattle.venue_history.proofs.Identities.{one_of_there}
 use Rattle.venue_state.proofs.Marking.{remark, unmarked, numbered, not_there, chosen_short, count_set}
 use Rattle.venue_state.proofs.tally.mark.Goals as goal
@@ -18,18 +18,18 @@ within marks ids id k whole at = let there = slice_get_within ids k id (stands_t
 -- the count before and after
 counts : (marks set : List Bool) (ids : List FeatureId) (id : FeatureId) (k before : ℕ) (told : Bool) → length marks ≡ length ids → number_among ids id ≡ Some k
     → before ≡ from_bool (slice_index_or marks k false) → set ≡ slice_set marks k told
-    → length (chosen set ids) + before ≡ length (chosen marks ids) + from_bool told
+    → length (chosen is_set set ids) + before ≡ length (chosen is_set marks ids) + from_bool told
 counts marks set ids id k before told whole at was is =
-    ap (λ (n : ℕ). length (chosen set ids) + n) was
-    ∙ (ap (λ (ms : List Bool). length (chosen ms ids) + from_bool (slice_index_or marks k false)) is
-    ∙ count_set marks ids k told whole (within marks ids id k whole at))
+    ap (λ (n : ℕ). length (chosen is_set set ids) + n) was
+    ∙ (ap (λ (ms : List Bool). length (chosen is_set ms ids) + from_bool (slice_index_or marks k false)) is
+    ∙ count_set is_set marks ids k told false whole (within marks ids id k whole at))
 
 -- one that was marked is counted
 counted_before : (marks : List Bool) (ids : List FeatureId) (id : FeatureId) (k before : ℕ) → length marks ≡ length ids → number_among ids id ≡ Some k
-    → before ≡ from_bool (slice_index_or marks k false) → before ≤ length (chosen marks ids)
+    → before ≡ from_bool (slice_index_or marks k false) → before ≤ length (chosen is_set marks ids)
 counted_before marks ids id k before whole at was =
-    let e : length (chosen (slice_set marks k false) ids) + from_bool (slice_index_or marks k false) ≡ length (chosen marks ids) + from_bool false =
-    count_set marks ids k false whole (within marks ids id k whole at) in
+    let e : length (chosen is_set (slice_set marks k false) ids) + from_bool (slice_index_or marks k false) ≡ length (chosen is_set marks ids) + from_bool false =
+    count_set is_set marks ids k false false whole (within marks ids id k whole at) in
     omega arith
 
 one_at_most : (b : Bool) → from_bool b ≤ 1
@@ -49,7 +49,7 @@ overflow_sub-tally c =
 
 pub overflow_add-tally : goal.overflow_add-tally
 overflow_add-tally c =
-    let short = chosen_short c.args.tally.now.marks (network c.args.graph.now).closables in
+    let short = chosen_short is_set c.args.tally.now.marks (network c.args.graph.now).closables in
     let one = one_at_most c.args.closed in
     omega (arith, short, one, c.requires.tallied.counted, c.range_law.ensures.closables, c.from.ensures)
 
@@ -66,15 +66,15 @@ returns-in-Some-clause-tallied c =
 pub returns-in-Some-clause-marked : goal.returns-in-Some-clause-marked
 returns-in-Some-clause-marked c =
     let ids = (network c.args.graph.now).closables in
-    ap (λ (ms : List Bool). chosen ms ids) c.mark.ensures
-    ∙ remark c.args.tally.now.marks ids c.in-Some.k c.args.id c.args.closed c.requires.tallied.whole c.range_law.ensures.once (sym c.in-Some.ensures)
+    ap (λ (ms : List Bool). chosen is_set ms ids) c.mark.ensures
+    ∙ remark is_set c.args.tally.now.marks ids c.in-Some.k c.args.id c.args.closed c.requires.tallied.whole c.range_law.ensures.once (sym c.in-Some.ensures)
 
 pub returns-in-Some-clause-can : goal.returns-in-Some-clause-can
 returns-in-Some-clause-can c = sym (one_of_there _ _ (numbered _ _ _ (sym c.in-Some.ensures)))
 
 pub returns-in-None-clause-marked : goal.returns-in-None-clause-marked
 returns-in-None-clause-marked c =
-    unmarked c.args.tally.now.marks (network c.args.graph.now).closables c.args.id c.args.closed c.requires.tallied.whole c.range_law.ensures.once (sym c.in-None.ensures)
+    unmarked is_set c.args.tally.now.marks (network c.args.graph.now).closables c.args.id c.args.closed c.requires.tallied.whole c.range_law.ensures.once (sym c.in-None.ensures)
 
 pub returns-in-None-clause-can : goal.returns-in-None-clause-can
 returns-in-None-clause-can c = sym (not_there _ _ (sym c.in-None.ensures))

@@ -3,14 +3,14 @@ use Rattle.std.proofs.Common.{◌≡◌, ◌∙◌, length, List, [], ap, sym, s
 use Rattle.std.specs.Arc.{arc_value}
 use Rattle.venue_types.specs.declared.feature_id.FeatureId.{FeatureId}
 use Rattle.route_search.specs.Nodes.{closables}
-use Rattle.route_search.specs.Marking.{chosen, marked}
+use Rattle.route_search.specs.Marking.{chosen, is_set, marked}
 use Rattle.route_search.specs.Networks.{Network}
 use Rattle.venue_state.specs.Boards.{version_of}
 use Rattle.venue_state.proofs.board.Board.first.Goals as goal
 
-none_chosen : (given : Network) (marks : List Bool) (ids : List FeatureId) → given.closables ≡ ids → marked given marks ≡ [] → chosen marks ids ≡ []
+none_chosen : (given : Network) (marks : List Bool) (ids : List FeatureId) → given.closables ≡ ids → marked given marks ≡ [] → chosen is_set marks ids ≡ []
 unfolding marked
-none_chosen given marks ids same none = subst (λ (xs : List FeatureId). chosen marks xs ≡ []) same none
+none_chosen given marks ids same none = subst (λ (xs : List FeatureId). chosen is_set marks xs ≡ []) same none
 
 pub of-requires : goal.of-requires
 of-requires c =

@@ -1,8 +1,9 @@
 -- What can be closed has a number, and its mark tells whether it is closed.
-use Rattle.std.proofs.Common.{◌≡◌, ◌∙◌, List, ap, sym, subst, Contains, Some, arith}
+use Rattle.std.proofs.Common.{◌≡◌, ◌∙◌, List, ap, sym, subst, false, Contains, Some, arith}
 use Rattle.std.proofs.lemmas.Option.{slice_get_within}
 use Rattle.venue_types.specs.declared.feature_id.FeatureId.{FeatureId}
 use Rattle.route_search.specs.Nodes.{closables}
+use Rattle.route_search.specs.Marking.{is_set}
 use Rattle.route_search.specs.Numbering.{number_among}
 use Rattle.route_search.proofs.Finding.{stands_there}
 use Rattle.venue_history.specs.Closed.{is_one_of}
@@ -25,6 +26,6 @@ returns-in-Some-clause-some c =
     let at : number_among (closables c.args.self.now.features) c.args.id ≡ Some c.in-Some.k =
     subst (λ (xs : List FeatureId). number_among xs c.args.id ≡ Some c.in-Some.k) c.graph.ensures.closables_are (sym c.in-Some.ensures) in (
       numbered _ _ _ at,
-      c.is_marked.ensures ∙ marked_here c.marks.result.now _ _ _ c.marks.ensures.whole c.order_law.ensures.once at
+      c.is_marked.ensures ∙ marked_here is_set c.marks.result.now _ _ _ false c.marks.ensures.whole c.order_law.ensures.once at
           ∙ ap (λ (closed : List FeatureId). is_one_of closed c.args.id) c.marks.ensures.closed,
     )

@@ -1,0 +1,11 @@
+mod Tears
+mod Runs
+mod Steps
+mod Closing
+mod Opening
+mod Writing
+mod Putting
+pub mod ReadBack
+mod Recorded
+mod Unique
+mod Kept

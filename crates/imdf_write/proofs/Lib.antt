@@ -1,0 +1,4 @@
+pub mod Degrees
+pub mod Identifiers
+pub mod Lists
+pub mod Pieces

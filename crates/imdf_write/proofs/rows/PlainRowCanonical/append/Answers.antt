@@ -1,0 +1,11 @@
+-- The pieces one behind the other are the text of the feature.
+use Rattle.std.proofs.Common.{[]}
+use Rattle.exact_json.specs.Json.{null}
+use Rattle.json_text.specs.Compact.{compact}
+use Rattle.imdf_write.proofs.Pieces.{feature_of_pieces}
+use Rattle.imdf_write.proofs.rows.PlainRowCanonical.append.Goals as goal
+
+pub returns : goal.returns
+returns c =
+    rw (c.end.ensures, c.identify.ensures, c.append.ensures, c.begin.ensures)
+    (feature_of_pieces c.args.out.now c.args.file (compact null) c.args.self.now.id [])

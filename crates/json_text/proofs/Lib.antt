@@ -1,0 +1,6 @@
+pub mod Drafts
+pub mod Runs
+mod Strings
+mod Spelling
+mod Numbers
+mod Utf8

@@ -1,0 +1,34 @@
+// A change of what stands at the server. It is sent once, with the staff's key, and whatever comes back is told as what it is.
+const NAMES = new Set(["not_staff", "bad_body", "no_such_feature", "history_full", "folder_fault", "rejected", "want_of_memory"]);
+
+/** Whether a text can be a key: 8 to 128 bytes from 0x21 to 0x7E. */
+export const isKey = (text) => /^[!-~]{8,128}$/.test(text);
+
+/** What became of a change: `done` with the server's reply; `refused` by the server, with the name of the refusal; `kept` where it was never sent or a
+    proxy sent it back, with the key of the sentence; or `lost` where nobody said whether it was made. */
+export async function send(path, body, key, patience) {
+  if (!navigator.onLine) return { is: "kept", why: "offline.kept" };
+  let reply, text;
+  try {
+    const headers = { "x-staff-key": key, "content-type": "application/json" };
+    reply = await fetch(path, { method: "POST", headers, body: JSON.stringify(body), cache: "no-store", credentials: "omit", redirect: "error", signal: AbortSignal.timeout(patience) });
+    text = await reply.text();
+  } catch {
+    return { is: "lost" };
+  }
+  const told = parsed(text), { status } = reply;
+  if (status === 200 && Number.isSafeInteger(told?.version)) return { is: "done", told };
+  if (status >= 400 && NAMES.has(told?.error)) return { is: "refused", name: told.error, told };
+  if (status === 403) return { is: "kept", why: "network.wrong" };
+  if (status === 429) return { is: "kept", why: "too.many" };
+  if (status < 400 || status >= 500) return { is: "lost", status };
+  return { is: "kept", why: "refused", status };
+}
+
+function parsed(text) {
+  try {
+    return JSON.parse(text);
+  } catch {
+    return null;
+  }
+}
