@@ -212,23 +212,25 @@ impl Graph {
         link_facts::facts(&self.core, link)
     }
 
-    /// Whether the feature of a node is open.
+    /// Whether the feature of a node is open for the profile of this number.
     #[tactic(auto, unfolding(crate::specs::Graphs::network))]
-    pub fn is_node_free(&self, n: u32, marks: &Marks) -> bool
+    pub fn is_node_free(&self, n: u32, marks: &Marks, profile: u8) -> bool
         requires node { n < length (network self.now).nodes }
         requires marks { AreMarksOf (network self.now) marks.now }
-        ensures { IsTrue result ↔ ¬ IsNodeClosed (network self.now).nodes (marked (network self.now) marks.now) n }
+        requires profile { profile < 16 }
+        ensures { IsTrue result ↔ ¬ IsNodeClosed (network self.now).nodes (marked (network self.now) marks.now profile) n }
     {
-        link_facts::is_node_free(&self.core, n, marks)
+        link_facts::is_node_free(&self.core, n, marks, profile)
     }
 
-    /// Whether nothing at a link of this graph is closed: neither its way nor the feature at either end.
+    /// Whether nothing at a link of this graph is closed for the profile of this number: neither its way nor the feature at either end.
     #[tactic(auto, unfolding(crate::specs::Graphs::network))]
-    pub fn is_free(&self, link: &Link, marks: &Marks) -> bool
+    pub fn is_free(&self, link: &Link, marks: &Marks, profile: u8) -> bool
         requires there { Contains (network self.now).links link.now }
         requires marks { AreMarksOf (network self.now) marks.now }
-        ensures { IsTrue result ↔ IsFree (network self.now) (marked (network self.now) marks.now) link.now }
+        requires profile { profile < 16 }
+        ensures { IsTrue result ↔ IsFree (network self.now) (marked (network self.now) marks.now profile) link.now }
     {
-        link_facts::is_free(&self.core, link, marks)
+        link_facts::is_free(&self.core, link, marks, profile)
     }
 }

@@ -49,37 +49,40 @@ fn joined(kind: Kind, barred: bool, from: &EndFacts, to: &EndFacts) -> LinkFacts
     }
 }
 
-/// Whether the feature of a node is open.
-pub(crate) fn is_node_free(core: &Core, n: u32, marks: &Marks) -> bool
+/// Whether the feature of a node is open for the profile of this number.
+pub(crate) fn is_node_free(core: &Core, n: u32, marks: &Marks, profile: u8) -> bool
     requires sound { IsSoundCore core.now }
     requires node { n < length (network_in core.now).nodes }
     requires marks { AreMarksOf (network_in core.now) marks.now }
-    ensures { IsTrue result ↔ ¬ IsNodeClosed (network_in core.now).nodes (marked (network_in core.now) marks.now) n }
+    requires profile { profile < 16 }
+    ensures { IsTrue result ↔ ¬ IsNodeClosed (network_in core.now).nodes (marked (network_in core.now) marks.now profile) n }
 {
     match core.doors[n as usize].closable {
-        Some(k) => !marks.is_marked(k),
+        Some(k) => !marks.is_marked(k, profile),
         None => true,
     }
 }
 
-// Whether the unit or the relationship of this number is open.
-fn is_way_free(core: &Core, via: u32, marks: &Marks) -> bool
+// Whether the unit or the relationship of this number is open for the profile.
+fn is_way_free(core: &Core, via: u32, marks: &Marks, profile: u8) -> bool
     requires sound { IsSoundCore core.now }
     requires way { via < length (network_in core.now).closables }
     requires marks { AreMarksOf (network_in core.now) marks.now }
-    ensures { IsTrue result ↔ ¬ IsWayClosed (network_in core.now).closables (marked (network_in core.now) marks.now) via }
+    requires profile { profile < 16 }
+    ensures { IsTrue result ↔ ¬ IsWayClosed (network_in core.now).closables (marked (network_in core.now) marks.now profile) via }
 {
-    !marks.is_marked(via)
+    !marks.is_marked(via, profile)
 }
 
-/// Whether nothing at a link is closed.
-pub(crate) fn is_free(core: &Core, link: &Link, marks: &Marks) -> bool
+/// Whether nothing at a link is closed for the profile of this number.
+pub(crate) fn is_free(core: &Core, link: &Link, marks: &Marks, profile: u8) -> bool
     requires sound { IsSoundCore core.now }
     requires there { Contains (network_in core.now).links link.now }
     requires marks { AreMarksOf (network_in core.now) marks.now }
-    ensures { IsTrue result ↔ IsFree (network_in core.now) (marked (network_in core.now) marks.now) link.now }
+    requires profile { profile < 16 }
+    ensures { IsTrue result ↔ IsFree (network_in core.now) (marked (network_in core.now) marks.now profile) link.now }
 {
-    is_way_free(core, link.via, marks)
-        && is_node_free(core, link.from, marks)
-        && is_node_free(core, link.to, marks)
+    is_way_free(core, link.via, marks, profile)
+        && is_node_free(core, link.from, marks, profile)
+        && is_node_free(core, link.to, marks, profile)
 }

@@ -13,7 +13,7 @@ use std::sync::ledger::{Blank, Ledger};
 use venue_types::{OutOfMemory, Profile};
 use walk_laws::Steps;
 
-// The search with nothing closed, and with a counter that nobody reads.
+// The search with nothing closed, so whatever the profile's number, and with a counter that nobody reads.
 fn searched<L: Ledger>(
     alloc: Global,
     blank: Blank,
@@ -32,7 +32,7 @@ fn searched<L: Ledger>(
 {
     let marks = Marks::none(alloc, graph)?;
     let mut steps = Steps::<L>::begin(blank);
-    least(alloc, graph, &marks, profile, from, to, &mut steps)
+    least(alloc, graph, &marks, profile, 0, from, to, &mut steps)
 }
 
 /// What a search finds over the links that the profile allows, nothing closed.

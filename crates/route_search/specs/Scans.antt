@@ -14,9 +14,9 @@ use Rattle.route_search.specs.Labels.{IsRelaxed}
 use Rattle.route_search.specs.States.{cost_in, last_in, settled_in, IsReached, IsRelaxedFrom, Room, Grows}
 use Rattle.route_search.specs.Waiting.{Waits, waiting}
 
--- a link of the graph that the profile may pass and nothing marked closes
+-- a link of the graph that the profile may pass and nothing marked closes for its number
 abbrev pub CanPass : Ways → Link → Type 0
-CanPass ways link = IsPassable (network ways.graph.now) (marked (network ways.graph.now) ways.marks.now) ways.profile.now link
+CanPass ways link = IsPassable (network ways.graph.now) (marked (network ways.graph.now) ways.marks.now ways.number) ways.profile.now link
 
 abbrev pub node_count : Graph → ℕ
 node_count graph = length (network graph).nodes
@@ -76,9 +76,9 @@ pub record IsFollowed (given : Network) (IsLink : Link → Type 0) (nodes : ℕ)
 
 -- ---- the same over the links of a graph that may be passed
 
--- one mark for each feature that can be closed
+-- one mark for each feature that can be closed, and the number is one that a profile may have
 abbrev pub AreMarked : Ways → Type 0
-AreMarked ways = AreMarksOf (network ways.graph.now) ways.marks.now
+AreMarked ways = AreMarksOf (network ways.graph.now) ways.marks.now × (ways.number < 16)
 
 abbrev pub Regards : Ways → ℕ → State → Type 0
 Regards ways node state = IsAmid (network ways.graph.now) (CanPass ways) (node_count ways.graph.now) node state

@@ -17,7 +17,7 @@ pub(crate) fn can_pass(ways: &Ways, link: &Link) -> bool
     requires marks { AreMarked ways.now }
     ensures { IsTrue result ↔ CanPass ways.now link.now }
 {
-    allows(ways.profile, &ways.graph.facts(link)) && ways.graph.is_free(link, ways.marks)
+    allows(ways.profile, &ways.graph.facts(link)) && ways.graph.is_free(link, ways.marks, ways.number)
 }
 
 /// Whether a link out of the node may be passed as far as the node itself has a say.
@@ -27,7 +27,7 @@ pub(crate) fn can_leave(ways: &Ways, node: u32) -> bool
     ensures { (link : ALink) → CanPass ways.now link → link.from ≡ node → IsTrue result }
 {
     network_parts_law();
-    passes_end(ways.profile, &ways.graph.ends(node)) && ways.graph.is_node_free(node, ways.marks)
+    passes_end(ways.profile, &ways.graph.ends(node)) && ways.graph.is_node_free(node, ways.marks, ways.number)
 }
 
 // Whether the last link of a walk goes by this number.
@@ -54,7 +54,7 @@ pub(crate) fn is_passed_over(ways: &Ways, last: Option<Link>, way: Way) -> bool
         } => {
             network_parts_law();
             is_again(last, via)
-                || ways.marks.is_marked(via)
+                || ways.marks.is_marked(via, ways.number)
                 || !passes_way(ways.profile, kind, restricted)
         }
         Way::Between => false,

@@ -18,13 +18,14 @@ use std::sync::ledger::Ledger;
 use venue_types::{OutOfMemory, Profile};
 use walk_laws::Steps;
 
-/// What a search from a node knows over links that the profile allows and nothing closes, where so many ends are settled and what comes
+/// What a search from a node knows over links that the profile allows and nothing closes for its number, where so many ends are settled and what comes
 /// next costs more than the last of them, or where nothing is left. Looks at each link once at most, and at most of them never.
 pub fn reach<L: Ledger, E: Ends>(
     alloc: Global,
     graph: &Graph,
     marks: &Marks,
     profile: &Profile,
+    number: u8,
     from: u32,
     ends: &E,
     count: u32,
@@ -32,7 +33,8 @@ pub fn reach<L: Ledger, E: Ends>(
 ) -> Result<Reach, OutOfMemory>
     requires from { from < length (network graph.now).nodes }
     requires marks { AreMarksOf (network graph.now) marks.now }
-    ensures over { IfOk result (IsReachOver (IsPassable (network graph.now) (marked (network graph.now) marks.now) profile.now) from) }
+    requires number { number < 16 }
+    ensures over { IfOk result (IsReachOver (IsPassable (network graph.now) (marked (network graph.now) marks.now number) profile.now) from) }
     ensures enough { IfOk result (HasEnough (E.ends ends.now) count) }
     ensures small { IfOk result (IsSmallReach (length (network graph.now).nodes)) }
     ensures steps { steps.new ≤ steps.old + length (network graph.now).links }
@@ -43,6 +45,7 @@ pub fn reach<L: Ledger, E: Ends>(
         graph,
         marks,
         profile,
+        number,
     };
     let bound = grow(&ways, ends, count, &mut state, steps)?;
     let State { costs, lasts, .. } = state;

@@ -16,7 +16,7 @@ use std::sync::ledger::Ledger;
 use venue_types::{OutOfMemory, Profile};
 use walk_laws::Steps;
 
-/// A walk from node to node over links that the profile allows and nothing closes, which costs least, with potentials by which anyone
+/// A walk from node to node over links that the profile allows and nothing closes for its number, which costs least, with potentials by which anyone
 /// can check that none costs less; or where there is no walk, the nodes to which one leads. From a node to itself no link is taken,
 /// whatever is closed. Looks at each link once at most, and at most of them never.
 pub fn least<L: Ledger>(
@@ -24,6 +24,7 @@ pub fn least<L: Ledger>(
     graph: &Graph,
     marks: &Marks,
     profile: &Profile,
+    number: u8,
     from: u32,
     to: u32,
     steps: &mut Steps<L>,
@@ -31,12 +32,13 @@ pub fn least<L: Ledger>(
     requires from { from < length (network graph.now).nodes }
     requires to { to < length (network graph.now).nodes }
     requires marks { AreMarksOf (network graph.now) marks.now }
-    ensures answer { IfOk result (IsAnswer (IsPassable (network graph.now) (marked (network graph.now) marks.now) profile.now) from to) }
+    requires number { number < 16 }
+    ensures answer { IfOk result (IsAnswer (IsPassable (network graph.now) (marked (network graph.now) marks.now number) profile.now) from to) }
     ensures small { IfOk result (IsSmall (length (network graph.now).nodes)) }
     ensures steps { steps.new ≤ steps.old + length (network graph.now).links }
 {
     let end = OneEnd { node: to };
-    let found = reach(alloc, graph, marks, profile, from, &end, 1, steps)?;
+    let found = reach(alloc, graph, marks, profile, number, from, &end, 1, steps)?;
     match found.cost(to) {
         Some(cost) => route(alloc, &found, to, cost),
         None => cut(alloc, &found, to),

@@ -12,6 +12,7 @@ mod link;
 mod list;
 mod memory;
 mod point;
+mod profile_set;
 mod query;
 mod reply;
 mod room;
@@ -32,6 +33,7 @@ pub use link::{Link, LinkFacts, Node, Potential, Touches};
 pub use list::List;
 pub use memory::OutOfMemory;
 pub use point::{Line, Part, Point, Ring, Shape, Spot};
+pub use profile_set::{ProfileSet, profile_set_law};
 pub use query::{Ask, Change, Closure, Query};
 pub use reply::{
     ClosedRow, ClosureDone, ClosuresTold, Mark, PlaceRow, PlaceTold, Reply, StepRow, Which,

@@ -36,18 +36,20 @@ pub enum Which {
     Id,
 }
 
-/// A place as a reply tells it, and whether it is closed.
+/// A place as a reply tells it: whether it is closed for everybody, and where it is closed for some alone, the names of their profiles.
 #[derive(Drop)]
 pub struct PlaceTold {
     pub number: u32,
     pub row: PlaceRow,
     pub closed: bool,
+    pub profiles: Option<List<Text>>,
 }
 
-/// A feature that is closed.
-#[derive(Clone, Copy, Debug, PartialEq, Eq)]
+/// A feature that is closed: for everybody, or for the profiles of these names.
+#[derive(Drop)]
 pub struct ClosedRow {
     pub id: FeatureId,
+    pub profiles: Option<List<Text>>,
 }
 
 /// What is closed, as a reply tells it.
