@@ -22,7 +22,7 @@ use Rattle.venue_build.specs.Identity.{is_same}
 use Rattle.venue_build.specs.Nodes.{nodes, place_of}
 use Rattle.venue_build.specs.Views.{link_view, potential_view}
 use Rattle.venue_build.specs.Places.{places}
-use Rattle.venue_history.specs.Closed.{Version, is_closed, closed_rows, closed_count}
+use Rattle.venue_history.specs.Closed.{Version, is_closed_for_all, shut_out, closed_rows, closed_count}
 use Rattle.venue_history.specs.Ways.{Usable, profile_number, profile_of, name_of, step_of, mark_of}
 
 -- the question asks for a version that isn't there yet
@@ -114,7 +114,7 @@ abbrev pub AnswersAsk : Version → Ask → Reply → Type 0
 AnswersAsk v ask.Version (reply.Version number closed count) = (number ≡ v.number) × (closed ≡ closed_count v) × (count ≡ length (places v.features))
 AnswersAsk v ask.Places (reply.Places number rows) = (number ≡ v.number) × (rows ≡ places v.features)
 AnswersAsk v (ask.Place id) (reply.NoPlace which.Id) = IsNoPlace v id
-AnswersAsk v (ask.Place id) (reply.Place it) = IsPlace v id × (it.number ≡ v.number) × (place_row v.features id ≡ Some it.row) × (it.closed ≡ is_closed v id)
+AnswersAsk v (ask.Place id) (reply.Place it) = IsPlace v id × (it.number ≡ v.number) × (place_row v.features id ≡ Some it.row) × (it.closed ≡ is_closed_for_all v id) × (it.profiles ≡ shut_out v id)
 AnswersAsk v ask.Closures (reply.Closures it) = (it.number ≡ v.number) × (it.closed ≡ closed_rows v)
 AnswersAsk v (ask.Route from to name certificate) reply.NoProfile = LacksProfile v name
 AnswersAsk v (ask.Route from to name certificate) (reply.NoPlace which.From) = HasProfile v name × IsNoPlace v from

@@ -1,5 +1,5 @@
 -- Which reply answers which change, and what becomes of the history.
-use Rattle.std.specs.Prelude.{◌≡◌, ◌≢◌, ℕ, ◌+◌, List, [], ◌∷◌, ◌++◌, length, filter, Contains, Option, IfSome, Bool, true, false, not}
+use Rattle.std.specs.Prelude.{◌≡◌, ℕ, ◌+◌, List, [], ◌∷◌, ◌++◌, length, filter, Contains, Option, IfSome, Bool, true, false, not, if◌then◌else◌, IsTrue}
 use Rattle.std.specs.Arc.{arc_value}
 use Rattle.venue_types.specs.declared.feature_id.FeatureId.{FeatureId}
 use Rattle.venue_types.specs.declared.features.Features.{Features}
@@ -8,9 +8,11 @@ use Rattle.venue_types.specs.declared.finding.Report.{Report}
 use Rattle.venue_types.specs.declared.query.Change.{Change}
 use Rattle.venue_types.specs.declared.query.Change.TheVariants as change
 use Rattle.venue_types.specs.declared.query.Closure.{Closure}
+use Rattle.venue_types.specs.declared.profile_set.ProfileSet.{ProfileSet}
 use Rattle.venue_types.specs.declared.reply.ClosureDone.{ClosureDone}
 use Rattle.venue_types.specs.declared.reply.Reply.{Reply}
 use Rattle.venue_types.specs.declared.reply.Reply.TheVariants as reply
+use Rattle.venue_types.specs.ProfileSets.{has_all_of, has_any_of}
 use Rattle.venue_ports.specs.Causes.{Rose}
 use Rattle.venue_build.specs.Nodes.{closables}
 use Rattle.venue_build.specs.Venues.{SeenVenue as Venue}
@@ -18,8 +20,9 @@ use Rattle.venue_build.specs.Built.{IsRejected, IsVenueOf}
 use Rattle.venue_folder.specs.Shelves.{Shelf, shelf_files}
 use Rattle.venue_history.specs.declared.entry.Act.{Act}
 use Rattle.venue_history.specs.declared.entry.Act.TheVariants as act
+use Rattle.venue_history.specs.declared.entry.Closing.{Closing}
 use Rattle.venue_history.specs.declared.entry.Entry.{Entry}
-use Rattle.venue_history.specs.Closed.{Version, is_one_of, is_closed, closed_ids}
+use Rattle.venue_history.specs.Closed.{Version, is_one_of, closed_set, closed_ids, everybody}
 use Rattle.venue_history.specs.Versions.{MayFollow}
 use Rattle.venue_history.specs.Histories.{Replays}
 
@@ -40,13 +43,21 @@ pub record Breaks (shelf : Option Shelf) (v : Version) (folder : List ℕ) (repo
   pub read : AreRead shelf folder files
   pub breaks : IsRejected files v.settings report
 
+-- for whom a closure is asked for: today for everybody
+abbrev pub asked_for : Version → Closure → ProfileSet
+asked_for v asked = everybody v.settings
+
+-- whether the feature stands as asked for everybody for whom that is asked: closed for all of them, or for none
+abbrev pub stands_so : Version → Closure → Bool
+stands_so v asked = if asked.closed then has_all_of (closed_set v asked.feature) (asked_for v asked) else not (has_any_of (closed_set v asked.feature) (asked_for v asked))
+
 -- the feature can be closed, and stands as asked already
 abbrev pub StandsSo : Version → Closure → Type 0
-StandsSo v asked = Contains (closables v.features) asked.feature × (is_closed v asked.feature ≡ asked.closed)
+StandsSo v asked = Contains (closables v.features) asked.feature × IsTrue (stands_so v asked)
 
 -- the feature can be closed, and stands otherwise
 abbrev pub StandsOtherwise : Version → Closure → Type 0
-StandsOtherwise v asked = Contains (closables v.features) asked.feature × (is_closed v asked.feature ≢ asked.closed)
+StandsOtherwise v asked = Contains (closables v.features) asked.feature × ¬ IsTrue (stands_so v asked)
 
 -- the change would add an entry, if it didn't come late: the feature can be closed and stands otherwise, or the files make a venue
 abbrev pub IsDue : Option Shelf → Version → Change → Type 0
@@ -73,10 +84,16 @@ Refuses shelf v (change.Publish folder) (reply.FolderFault before after) = Rose 
 Refuses shelf v (change.Publish folder) (reply.Rejected report) = Breaks shelf v folder report
 Refuses shelf v asked r = IsDue shelf v asked × IsLate v r
 
+-- what is closed, or opened again, is the feature that is asked for, for those for whom it is, and it stood otherwise
+pub record IsAskedFor (v : Version) (asked : Closure) (it : Closing) : Type 0 where
+  pub feature_is : it.feature ≡ asked.feature
+  pub profiles_are : it.profiles ≡ asked_for v asked
+  pub stood : StandsOtherwise v asked
+
 -- the act to which the change comes at the version
 abbrev pub IsActOf : Option Shelf → Version → Change → Act → Type 0
-IsActOf shelf v (change.Closure asked) (act.Closed it) = (asked.closed ≡ true) × (it.feature ≡ asked.feature) × StandsOtherwise v asked
-IsActOf shelf v (change.Closure asked) (act.Reopened it) = (asked.closed ≡ false) × (it.feature ≡ asked.feature) × StandsOtherwise v asked
+IsActOf shelf v (change.Closure asked) (act.Closed it) = (asked.closed ≡ true) × IsAskedFor v asked it
+IsActOf shelf v (change.Closure asked) (act.Reopened it) = (asked.closed ≡ false) × IsAskedFor v asked it
 IsActOf shelf v (change.Publish folder) (act.Published venue) = Makes shelf v folder (arc_value venue)
 IsActOf shelf v _ _ = ⊥
 

@@ -2,12 +2,13 @@
 
 use std::sync::Arc;
 use venue_build::Venue;
-use venue_types::FeatureId;
+use venue_types::{FeatureId, ProfileSet};
 
-/// A feature that was closed, or opened again.
+/// A feature, and the profiles for which it is closed, was closed, or was opened again.
 #[derive(Clone, Copy, Debug, PartialEq, Eq)]
 pub struct Closing {
     pub feature: FeatureId,
+    pub profiles: ProfileSet,
 }
 
 /// What was done.
@@ -15,9 +16,9 @@ pub struct Closing {
 pub enum Act {
     /// This venue stands from here on.
     Published(Arc<Venue>),
-    /// The feature is closed.
+    /// The feature is closed for the profiles, beside those for whom it is closed already.
     Closed(Closing),
-    /// The feature is open again.
+    /// The feature is open again for the profiles.
     Reopened(Closing),
 }
 

@@ -1,15 +1,17 @@
 //! What holds of every history, of every answer and of every change.
 
-ghost use Rattle.std.specs.Prelude.{◌≡◌, ◌≢◌, ℕ, ◌+◌, List, [], ◌∷◌, ◌++◌, length, filter, All, AllPairs, Contains, Option, Some, IsTrue, ◌↔◌, ◌⊎◌};
+ghost use Rattle.std.specs.Prelude.{◌≡◌, ◌≢◌, ℕ, ◌+◌, List, [], ◌∷◌, ◌++◌, length, All, AllPairs, Contains, Option, Some, IsTrue, ◌↔◌, ◌||◌, ◌&&◌, not, if◌then◌else◌};
 ghost use mathlib.Core.List.{IsPrefix};
 ghost use Rattle.std.specs.Arc.{arc_value};
 ghost use Rattle.std.specs.declared.sync.Arc.{Arc};
 ghost use Rattle.std.specs.declared.alloc.Global.{Global};
 ghost use Rattle.venue_types.specs.declared.feature_id.FeatureId.{FeatureId};
+ghost use Rattle.venue_types.specs.declared.profile_set.ProfileSet.{ProfileSet as Set};
 ghost use Rattle.venue_types.specs.declared.query.Change.{Change as AChange};
 ghost use Rattle.venue_types.specs.declared.query.Query.{Query as AQuery};
 ghost use Rattle.venue_types.specs.declared.reply.Reply.{Reply as AReply};
 ghost use Rattle.venue_types.specs.declared.reply.Reply.TheVariants as reply;
+ghost use Rattle.venue_types.specs.ProfileSets.{has, nobody, joined, without, is_empty};
 ghost use Rattle.venue_build.specs.Nodes.{closables};
 ghost use Rattle.venue_build.specs.Venues.{SeenVenue as AVenue};
 ghost use Rattle.venue_build.specs.Report.{AreValid};
@@ -17,14 +19,15 @@ ghost use Rattle.venue_folder.specs.Shelves.{Shelf};
 ghost use Rattle.venue_history.specs.declared.entry.Entry.{Entry as AnEntry};
 ghost use Rattle.venue_history.specs.declared.entry.Act.TheVariants.{Published, Closed, Reopened};
 ghost use Rattle.venue_history.specs.declared.entry.Closing.{Closing};
-ghost use Rattle.venue_history.specs.Closed.{Version, is_closed, closed_for, closed_ids, closed_count};
-ghost use Rattle.venue_history.specs.Versions.{Fits, MayFollow, after};
+ghost use Rattle.venue_history.specs.Closed.{Version, is_one_of, is_closed, is_closed_for_all, closed_for, closed_ids, closed_set, closed_count, everybody};
+ghost use Rattle.venue_history.specs.Versions.{Fits, MayFollow, AreProfiles, closings, set_with, set_without, after};
 ghost use Rattle.venue_history.specs.Histories.{IsPublished, IsLegal, Replays};
 ghost use Rattle.venue_history.specs.Answers.{Answers};
 ghost use Rattle.venue_history.specs.Replies.{told, kind_of, IsOutsideFault};
 ghost use Rattle.venue_history.specs.Changes.{Changes};
 
 use venue_build::{one_outcome, own_ids_law};
+use venue_types::profile_set_law;
 
 /// The number of a version is the length of the history that leads to it.
 pub fn number_law()
@@ -47,36 +50,47 @@ pub fn entry_law()
 {}
 
 /// At every version to which a history leads the settings are those of each venue that the history publishes, the first among
-/// them; every phase of rules accepts the rows; and what is closed can be closed, stands there once, and in the order of what
-/// can be closed.
+/// them; every phase of rules accepts the rows; what is closed can be closed, stands there once, and in the order of what can be
+/// closed; and each feature that is closed is so for somebody, and for profiles of the settings alone.
 pub fn version_law()
     ensures settings { (e : AnEntry) (es : List AnEntry) (venue : AVenue) (v : Version) → Replays (e ∷ es) v → IsPublished venue e.act → v.settings ≡ venue.settings }
     ensures all_settings { (h : List AnEntry) (v : Version) (e : AnEntry) (venue : AVenue) → Replays h v → Contains h e → IsPublished venue e.act → venue.settings ≡ v.settings }
     ensures valid { (h : List AnEntry) (v : Version) → Replays h v → ∥ AreValid v.features v.settings ∥₁ }
     ensures closable { (h : List AnEntry) (v : Version) → Replays h v → All (Contains (closables v.features)) (closed_ids v) }
     ensures once { (h : List AnEntry) (v : Version) → Replays h v → AllPairs (λ a b. a ≢ b) (closed_ids v) }
-    ensures in_order { (h : List AnEntry) (v : Version) → Replays h v → closed_ids v ≡ filter (is_closed v) (closables v.features) }
+    ensures in_order { (h : List AnEntry) (v : Version) → Replays h v → v.closed ≡ closings (closed_set v) (closables v.features) }
+    ensures profiles { (h : List AnEntry) (v : Version) → Replays h v → All (λ (it : Closing). AreProfiles v.settings it.profiles) v.closed }
 {
     own_ids_law();
 }
 
-/// The words on what is closed belong together: a feature is closed exactly where its identifier is listed, the list is as long as
-/// is counted, and today a feature is closed for everybody.
+/// The words on what is closed belong together: a feature is closed for anybody exactly where its identifier is listed, and the list is
+/// as long as is counted; where each is listed once and for somebody, as at every version of a history, a feature is closed for a profile
+/// exactly where its set has it, and for nobody exactly where it isn't listed.
 pub fn closed_law()
     ensures ids { (v : Version) (id : FeatureId) → IsTrue (is_closed v id) ↔ Contains (closed_ids v) id }
     ensures count { (v : Version) → closed_count v ≡ length (closed_ids v) }
-    ensures for_profile { (v : Version) (number : ℕ) (id : FeatureId) → IsTrue (is_closed v id) ↔ Contains (closed_for v number) id }
-{}
+    ensures for_profile { (v : Version) (number : ℕ) (id : FeatureId) → AllPairs (λ a b. a ≢ b) (closed_ids v) → Contains (closed_for v number) id ↔ IsTrue (has number (closed_set v id)) }
+    ensures for_nobody { (v : Version) (id : FeatureId) → AllPairs (λ a b. a ≢ b) (closed_ids v) → All (λ (it : Closing). ¬ IsTrue (is_empty it.profiles)) v.closed
+        → IsTrue (is_empty (closed_set v id)) ↔ (¬ Contains (closed_ids v) id) }
+    ensures for_all { (v : Version) (id : FeatureId) → IsTrue (is_closed_for_all v id) → closed_set v id ≡ everybody v.settings }
+{
+    profile_set_law();
+}
 
-/// What each act does to what is closed: a publication keeps of it what can be closed still, a closure adds one feature, and a
-/// reopening takes one away.
+/// What each act does to what is closed, for each profile and each feature: a publication keeps of it what can be closed still, a closure
+/// adds the profiles that it names to one feature, and a reopening takes them away.
 pub fn act_law()
     ensures published { (v : Version) (venue : Arc AVenue Global) (id : FeatureId)
-        → IsTrue (is_closed (after v (Published venue)) id) ↔ (IsTrue (is_closed v id) × Contains (closables (arc_value venue).features) id) }
-    ensures closed { (h : List AnEntry) (v : Version) (it : Closing) (other : FeatureId) → Replays h v → Fits v (Closed it)
-        → IsTrue (is_closed (after v (Closed it)) other) ↔ (IsTrue (is_closed v other) ⊎ (other ≡ it.feature)) }
-    ensures reopened { (v : Version) (it : Closing) (other : FeatureId) → IsTrue (is_closed (after v (Reopened it)) other) ↔ (IsTrue (is_closed v other) × (other ≢ it.feature)) }
-{}
+        → closed_set (after v (Published venue)) id ≡ (if is_one_of (closables (arc_value venue).features) id then closed_set v id else nobody) }
+    ensures closed { (h : List AnEntry) (v : Version) (it : Closing) (id : FeatureId) → Replays h v → Fits v (Closed it)
+        → closed_set (after v (Closed it)) id ≡ set_with v it id }
+    ensures reopened { (h : List AnEntry) (v : Version) (it : Closing) (id : FeatureId) → Replays h v → Fits v (Reopened it)
+        → closed_set (after v (Reopened it)) id ≡ set_without v it id }
+    ensures for_profile { (set other : Set) (k : ℕ) → (has k (joined set other) ≡ (has k set || has k other)) × (has k (without set other) ≡ (has k set && not (has k other))) }
+{
+    profile_set_law();
+}
 
 /// To one question at one version belongs one kind of reply, but for want of memory.
 pub fn answer_law()

@@ -15,7 +15,7 @@ use Rattle.venue_history.specs.Shelves.{Shelf}
 use Rattle.venue_history.specs.declared.entry.Act.{Act}
 use Rattle.venue_history.specs.declared.entry.Act.TheVariants as act
 use Rattle.venue_history.specs.declared.entry.Closing.{Closing}
-use Rattle.venue_history.specs.Changes.{AreRead, IsActOf, TellsOf, Refuses}
+use Rattle.venue_history.specs.Changes.{AreRead, IsActOf, TellsOf, Refuses, asked_for}
 use Rattle.venue_history.specs.Closed.{Version}
 use Rattle.venue_history.specs.Versions.{MayFollow, after}
 use Rattle.venue_state.specs.declared.changes.Outcome.{Outcome}
@@ -27,13 +27,13 @@ abbrev pub shelf_of : Option (List StoredFile) → List ℕ → Option Shelf
 shelf_of None base = None
 shelf_of (Some stored) base = Some (record { stored = stored; base = base })
 
--- what a closure closes, or opens again
-abbrev pub closing_of : Closure → Closing
-closing_of asked = record { feature = asked.feature }
+-- what a closure closes, or opens again, and for whom
+abbrev pub closing_of : Version → Closure → Closing
+closing_of v asked = record { feature = asked.feature; profiles = asked_for v asked }
 
 -- the act that does so
-abbrev pub closure_act : Closure → Act
-closure_act asked = if asked.closed then act.Closed (closing_of asked) else act.Reopened (closing_of asked)
+abbrev pub closure_act : Version → Closure → Act
+closure_act v asked = if asked.closed then act.Closed (closing_of v asked) else act.Reopened (closing_of v asked)
 
 -- the reply leaves the history as it is, and is right where it does, or memory ran out
 abbrev pub Leaves : Option Shelf → Version → Change → Reply → Type 0

@@ -2,12 +2,13 @@
 use Rattle.std.specs.Prelude.{◌≡◌, ◌⊎◌, ℕ, ◌-◌, List, [], Contains, Option, Some, None, IfSome, IsTrue}
 use Rattle.std.specs.Arc.{arc_value}
 use Rattle.venue_types.specs.declared.feature_id.FeatureId.{FeatureId}
+use Rattle.venue_types.specs.ProfileSets.{has_all_of, has_any_of}
 use Rattle.route_search.specs.Nodes.{closables}
 use Rattle.venue_history.specs.declared.entry.Act.{Act}
 use Rattle.venue_history.specs.declared.entry.Act.TheVariants.{Published, Closed, Reopened}
 use Rattle.venue_history.specs.Changes.{dropped_ids}
-use Rattle.venue_history.specs.Closed.{Version, is_closed}
-use Rattle.venue_history.specs.Versions.{MayFollow, after}
+use Rattle.venue_history.specs.Closed.{Version, closed_set}
+use Rattle.venue_history.specs.Versions.{MayFollow, AreProfiles, after}
 use Rattle.venue_state.specs.declared.prepared.NextBoard.{NextBoard}
 use Rattle.venue_state.specs.declared.unready.Unready.{Unready}
 use Rattle.venue_state.specs.declared.unready.Unready.TheVariants as unready
@@ -46,11 +47,11 @@ pub record IsPrepared (v : Version) (act : Act) (worker : ℕ) (prepared : Given
   pub ready : IsReady v act worker prepared.ready
   pub twice : prepared.left ≡ 2
 
--- the act is a publication under the version's settings, or none
+-- the act is one under the version's settings: the venue that it publishes has them, or it is for profiles that they have, and for one at least
 abbrev pub HasSettings : Version → Act → Type 0
 HasSettings v (Published venue) = (arc_value venue).settings ≡ v.settings
-HasSettings v (Closed it) = Unit {0}
-HasSettings v (Reopened it) = Unit {0}
+HasSettings v (Closed it) = AreProfiles v.settings it.profiles
+HasSettings v (Reopened it) = AreProfiles v.settings it.profiles
 
 -- the act names a feature that can't be closed
 abbrev pub LacksFeature : Version → Act → Type 0
@@ -58,11 +59,11 @@ LacksFeature v (Published venue) = ⊥
 LacksFeature v (Closed it) = ¬ Contains (closables v.features) it.feature
 LacksFeature v (Reopened it) = ¬ Contains (closables v.features) it.feature
 
--- the act names a feature that can be closed and stands so already
+-- the act names a feature that can be closed, and that is closed for all of its profiles already, or for none of them
 abbrev pub IsDone : Version → Act → Type 0
 IsDone v (Published venue) = ⊥
-IsDone v (Closed it) = Contains (closables v.features) it.feature × IsTrue (is_closed v it.feature)
-IsDone v (Reopened it) = Contains (closables v.features) it.feature × ¬ IsTrue (is_closed v it.feature)
+IsDone v (Closed it) = Contains (closables v.features) it.feature × IsTrue (has_all_of (closed_set v it.feature) it.profiles)
+IsDone v (Reopened it) = Contains (closables v.features) it.feature × ¬ IsTrue (has_any_of (closed_set v it.feature) it.profiles)
 
 -- the act names no feature, or one that can be closed and stands otherwise
 abbrev pub IsDue : Version → Act → Type 0
