@@ -16,6 +16,10 @@ nobody = record { 0 = 0 }
 abbrev pub all_of : ℕ → ProfileSet
 all_of count = record { 0 = 2 ^ count - 1 }
 
+-- the profile of this number alone
+abbrev pub just : ℕ → ProfileSet
+just k = record { 0 = 2 ^ k }
+
 -- the profiles of both sets
 unfoldable pub joined : ProfileSet → ProfileSet → ProfileSet
 joined set other = record { 0 = bit_or set.0 other.0 }
