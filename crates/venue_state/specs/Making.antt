@@ -15,7 +15,6 @@ use Rattle.venue_history.specs.Built.{IsRejected, IsVenueOf}
 use Rattle.venue_history.specs.Shelves.{Shelf}
 use Rattle.venue_history.specs.declared.entry.Act.{Act}
 use Rattle.venue_history.specs.declared.entry.Act.TheVariants as act
-use Rattle.venue_history.specs.declared.entry.Closing.{Closing}
 use Rattle.venue_history.specs.Changes.{AreRead, IsActOf, TellsOf, Refuses}
 use Rattle.venue_history.specs.Closed.{Version}
 use Rattle.venue_history.specs.Versions.{MayFollow, after}
