@@ -1,7 +1,7 @@
 -- What a body asks of a path (RFC 8259).
-use Rattle.std.specs.Prelude.{◌≡◌, ℕ, Bool, ◌&&◌, ◌||◌, ◌==◌, nat_lt, nat_le, List, length, codes, if◌then◌else◌, Option, Some, None, option_map, option_and_then, IsUtf8}
+use Rattle.std.specs.Prelude.{◌≡◌, ℕ, Bool, ◌&&◌, ◌||◌, ◌==◌, nat_lt, nat_le, List, [], ◌∷◌, length, codes, if◌then◌else◌, Option, Some, None, option_map, option_and_then, IsUtf8}
 use Rattle.std.specs.List.{list_all}
-use Rattle.serde_json.specs.Data.{Data}
+use Rattle.serde_json.specs.Data.{Data, null, array, Items, no_items, item}
 use Rattle.serde_json.specs.Read.{read}
 use Rattle.serde_json.specs.Find.{get, as_bool, as_str}
 use Rattle.venue_types.specs.Identifier.{identifier_read}
@@ -26,10 +26,29 @@ is_folder_name name = nat_lt 0 (length name) && (nat_le (length name) 64 && list
 abbrev pub text_in : List ℕ → Data → Option (List ℕ)
 text_in name value = option_and_then as_str (get name value)
 
--- the feature and how it is to stand
+-- the texts that these items are, if each is one
+abbrev pub texts_of : Items → Option (List (List ℕ))
+texts_of no_items = Some []
+texts_of (item value items) = option_and_then (λ text. option_map (λ texts. text ∷ texts) (texts_of items)) (as_str value)
+
+-- 1 to 16 texts
+abbrev pub few : List (List ℕ) → Option (List (List ℕ))
+few texts = if nat_lt 0 (length texts) && nat_le (length texts) 16 then Some texts else None
+
+-- the profiles that a closure names: nobody where the member is absent or null, else those of a list of 1 to 16 texts
+abbrev pub named_in : Option Data → Option (Option (List (List ℕ)))
+named_in None = Some None
+named_in (Some null) = Some None
+named_in (Some (array items)) = option_map (λ texts. Some texts) (option_and_then few (texts_of items))
+named_in (Some value) = None
+
+-- the feature, how it is to stand, and for whom
 abbrev pub closure_in : Data → Option Change
 closure_in value =
-    option_and_then (λ feature. option_map (λ closed. Closure (record { feature = feature; closed = closed })) (option_and_then as_bool (get (codes "closed") value)))
+    option_and_then (λ feature.
+        option_and_then (λ closed.
+            option_map (λ profiles. Closure (record { feature = feature; closed = closed; profiles = profiles })) (named_in (get (codes "profiles") value)))
+        (option_and_then as_bool (get (codes "closed") value)))
     (option_and_then identifier_read (text_in (codes "feature") value))
 
 -- the folder to be published

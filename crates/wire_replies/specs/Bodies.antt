@@ -100,7 +100,11 @@ abbrev pub places_data : ℕ → List PlaceRow → Data
 places_data version rows =
     object (member (codes "places") (list_data row_data rows) (member (codes "version") (count version) no_members))
 
--- one place, and whether it is closed
+-- names of profiles
+abbrev pub names_data : List (List ℕ) → Data
+names_data names = list_data string names
+
+-- one place, whether it is closed for all, and for whom where it is closed for some
 abbrev pub place_data : PlaceTold → Data
 place_data told =
     object
@@ -109,12 +113,16 @@ place_data told =
     (member (codes "kind") (string (class_name told.row.class))
     (member (codes "name") (name_data told.row.name)
     (member (codes "ordinal") (number (of_integer told.row.ordinal))
+    (where_there (codes "profiles") (option_map names_data told.profiles)
     (member (codes "version") (count told.number)
-    no_members))))))
+    no_members)))))))
 
--- a feature that is closed: no request closes one for some profiles alone yet, so it is told by its identifier
+-- a feature that is closed: its identifier where it is closed for all, else with the names of those for whom it is
 abbrev pub closed_data : ClosedRow → Data
-closed_data row = id_data row.id
+closed_data row = elim row.profiles [
+  | None ↦ id_data row.id
+  | Some names ↦ object (member (codes "feature") (id_data row.id) (member (codes "profiles") (names_data names) no_members))
+]
 
 -- what is closed
 abbrev pub closures_data : ClosuresTold → Data
@@ -148,15 +156,16 @@ no_route_data version from to profile reached =
     (member (codes "version") (count version)
     no_members))))))
 
--- a feature that was closed or opened
+-- a feature that was closed or opened, and for whom where that was named
 abbrev pub closure_data : ClosureDone → Data
 closure_data done =
     object
     (member (codes "changed") (boolean done.changed)
     (member (codes "closed") (boolean done.closed)
     (member (codes "feature") (id_data done.feature)
+    (where_there (codes "profiles") (option_map names_data done.profiles)
     (member (codes "version") (count done.number)
-    no_members))))
+    no_members)))))
 
 -- a folder that was published
 abbrev pub published_data : ℕ → List FeatureId → Data
