@@ -1,7 +1,8 @@
 #!/bin/bash
 # Serves the example station by `venue serve` with two workers for six connections by curl, one that asks for the version, one that closes
 # the lift, one that closes the stairs for walkers, one that names a profile of nobody, one that asks what is closed, and one that sends a HEAD, and
-# compares the replies, both lines that are printed, and the status.
+# compares the replies, both lines that are printed, and the status. Then a story of examples/sessions, which `session` serves by a hall of its own,
+# over a seat of the hall that two workers share.
 #
 # usage: serve_twice.sh [PROGRAM]   (without PROGRAM the launcher ./venue, which builds the program if need be)
 # It prints a line for each difference and one at the end, and ends with status 1 at a difference.
@@ -29,4 +30,15 @@ wait $server
 compare 'the status' $? 0
 compare 'what was printed' "$(cat "$work/printed")" "listening 127.0.0.1:$port
 workers 2 sessions 6 versions 3 changes 2"
+
+story=$here/examples/sessions/closed_for_some
+serve 2 1
+exec 3<>"/dev/tcp/127.0.0.1/$port"
+cat "$story/request" >&3
+compare 'the story of closures for some' "$(timeout 20 head -c "$(wc -c <"$story/reply")" <&3 | cmp - "$story/reply" 2>&1)" ''
+exec 3>&-
+wait $server
+compare 'the status after the story' $? 0
+compare 'what was printed then' "$(cat "$work/printed")" "listening 127.0.0.1:$port
+workers 2 sessions 1 versions 5 changes 4"
 finish
