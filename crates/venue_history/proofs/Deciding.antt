@@ -56,8 +56,8 @@ refused_publish shelf v folder (reply.HistoryFull number) inside is = full is.0.
 refused_publish shelf v folder _ inside is = absurd is.1
 
 stands_otherwise : (shelf : Option Shelf) (v : Version) (asked : Closure) (a : Act) → IsActOf shelf v (change.Closure asked) a → StandsOtherwise v asked
-stands_otherwise shelf v asked (act.Closed it) is = is.2
-stands_otherwise shelf v asked (act.Reopened it) is = is.2
+stands_otherwise shelf v asked (act.Closed it) is = is.1.stood
+stands_otherwise shelf v asked (act.Reopened it) is = is.1.stood
 stands_otherwise shelf v asked _ is = absurd is
 
 not_published : (shelf : Option Shelf) (v : Version) (asked : Closure) (a : Act) (number : ℕ) (dropped : List FeatureId)
