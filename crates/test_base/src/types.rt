@@ -2,8 +2,27 @@
 
 use std::test::Fail;
 use venue_types::{
-    Bytes, Extras, FeatureId, Label, List, Profile, Settings, Text, push_reserved, reserve,
+    Bytes, Extras, FeatureId, Label, List, Profile, ProfileSet, Settings, Text, profile_set_law,
+    push_reserved, reserve,
 };
+
+// Of three profiles 0 and 2 are the set 5.
+#[test]
+fn sets_of_profiles(rt: HostRuntime) {
+    profile_set_law();
+    let set = ProfileSet::nobody().with(2).with(0);
+    assert_eq!(rt; set, ProfileSet(5));
+    assert!(rt; set.has(0) && !set.has(1) && set.has(2) && !set.has(15));
+    assert_eq!(rt; ProfileSet::of_all(3), ProfileSet(7));
+    assert_eq!(rt; ProfileSet::of_all(1), ProfileSet(1));
+    assert_eq!(rt; ProfileSet::of_all(16), ProfileSet(0xffff));
+    assert_eq!(rt; set.joined(ProfileSet(6)), ProfileSet(7));
+    assert_eq!(rt; set.without(ProfileSet(6)), ProfileSet(1));
+    assert!(rt; !set.is_empty() && set.without(set).is_empty());
+    assert!(rt; set.has_all_of(ProfileSet(4)) && !set.has_all_of(ProfileSet(6)));
+    assert!(rt; set.has_any_of(ProfileSet(6)) && !set.has_any_of(ProfileSet(2)));
+    assert!(rt; set.within(3) && !set.within(2) && ProfileSet(0xffff).within(16));
+}
 
 #[test]
 fn values_go_in_and_come_out(rt: HostRuntime) -> Result<(), Fail> {

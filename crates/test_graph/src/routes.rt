@@ -9,3 +9,4 @@ mod reach_rows;
 mod reaches;
 mod search_rows;
 mod searches;
+mod stepwise;

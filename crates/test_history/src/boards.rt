@@ -3,7 +3,7 @@
 ghost use Rattle.std.specs.Prelude.{◌≡◌, IfOk};
 ghost use Rattle.venue_state.specs.Preparing.{HasSettings};
 
-use crate::station::{closing, id, tail, venue_of};
+use crate::station::{id, tail, venue_of};
 use std::alloc::Global;
 use std::process::Abort;
 use std::sync::Arc;
@@ -156,7 +156,9 @@ fn told_of(reply: &Reply) -> Told<'_> {
             places,
         } => Told::Version(*number, *closed, *places),
         Reply::Places { number, rows } => places_told(*number, rows.as_slice()),
-        Reply::Place(told) => place_told(told.number, &told.row, told.closed),
+        Reply::Place(told) if told.profiles.is_none() => {
+            place_told(told.number, &told.row, told.closed)
+        }
         Reply::Closures(told) => Told::Closures(told.number),
         Reply::Route {
             number,
@@ -204,6 +206,7 @@ fn steps_in(reply: &Reply) -> &[StepRow] {
 fn judge_closed(rt: &impl Abort, found: &[ClosedRow], listed: &[u128]) {
     for (found, tail) in found.iter().zip(listed) {
         assert_eq!(rt; found.id, id(*tail));
+        assert!(rt; found.profiles.is_none());
     }
 }
 
@@ -238,7 +241,7 @@ fn judge_reply(rt: &impl Abort, reply: &Reply, row: &Row) {
 // A question has one answer, also beside a change that is ready and isn't made.
 fn judge_answer(rt: &impl Abort, alloc: Global, board: &Board, query: &Query, row: &Row) {
     judge_reply(rt, &board.ask(alloc, query), row);
-    let _ready = board.prepare(alloc, Act::Closed(closing(0x0300)), 1);
+    let _ready = board.prepare(alloc, Act::Closed(board.closing(id(0x0300))), 1);
     judge_reply(rt, &board.ask(alloc, query), row);
 }
 
@@ -246,7 +249,7 @@ fn judge_question(rt: &impl Abort, alloc: Global, board: &Board, what: Ask, row:
     judge_answer(rt, alloc, board, &Query { since: None, what }, row);
 }
 
-fn way(alloc: Global, from: u128, to: u128, profile: &str, certificate: bool) -> Result<Ask, Fail> {
+pub(crate) fn way(alloc: Global, from: u128, to: u128, profile: &str, certificate: bool) -> Result<Ask, Fail> {
     Ok(Ask::Route {
         from: id(from),
         to: id(to),
@@ -284,8 +287,14 @@ fn judge(
     ensures { IfOk result (λ _. board.new.settings ≡ settings.now) }
 {
     match row.deed {
-        Deed::Close(tail) => judge_change(rt, alloc, board, Act::Closed(closing(tail)), row),
-        Deed::Reopen(tail) => judge_change(rt, alloc, board, Act::Reopened(closing(tail)), row),
+        Deed::Close(tail) => {
+            let act = Act::Closed(board.closing(id(tail)));
+            judge_change(rt, alloc, board, act, row);
+        }
+        Deed::Reopen(tail) => {
+            let act = Act::Reopened(board.closing(id(tail)));
+            judge_change(rt, alloc, board, act, row);
+        }
         Deed::Publish(edits) => {
             let venue = venue_of(alloc, settings, edits)?;
             judge_change(rt, alloc, board, Act::Published(venue), row);
@@ -305,8 +314,8 @@ fn judge(
     Ok(())
 }
 
-// The settings of the station with this last version, or 1.
-fn settings_until(alloc: Global, last_version: u32) -> Result<Settings, Fail> {
+/// The settings of the station with this last version, or 1.
+pub(crate) fn settings_until(alloc: Global, last_version: u32) -> Result<Settings, Fail> {
     let mut settings = station_settings(alloc)?;
     settings.last_version = last_version.max(1);
     Ok(settings)

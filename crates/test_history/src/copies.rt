@@ -6,7 +6,7 @@ ghost use Rattle.left_right.specs.Sides.{view};
 ghost use Rattle.venue_state.specs.Preparing.{HasSettings};
 ghost use Rattle.board_copies.specs.Rules.{book_of, Knows};
 
-use crate::station::{closing, id, venue_of};
+use crate::station::{id, venue_of};
 use board_copies::{
     Held, Keep, Keeper, Roll, SideReader, make_reader, make_writer, publish, read_in, settle,
 };
@@ -15,7 +15,7 @@ use std::alloc::Global;
 use std::sync::{Arc, Wait};
 use std::test::Fail;
 use test_station::station_settings;
-use venue_history::{Act, Closing};
+use venue_history::Act;
 use venue_types::{Ask, FeatureId, OutOfMemory, Query, Reply};
 
 // The writer and its book.
@@ -40,10 +40,6 @@ enum Call {
     Ask(Who, u32, u32),
     // Publishes that the lift is closed, or open again.
     Publish(bool),
-}
-
-fn lift() -> Closing {
-    closing(0x0301)
 }
 
 fn opened<R: Wait>(rt: &R, alloc: Global) -> Result<Office, Fail> {
@@ -82,10 +78,11 @@ impl Office {
         alloc: Global,
         closed: bool,
     ) -> Result<(), OutOfMemory> {
+        let lift = self.keeper.writer.published().held.board.closing(id(0x0301));
         if closed {
-            self.publish(rt, alloc, Act::Closed(lift()))
+            self.publish(rt, alloc, Act::Closed(lift))
         } else {
-            self.publish(rt, alloc, Act::Reopened(lift()))
+            self.publish(rt, alloc, Act::Reopened(lift))
         }
     }
 }

@@ -11,6 +11,8 @@ mod histories;
 #[cfg(test)]
 mod one_thread;
 #[cfg(test)]
+mod profiles;
+#[cfg(test)]
 mod shared;
 #[cfg(test)]
 mod station;

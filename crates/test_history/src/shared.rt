@@ -9,7 +9,7 @@ ghost use Rattle.shared_hall.specs.Copied.{entries_in, book_in};
 ghost use Rattle.shared_hall.specs.Openings.{HaveSettings};
 ghost use Rattle.shared_hall.specs.Offices.{parts_of};
 
-use crate::station::{closing, folders, id, tail, venue_of};
+use crate::station::{folders, id, tail, venue_of};
 use shared_hall::{
     Closed, Copies, HallName, Office, Opened, Pass, Seat, close_hall, first_law, following_law,
     open_hall, opening_entries,
@@ -554,7 +554,8 @@ fn three_entries(alloc: Global, settings: &Arc<Settings>) -> Result<Vec<Entry>, 
     let venue = venue_of(alloc, settings, &[])?;
     let mut entries = opening_entries(alloc, Arc::try_clone(&venue)?)?;
     let first = Board::first(alloc, Arc::try_clone(&venue)?, Arc::try_clone(settings)?)?;
-    let second = entered(alloc, first, &mut entries, Act::Closed(closing(0x0301)), 2)?;
+    let lift = first.closing(id(0x0301));
+    let second = entered(alloc, first, &mut entries, Act::Closed(lift), 2)?;
     let _third = entered(alloc, second, &mut entries, Act::Published(venue), 1)?;
     Ok(entries)
 }

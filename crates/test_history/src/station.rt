@@ -2,6 +2,7 @@
 
 ghost use Rattle.std.specs.Prelude.{◌≡◌, IfOk};
 ghost use Rattle.std.specs.Arc.{arc_value};
+ghost use Rattle.venue_history.specs.Versions.{AreProfiles};
 
 use std::alloc::Global;
 use std::sync::Arc;
@@ -9,7 +10,7 @@ use std::test::Fail;
 use test_station::{Change, Edit, NO_LIFT, TALL, folder_files, slots_of};
 use venue_history::{Built, Closing, Venue, build};
 use venue_ports::{MemoryFile, MemoryFolders};
-use venue_types::{FeatureId, Settings};
+use venue_types::{FeatureId, ProfileSet, Settings};
 
 const NAMELESS: u128 = 0x4000_8000_0000_0000_0000;
 
@@ -18,9 +19,19 @@ pub(crate) fn id(tail: u128) -> FeatureId {
     FeatureId(NAMELESS | tail)
 }
 
-/// The closing, or the opening again, of the feature whose identifier ends so.
-pub(crate) fn closing(tail: u128) -> Closing {
-    Closing { feature: id(tail) }
+/// The closing, or the opening again, of the feature whose identifier ends so, for the profiles of a set, which these settings have.
+pub(crate) fn closing(settings: &Settings, tail: u128, set: u16) -> Result<Closing, Fail>
+    ensures { IfOk result (λ it. AreProfiles settings.now it.profiles) }
+{
+    let profiles = ProfileSet(set);
+    let count = settings.profiles.len() as u32;
+    if profiles.is_empty() || !profiles.within(count) {
+        return Err(Fail::new("no such profiles"));
+    }
+    Ok(Closing {
+        feature: id(tail),
+        profiles,
+    })
 }
 
 /// How an identifier ends.

@@ -168,7 +168,10 @@ fn sees_changes(rt: &impl Abort, alloc: Global) -> Result<(), AllocError> {
 }
 
 fn closed_row(last: u16) -> ClosedRow {
-    ClosedRow { id: id(last) }
+    ClosedRow {
+        id: id(last),
+        profiles: None,
+    }
 }
 
 fn sees_closures(rt: &impl Abort, alloc: Global) -> Result<(), AllocError> {
@@ -207,6 +210,7 @@ fn sees_a_place(rt: &impl Abort, alloc: Global) -> Result<(), AllocError> {
         number: 1,
         row: place(0x52, Class::Occupant, 1, name),
         closed: false,
+        profiles: None,
     });
     let body =
         r#"{"closed":false,"id":"@0052","kind":"occupant","name":{"en":"Tickets"},"ordinal":1,"version":1}"#;
@@ -224,6 +228,7 @@ fn sees_names(rt: &impl Abort, alloc: Global) -> Result<(), AllocError> {
         number: 7,
         row: place(0x31, Class::Amenity, 0, name),
         closed: true,
+        profiles: None,
     });
     let body =
         r#"{"closed":true,"id":"@0031","kind":"amenity","name":{"de":"T\"\\\nä","en":"Last"},"ordinal":0,"version":7}"#;

@@ -18,7 +18,7 @@ use Rattle.version_board.specs.Venues.{SeenVenue as Venue}
 use Rattle.version_board.specs.Built.{IsRejected, IsVenueOf}
 use Rattle.version_board.specs.Act.{Act}
 use Rattle.version_board.specs.Act.TheVariants.{Closed}
-use Rattle.version_board.specs.Closed.{Version}
+use Rattle.version_board.specs.Closed.{Version, everybody}
 use Rattle.version_board.specs.Histories.{opening_of}
 use Rattle.version_board.specs.Versions.{after, Fits}
 use Rattle.version_board.specs.Ways.{Usable, profile_number, profile_of}
@@ -78,15 +78,15 @@ IsWayLine v name start finish text =
     ((cost : ℕ) × HasCost v name start finish cost × (text ≡ line (name ++ codes " " ++ decimal cost)))
     ⊎ (HasNone v name start finish × (text ≡ line (name ++ codes " none")))
 
--- the act that closes a feature
-abbrev pub closing : FeatureId → Act
-closing id = Closed (record { feature = id })
+-- the act that closes a feature for everybody at a version
+abbrev pub closing : Version → FeatureId → Act
+closing v id = Closed (record { feature = id; profiles = everybody v.settings })
 
 -- the version behind the closing of a feature; where it can't be closed, the version before
 abbrev pub IsBehindClosing : ℕ → Version → Version → Type 0
 IsBehindClosing number v w =
-    ((id : FeatureId) × IsNamed number id × Fits v (closing id) × (w ≡ after v (closing id)))
-    ⊎ (((id : FeatureId) → IsNamed number id → ¬ Fits v (closing id)) × (w ≡ v))
+    ((id : FeatureId) × IsNamed number id × Fits v (closing v id) × (w ≡ after v (closing v id)))
+    ⊎ (((id : FeatureId) → IsNamed number id → ¬ Fits v (closing v id)) × (w ≡ v))
 
 -- the first room of the lowest level, the last of the highest, and the lift of the lowest
 abbrev pub first_room : ℕ → ℕ

@@ -62,7 +62,7 @@ way_line name None = line (name ++ codes " none")
 
 -- the version behind the closing of a feature; where it can't be closed, the version before
 abbrev pub IsBehindChange : FeatureId → Version → Version → Type 0
-IsBehindChange id v w = (Fits v (closing id) × (w ≡ after v (closing id))) ⊎ ((¬ Fits v (closing id)) × (w ≡ v))
+IsBehindChange id v w = (Fits v (closing v id) × (w ≡ after v (closing v id))) ⊎ ((¬ Fits v (closing v id)) × (w ≡ v))
 
 -- the lines that tell how large a venue is
 abbrev pub size_lines : Venue → List ℕ

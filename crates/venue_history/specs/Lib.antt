@@ -3,6 +3,7 @@ pub mod Versions
 pub mod Histories
 pub mod Openings
 pub mod Ways
+pub mod Named
 pub mod Answers
 pub mod Replies
 pub mod Changes

@@ -4,6 +4,7 @@ use Rattle.std.specs.Arc.{arc_value}
 use Rattle.venue_types.specs.declared.files.Files.{Files}
 use Rattle.venue_types.specs.declared.query.Change.{Change}
 use Rattle.venue_types.specs.declared.query.Change.TheVariants as change
+use Rattle.venue_types.specs.declared.profile_set.ProfileSet.{ProfileSet}
 use Rattle.venue_types.specs.declared.query.Closure.{Closure}
 use Rattle.venue_types.specs.declared.reply.Reply.{Reply}
 use Rattle.venue_types.specs.declared.reply.Reply.TheVariants as reply
@@ -14,8 +15,7 @@ use Rattle.venue_history.specs.Built.{IsRejected, IsVenueOf}
 use Rattle.venue_history.specs.Shelves.{Shelf}
 use Rattle.venue_history.specs.declared.entry.Act.{Act}
 use Rattle.venue_history.specs.declared.entry.Act.TheVariants as act
-use Rattle.venue_history.specs.declared.entry.Closing.{Closing}
-use Rattle.venue_history.specs.Changes.{AreRead, IsActOf, TellsOf, Refuses, asked_for}
+use Rattle.venue_history.specs.Changes.{AreRead, IsActOf, TellsOf, Refuses}
 use Rattle.venue_history.specs.Closed.{Version}
 use Rattle.venue_history.specs.Versions.{MayFollow, after}
 use Rattle.venue_state.specs.declared.changes.Outcome.{Outcome}
@@ -27,13 +27,9 @@ abbrev pub shelf_of : Option (List StoredFile) → List ℕ → Option Shelf
 shelf_of None base = None
 shelf_of (Some stored) base = Some (record { stored = stored; base = base })
 
--- what a closure closes, or opens again, and for whom
-abbrev pub closing_of : Version → Closure → Closing
-closing_of v asked = record { feature = asked.feature; profiles = asked_for v asked }
-
--- the act that does so
-abbrev pub closure_act : Version → Closure → Act
-closure_act v asked = if asked.closed then act.Closed (closing_of v asked) else act.Reopened (closing_of v asked)
+-- the act that closes a feature for these profiles, or opens it again
+abbrev pub closure_act : Closure → ProfileSet → Act
+closure_act asked set = if asked.closed then act.Closed (record { feature = asked.feature; profiles = set }) else act.Reopened (record { feature = asked.feature; profiles = set })
 
 -- the reply leaves the history as it is, and is right where it does, or memory ran out
 abbrev pub Leaves : Option Shelf → Version → Change → Reply → Type 0
@@ -53,7 +49,7 @@ pub record IsMade (shelf : Option Shelf) (v : Version) (worker : ℕ) (asked : C
   pub may : MayFollow v ready.entry
   pub next_is : ready.board ≡ after v ready.entry.act
   pub brings : Brings shelf v asked ready.entry.act files
-  pub tells : TellsOf v ready.entry.act r
+  pub tells : TellsOf v asked ready.entry.act r
 
 -- what becomes of the change, asked by the worker at the version
 abbrev pub IsOutcome : Option Shelf → Version → ℕ → Change → Outcome → Type 0

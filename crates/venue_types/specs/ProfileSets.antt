@@ -1,5 +1,5 @@
 -- Sets of profiles, each profile by its number in the settings: bit k of a set's number stands for profile number k.
-use Rattle.std.specs.Prelude.{◌≡◌, ℕ, ◌-◌, ◌^◌, Bool, not, nat_eq, nat_lt}
+use Rattle.std.specs.Prelude.{ℕ, ◌-◌, ◌^◌, Bool, not, nat_eq, nat_lt}
 use Rattle.std.specs.Int.{bit_at}
 use Rattle.std.specs.Int.RustNames.{bit_and, bit_or, bit_xor}
 use Rattle.venue_types.specs.declared.profile_set.ProfileSet.{ProfileSet}
@@ -15,6 +15,10 @@ nobody = record { 0 = 0 }
 -- the profiles of settings that have so many
 abbrev pub all_of : ℕ → ProfileSet
 all_of count = record { 0 = 2 ^ count - 1 }
+
+-- the profile of this number alone
+abbrev pub just : ℕ → ProfileSet
+just k = record { 0 = 2 ^ k }
 
 -- the profiles of both sets
 unfoldable pub joined : ProfileSet → ProfileSet → ProfileSet

@@ -1,6 +1,6 @@
 //! What a visitor asks, and what staff change.
 
-use crate::{FeatureId, Text};
+use crate::{FeatureId, List, Text};
 
 /// A question, to be answered at a version that is no older than `since`, where that is given.
 #[derive(Drop)]
@@ -29,11 +29,13 @@ pub enum Ask {
     },
 }
 
-/// A closure that staff ask for: the feature is to be closed, or to be open again.
-#[derive(Clone, Copy, Debug, PartialEq, Eq)]
+/// A closure that staff ask for: the feature is to be closed, or to be open again, for the profiles that are named, or where none are
+/// for all.
+#[derive(Drop)]
 pub struct Closure {
     pub feature: FeatureId,
     pub closed: bool,
+    pub profiles: Option<List<Text>>,
 }
 
 /// A change that staff ask for.

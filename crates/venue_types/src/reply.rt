@@ -59,13 +59,15 @@ pub struct ClosuresTold {
     pub closed: List<ClosedRow>,
 }
 
-/// The feature is closed or open now as asked; `changed` tells whether it was otherwise before.
-#[derive(Clone, Copy, Debug, PartialEq, Eq)]
+/// The feature is closed or open now as asked; `changed` tells whether it was otherwise before. Where profiles were named, their names,
+/// each once, in the order of the settings.
+#[derive(Drop)]
 pub struct ClosureDone {
     pub number: u32,
     pub feature: FeatureId,
     pub closed: bool,
     pub changed: bool,
+    pub profiles: Option<List<Text>>,
 }
 
 /// The answer to a question or a change; `number` is that of the version at which it is given.
@@ -113,7 +115,7 @@ pub enum Reply {
         since: u32,
         number: u32,
     },
-    /// No profile has that name.
+    /// No profile has that name, or one of the names of a closure.
     NoProfile,
     /// The identifier names no place.
     NoPlace(Which),

@@ -112,7 +112,7 @@ place_data told =
     (member (codes "version") (count told.number)
     no_members))))))
 
--- a feature that is closed
+-- a feature that is closed: no request closes one for some profiles alone yet, so it is told by its identifier
 abbrev pub closed_data : ClosedRow → Data
 closed_data row = id_data row.id
 

@@ -12,7 +12,7 @@ use std::marker::Brand;
 use std::process::Abort;
 use std::sync::ledger::{Blank, Ledger};
 use std::test::Fail;
-use venue_types::Link;
+use venue_types::{Link, ProfileSet};
 use walk_laws::Steps;
 
 fn closable(rt: &impl Abort, graph: &Graph, tail: u128) -> u32
@@ -133,25 +133,27 @@ fn judge_lower<L: Ledger>(
     Ok(())
 }
 
-// Of all links those by this feature and those at this node are not free.
+// Of all links those by this feature and those at this node are not free for a profile.
 fn judge_free(
     rt: &impl Abort,
     graph: &Graph,
     links: &[Link],
     marks: &Marks,
+    profile: u8,
     via: Option<u32>,
     node: Option<u32>,
 )
     requires links { links.now ≡ (network graph.now).links }
     requires marks { AreMarksOf (network graph.now) marks.now }
+    requires profile { profile < 16 }
 {
     for link in links {
         let is_closed = Some(link.via) == via || Some(link.from) == node || Some(link.to) == node;
-        assert!(rt; graph.is_free(link, marks) != is_closed);
+        assert!(rt; graph.is_free(link, marks, profile) != is_closed);
     }
 }
 
-// A feature is closed, then it is open again.
+// A feature is closed for all of two profiles, then for the second alone, then for nobody.
 fn judge_closed(
     rt: &impl Abort,
     alloc: Global,
@@ -162,11 +164,15 @@ fn judge_closed(
     requires { links.now ≡ (network graph.now).links }
 {
     let mut marks = Marks::none(alloc, graph)?;
-    let k = closable(rt, graph, tail);
-    marks.mark(k, true);
-    judge_free(rt, graph, links, &marks, Some(k), graph.node_of(id(tail)));
-    marks.mark(k, false);
-    judge_free(rt, graph, links, &marks, None, None);
+    let (k, n) = (closable(rt, graph, tail), graph.node_of(id(tail)));
+    marks.mark(k, ProfileSet::of_all(2));
+    judge_free(rt, graph, links, &marks, 0, Some(k), n);
+    judge_free(rt, graph, links, &marks, 1, Some(k), n);
+    marks.mark(k, ProfileSet::nobody().with(1));
+    judge_free(rt, graph, links, &marks, 0, None, None);
+    judge_free(rt, graph, links, &marks, 1, Some(k), n);
+    marks.mark(k, ProfileSet::nobody());
+    judge_free(rt, graph, links, &marks, 1, None, None);
     Ok(())
 }
 

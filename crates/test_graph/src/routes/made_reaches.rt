@@ -6,7 +6,7 @@ ghost use Rattle.walk_laws.specs.Reaches.{IsWithin};
 
 use super::made_venues::{STRAY, drawn, made_venue};
 use super::reaches::flags_of;
-use super::searches::{judge_links, marks_of, node, usable};
+use super::searches::{judge_links, marks_of, node, number_of, usable};
 use link_graph::Graph;
 use route_search::{FlaggedEnds, Found, Reach, reach};
 use std::alloc::{AllocError, Global};
@@ -182,8 +182,9 @@ fn judge_search<L: Ledger>(
     let flags = flags_of(rt, alloc, graph, &ends[..(2 + k % 4) as usize])?;
     let (from, count) = (node(rt, graph, start), 1 + drawn(state, 5));
     let is_end = FlaggedEnds { flags: &flags };
-    let known = reach(alloc, graph, &marks, profile, from, &is_end, count, steps)?;
-    let links = usable(alloc, graph, &marks, profile)?;
+    let number = number_of(rt, which);
+    let known = reach(alloc, graph, &marks, profile, number, from, &is_end, count, steps)?;
+    let links = usable(alloc, graph, &marks, profile, number)?;
     let costs = rounds(alloc, &links, graph.nodes(), from)?;
     let asked = Asked {
         alloc,

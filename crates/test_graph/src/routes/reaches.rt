@@ -6,7 +6,7 @@ ghost use Rattle.link_graph.specs.Marking.{AreMarksOf};
 
 use super::reach_rows::{FoundEnd, Left, REACH_ROWS, ReachRow};
 use super::search_rows::WHEELCHAIR;
-use super::searches::{judge_reached, marks_of, node};
+use super::searches::{judge_reached, marks_of, node, number_of};
 use crate::station::{id, venue_of};
 use link_graph::{Graph, Marks};
 use route_search::{FlaggedEnds, Reach, reach};
@@ -50,7 +50,8 @@ fn search<L: Ledger>(
     let ends = FlaggedEnds { flags: &flags };
     let from = node(rt, graph, 0x0041);
     assert!(rt; from == 1);
-    Ok(reach(alloc, graph, marks, profile, from, &ends, row.count, steps)?)
+    let number = number_of(rt, WHEELCHAIR);
+    Ok(reach(alloc, graph, marks, profile, number, from, &ends, row.count, steps)?)
 }
 
 fn judge_walk(rt: &impl Abort, graph: &Graph, walk: &[Link], stops: &[u128], name: &str) {

@@ -15,7 +15,7 @@ use std::process::Abort;
 use std::sync::ledger::{Blank, Ledger};
 use std::test::Fail;
 use venue_build::Venue;
-use venue_types::{Link, Potential, Profile};
+use venue_types::{Link, Potential, Profile, ProfileSet};
 use walk_laws::Steps;
 
 pub(super) fn node(rt: &impl Abort, graph: &Graph, tail: u128) -> u32
@@ -32,7 +32,15 @@ fn close(rt: &impl Abort, graph: &Graph, marks: &mut Marks, tail: u128)
 {
     let k = graph.closable(id(tail)).expect(rt, "what can be closed");
     assert!(rt; k < graph.closables());
-    marks.mark(k, true);
+    marks.mark(k, ProfileSet::of_all(2));
+}
+
+// The number of a profile, by its place in the settings.
+pub(super) fn number_of(rt: &impl Abort, place: usize) -> u8
+    ensures { result < 16 }
+{
+    assert!(rt; place < 16);
+    place as u8
 }
 
 pub(super) fn marks_of(
@@ -93,13 +101,15 @@ pub(super) fn usable(
     graph: &Graph,
     marks: &Marks,
     profile: &Profile,
+    number: u8,
 ) -> Result<Vec<Link>, Fail>
-    requires { AreMarksOf (network graph.now) marks.now }
+    requires marks { AreMarksOf (network graph.now) marks.now }
+    requires number { number < 16 }
 {
     let mut usable = Vec::new(alloc);
     let links = graph.listed(alloc)?;
     for link in links.as_slice() {
-        if graph.is_free(link, marks) && allows(profile, &graph.facts(link)) {
+        if graph.is_free(link, marks, number) && allows(profile, &graph.facts(link)) {
             usable.push(*link)?;
         }
     }
@@ -163,7 +173,8 @@ fn search<L: Ledger>(
 {
     let from = node(rt, graph, row.from);
     let to = node(rt, graph, row.to);
-    Ok(least(alloc, graph, marks, profile, from, to, steps)?)
+    let number = number_of(rt, row.profile);
+    Ok(least(alloc, graph, marks, profile, number, from, to, steps)?)
 }
 
 fn judge<L: Ledger>(
@@ -177,7 +188,7 @@ fn judge<L: Ledger>(
     let marks = marks_of(rt, alloc, graph, row.closed)?;
     let found = search(rt, alloc, graph, &marks, profile, row, steps)?;
     judge_found(rt, graph, &found, row);
-    let links = usable(alloc, graph, &marks, profile)?;
+    let links = usable(alloc, graph, &marks, profile, number_of(rt, row.profile))?;
     judge_links(rt, &links, &found);
     Ok(())
 }
