@@ -5,6 +5,7 @@ pub mod Settled
 pub mod Standing
 pub mod Within
 pub mod Listed
+pub mod Naming
 pub mod Once
 pub mod Sorting
 pub mod Changing
