@@ -1,7 +1,7 @@
 -- What is closed at every version to which a history leads.
 use Rattle.std.proofs.Common.{◌≡◌, ◌≢◌, ◌∙◌, List, [], ◌∷◌, refl, sym, ap, subst, Some, Bool, false}
 use Rattle.std.specs.Prelude.{not, map, AllPairs, All}
-use Rattle.std.specs.List.{Contains}
+use Rattle.std.specs.List.{filter, Contains}
 use Rattle.std.specs.Arc.{arc_value}
 use Rattle.std.proofs.lemmas.List.Elements.{All-filter, All-contains_itself}
 use Rattle.std.proofs.lemmas.List.Kept.{AllPairs-filter}
