@@ -6,6 +6,7 @@ pub mod Standing
 pub mod Within
 pub mod Listed
 pub mod Naming
+pub mod Fitting
 pub mod Once
 pub mod Sorting
 pub mod Changing
