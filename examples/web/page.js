@@ -289,9 +289,9 @@ function boxOn({ steps }, ordinal, step) {
 
 /** What is closed, and for whom where that isn't for all. */
 async function drawClosures() {
-  const { closures } = server, rows = closedRows(closures);
+  const { closures } = server.closures, rows = closedRows(server.closures);
   await featuresOf(rows.map(({ id }) => id)).catch(note);
-  if (closures !== server.closures) return;
+  if (closures !== server.closures.closures) return;
   const forWhom = (profiles) => (profiles ? make("small", {}, say("closed.for", { names: list(profiles.map(profileName)) })) : null);
   const items = rows.map(({ id, profiles }) => make("li", {}, titleWithLevel(id), forWhom(profiles)));
   $("closures").replaceChildren(...(rows.length ? [make("h2", {}, icon("closed"), say("closed.now")), make("ul", {}, ...items)] : []));
@@ -351,10 +351,11 @@ async function takeNewSite() {
   if (mark !== site.mark && !document.querySelector("[aria-expanded=true]")) location.reload();
 }
 
-/** Asks what is closed; where the version went on, the way is asked for anew, and whether the folder is still this site's. */
+/** Asks what is closed; where the version went on, the way is asked for anew, and whether the folder is still this site's. A list that is the same stays
+    the one that is held, which may be being drawn. */
 async function poll() {
   const told = await ask("/v1/closures", {}, "closures"), isSame = JSON.stringify(told.closures) === JSON.stringify(server.closures.closures), isOther = told.version !== server.closures.version;
-  server.closures = told;
+  server.closures = isSame ? { ...told, closures: server.closures.closures } : told;
   await isSiteOf(told.version);
   const isFailed = state.shownAnswer?.line && !state.answer;
   if (isOther || isFailed || Date.now() - state.compared.time > RARELY) await takeNewSite();
