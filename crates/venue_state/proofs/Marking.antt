@@ -4,9 +4,7 @@ use Rattle.std.specs.Prelude.{if◌then◌else◌, slice_index_or, slice_set, sl
 use Rattle.std.specs.Int.{from_bool}
 use Rattle.std.specs.List.{filter, Contains, AllPairs, position_from}
 use Rattle.std.specs.Option.{option_map}
-use Rattle.std.proofs.lemmas.Bool.{eqb-true}
 use Rattle.std.proofs.lemmas.List.Elements.{All-cons, All-contains}
-use Rattle.std.proofs.lemmas.Nat.Bits.{bit_at-zero}
 use Rattle.std.proofs.lemmas.Option.{slice_get_within, get_or_from_slice_get, slice_get-map}
 use Rattle.venue_types.specs.declared.feature_id.FeatureId.{FeatureId}
 use Rattle.venue_types.specs.declared.profile_set.ProfileSet.{ProfileSet}
@@ -19,6 +17,7 @@ use Rattle.route_search.proofs.Identifiers.{same_id, id_same}
 use Rattle.venue_history.specs.declared.entry.Closing.{Closing}
 use Rattle.venue_history.specs.Closed.{is_one_of, feature_of, set_in}
 use Rattle.venue_history.specs.Versions.{closings}
+use Rattle.venue_history.proofs.Closings.{closings_agree, empty_nobody, nobody_empty, empty_lacks}
 use Rattle.venue_history.proofs.Identities.{there_one_of}
 use Rattle.venue_state.specs.Boards.{closed_by}
 use Rattle.venue_state.specs.Tallies.{remarked}
@@ -62,19 +61,7 @@ agree_map p q (x ∷ xs) same =
     let later : map p xs ≡ map q xs = agree_map p q xs (λ y c. same y (there_later x xs y c)) in
     cc
 
--- ---- sets
-
-empty_is : (set : ProfileSet) → is_empty set ≡ true → set ≡ nobody
-unfolding is_empty
-empty_is set e = ap (λ (n : ℕ). record { 0 = n }) (eqb-true set.0 0 e)
-
-nobody_empty : is_empty nobody ≡ true
-unfolding is_empty
-nobody_empty = refl
-
-nobody_has : (k : ℕ) → has k nobody ≡ false
-unfolding has
-nobody_has k = rw (bit_at-zero k) refl
+-- ---- one that is closed in front
 
 pub set_first : (it : Closing) (others : List Closing) (id : FeatureId) → is_same it.feature id ≡ true → set_in (it ∷ others) id ≡ it.profiles
 set_first it others id e = if_so (is_same it.feature id) it.profiles (set_in others id) e
@@ -84,20 +71,16 @@ set_later it others id e = if_not (is_same it.feature id) it.profiles (set_in ot
 
 -- ---- what marks close
 
-by_none : (m : ProfileSet) (ms : List ProfileSet) (x : FeatureId) (xs : List FeatureId) → is_empty m ≡ true → closed_by (m ∷ ms) (x ∷ xs) ≡ closed_by ms xs
+pub by_none : (m : ProfileSet) (ms : List ProfileSet) (x : FeatureId) (xs : List FeatureId) → is_empty m ≡ true → closed_by (m ∷ ms) (x ∷ xs) ≡ closed_by ms xs
 by_none m ms x xs e = if_so (is_empty m) (closed_by ms xs) (record { feature = x; profiles = m } ∷ closed_by ms xs) e
 
-by_some : (m : ProfileSet) (ms : List ProfileSet) (x : FeatureId) (xs : List FeatureId) → is_empty m ≡ false
+pub by_some : (m : ProfileSet) (ms : List ProfileSet) (x : FeatureId) (xs : List FeatureId) → is_empty m ≡ false
     → closed_by (m ∷ ms) (x ∷ xs) ≡ record { feature = x; profiles = m } ∷ closed_by ms xs
 by_some m ms x xs e = if_not (is_empty m) (closed_by ms xs) (record { feature = x; profiles = m } ∷ closed_by ms xs) e
 
 by_map : (f : FeatureId → ProfileSet) (ids : List FeatureId) → closed_by (map f ids) ids ≡ closings f ids
 by_map f [] = refl
 by_map f (x ∷ xs) = ap (λ (ys : List Closing). if is_empty (f x) then ys else record { feature = x; profiles = f x } ∷ ys) (by_map f xs)
-
--- sets that agree close the same
-pub closings_agree : (f g : FeatureId → ProfileSet) (ids : List FeatureId) → ((id : FeatureId) → Contains ids id → f id ≡ g id) → closings f ids ≡ closings g ids
-closings_agree f g ids same = sym (by_map f ids) ∙ ap (λ (ms : List ProfileSet). closed_by ms ids) (agree_map f g ids same) ∙ by_map g ids
 
 -- what isn't among the identifiers is closed for nobody
 by_absent : (ms : List ProfileSet) (xs : List FeatureId) (y : FeatureId) → (Contains xs y → ⊥) → set_in (closed_by ms xs) y ≡ nobody
@@ -121,7 +104,7 @@ marks_are (m ∷ ms) (x ∷ xs) whole apart =
     let rest : ms ≡ map (set_in (closed_by ms xs)) xs = marks_are ms xs (omega arith) (apart_rest x xs apart) in
     elim (tested (is_empty m)) [
       | inl empty ↦
-          let here : m ≡ set_in (closed_by ms xs) x = empty_is m empty ∙ sym (by_absent ms xs x (λ c. apart_first x xs x apart c refl)) in
+          let here : m ≡ set_in (closed_by ms xs) x = empty_nobody m empty ∙ sym (by_absent ms xs x (λ c. apart_first x xs x apart c refl)) in
           let both : m ∷ ms ≡ map (set_in (closed_by ms xs)) (x ∷ xs) = cc in
           subst (λ (cs : List Closing). m ∷ ms ≡ map (set_in cs) (x ∷ xs)) (sym (by_none m ms x xs empty)) both
       | inr some ↦ subst (λ (cs : List Closing). m ∷ ms ≡ map (set_in cs) (x ∷ xs)) (sym (by_some m ms x xs some)) (marked_more rest)
@@ -279,7 +262,7 @@ chosen_for k marks [] = refl
 chosen_for k [] (x ∷ xs) = refl
 chosen_for k (m ∷ ms) (x ∷ xs) = elim (tested (is_empty m)) [
   | inl empty ↦
-      if_not (has k m) (x ∷ chosen (has k) ms xs) (chosen (has k) ms xs) (ap (has k) (empty_is m empty) ∙ nobody_has k)
+      if_not (has k m) (x ∷ chosen (has k) ms xs) (chosen (has k) ms xs) (empty_lacks k m empty)
       ∙ chosen_for k ms xs
       ∙ ap (λ (cs : List Closing). map feature_of (filter (λ (it : Closing). has k it.profiles) cs)) (sym (by_none m ms x xs empty))
   | inr some ↦

@@ -57,16 +57,6 @@ grown_by set grown others n more = same_set (joined grown others) (joined set (j
   ∙ ap (λ (b : Bool). has k set || b) (sym (has_joined (just n) others k))
   ∙ sym (has_joined set (joined (just n) others) k))
 
-pub grown_known : (count : ℕ) (set grown : ProfileSet) (n : ℕ) → ((i : ℕ) → IsTrue (has i grown) ↔ IsTrue (has i set || nat_eq i n))
-    → n < count → IsTrue (is_within count set) → IsTrue (is_within count grown)
-grown_known count set grown n more below known = within_from count grown (λ k there. elim (tested (has k set)) [
-  | inl had ↦ within_below count k set known had
-  | inr new ↦
-      let e : (false || nat_eq k n) ≡ true = ap (λ (b : Bool). b || nat_eq k n) (sym new) ∙ (more k).0 there in
-      let same : k ≡ n = grind (arith, nat_tests) in
-      omega arith
-])
-
 pub none_yet : (o : Option ProfileSet) → option_map (joined nobody) o ≡ o
 none_yet None = refl
 none_yet (Some set) = ap (λ (s : ProfileSet). Some s) (nobody_joined set)

@@ -1,13 +1,11 @@
 //! Boards.
 
-ghost use Rattle.std.specs.Prelude.{◌≡◌, ℕ, ◌+◌, ◌≤◌, length, IfOk, IfSome, IfNone};
+ghost use Rattle.std.specs.Prelude.{◌≡◌, ◌+◌, ◌≤◌, length, IfOk, IfSome, IfNone};
 ghost use Rattle.std.specs.Arc.{arc_value};
-ghost use Rattle.venue_types.specs.ProfileSets.{has};
 ghost use Rattle.route_search.specs.Nodes.{closables};
 ghost use Rattle.route_search.specs.Graphs.{network};
-ghost use Rattle.route_search.specs.Marking.{chosen};
 ghost use Rattle.route_search.specs.Networks.{IsNetworkOf};
-ghost use Rattle.venue_history.specs.Closed.{closed_for, closed_count, everybody};
+ghost use Rattle.venue_history.specs.Closed.{closed_count, everybody};
 ghost use Rattle.venue_history.specs.Versions.{AreProfiles, opening};
 ghost use Rattle.venue_state.specs.Boards.{IsStand, closed_by, version_of};
 
@@ -156,7 +154,6 @@ impl Board {
     pub(crate) fn marks(&self) -> &Marks
         ensures whole { length result.now ≡ length (closables self.now.features) }
         ensures closed { closed_by result.now (closables self.now.features) ≡ self.now.closed }
-        ensures for_profile { (k : ℕ) → chosen (has k) result.now (closables self.now.features) ≡ closed_for self.now k }
     {
         &self.stand.marks
     }

@@ -81,8 +81,7 @@ pub(crate) fn named_set(settings: &Settings, names: &Option<List<Text>>) -> Opti
 
 // The profiles of these names, if the settings have each of them.
 fn set_of_names(settings: &Settings, names: &[Text]) -> Option<ProfileSet>
-    ensures set { result ≡ set_of_names settings.now names.now }
-    ensures known { IfSome result (λ set. IsTrue (is_within (length settings.now.profiles) set)) }
+    ensures { result ≡ set_of_names settings.now names.now }
 {
     let mut set = ProfileSet::nobody();
     for name in names {
