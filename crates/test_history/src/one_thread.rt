@@ -172,6 +172,7 @@ fn closure(hall: &mut impl Hall, tail: u128, closed: bool) -> Reply {
     hall.change(&Change::Closure(Closure {
         feature: id(tail),
         closed,
+        profiles: None,
     }))
 }
 

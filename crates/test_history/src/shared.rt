@@ -96,6 +96,7 @@ fn closure<H: Hall>(seat: &mut H, tail: u128, closed: bool) -> Told
     let change = Change::Closure(Closure {
         feature: id(tail),
         closed,
+        profiles: None,
     });
     told_of(&seat.change(&change))
 }

@@ -1,5 +1,5 @@
 -- To one change at one history belongs one kind of reply, where the shelf is told.
-use Rattle.std.proofs.Common.{◌≡◌, ◌≢◌, ◌∙◌, ℕ, ◌<◌, List, length, refl, sym, subst, arith, inl, inr, Option, Some, None, Bool, true, false}
+use Rattle.std.proofs.Common.{◌≡◌, ◌≢◌, ◌∙◌, ℕ, ◌<◌, List, length, refl, sym, subst, arith, inl, inr, Option, Some, None, Bool}
 use Rattle.std.specs.Prelude.{Contains, if◌then◌else◌, IsTrue}
 use Rattle.std.specs.Arc.{arc_value}
 use Rattle.std.proofs.lemmas.Option.{same_Some}

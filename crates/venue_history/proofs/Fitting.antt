@@ -1,5 +1,5 @@
 -- The act that is asked for, where the feature stands otherwise, is one that can be done.
-use Rattle.std.proofs.Common.{◌≡◌, refl, sym, subst, Bool, true, false, not, Some}
+use Rattle.std.proofs.Common.{◌≡◌, refl, sym, subst, Bool, true, false, not}
 use Rattle.std.specs.Prelude.{Contains, IsTrue, if◌then◌else◌}
 use Rattle.venue_types.specs.declared.feature_id.FeatureId.{FeatureId}
 use Rattle.venue_types.specs.declared.profile_set.ProfileSet.{ProfileSet}

@@ -1,5 +1,5 @@
 -- What is closed at every version to which a history leads.
-use Rattle.std.proofs.Common.{◌≡◌, ◌≢◌, ◌∙◌, List, [], ◌∷◌, refl, sym, ap, subst, Some, Bool, false}
+use Rattle.std.proofs.Common.{◌≡◌, ◌≢◌, ◌∙◌, List, [], ◌∷◌, refl, sym, ap, subst, Some, false}
 use Rattle.std.specs.Prelude.{not, map, AllPairs, All}
 use Rattle.std.specs.List.{filter, Contains}
 use Rattle.std.specs.Arc.{arc_value}

@@ -19,7 +19,7 @@ use Rattle.venue_history.specs.declared.entry.Act.TheVariants.{Published, Closed
 use Rattle.venue_history.specs.Closed.{Version, is_one_of, set_in, closed_set}
 use Rattle.venue_history.specs.Versions.{closings, set_with, set_without, AreProfiles, Fits, after}
 use Rattle.venue_history.specs.Histories.{after_all, MayAllFollow, opening_of, replay_from, IsLegalFrom, KeepsTheRules, Replays}
-use Rattle.venue_history.proofs.Closings.{set_in_closings, closings_all, closing_of}
+use Rattle.venue_history.proofs.Closings.{set_in_closings, closings_all}
 use Rattle.venue_history.proofs.Standing.{closed_in_order}
 
 -- the set has no profile past so many

@@ -1,7 +1,8 @@
 -- What is asked for gets what it asks for.
-use Rattle.std.proofs.Common.{◌≡◌, ◌∙◌, ◌⊎◌, ℕ, ◌<◌, inl, inr, List, length, refl, sym, subst, arith, Option, Some, Bool, true, false}
+use Rattle.std.proofs.Common.{◌≡◌, ◌∙◌, ◌⊎◌, ℕ, ◌<◌, inl, inr, List, length, refl, sym, subst, arith, Option, Some, IsTrue, Bool, true, false}
 use Rattle.venue_types.specs.declared.files.Files.{Files}
 use Rattle.venue_types.specs.declared.finding.Report.{Report}
+use Rattle.venue_types.specs.declared.profile_set.ProfileSet.{ProfileSet}
 use Rattle.venue_types.specs.declared.query.Ask.{Ask}
 use Rattle.venue_types.specs.declared.query.Ask.TheVariants as ask
 use Rattle.venue_types.specs.declared.query.Change.{Change}
@@ -20,7 +21,7 @@ use Rattle.venue_hall.specs.Act.{Act}
 use Rattle.venue_hall.specs.Act.TheVariants as act
 use Rattle.venue_hall.specs.Entry.{Entry}
 use Rattle.venue_hall.specs.Answers.{IsTooEarly, AnswersAsk, Answers}
-use Rattle.venue_hall.specs.Changes.{Makes, Breaks, IsActOf, TellsOf, Refuses, StandsSo, IsRefused, IsAccepted, IsAcceptedIf, Changes}
+use Rattle.venue_hall.specs.Changes.{Makes, Breaks, IsActOf, TellsOf, Refuses, StandsSo, StandsOtherwise, stands_so, IsRefused, IsAccepted, IsAcceptedIf, Changes}
 use Rattle.venue_hall.specs.Closed.{Version}
 use Rattle.venue_hall.specs.Histories.{Replays}
 use Rattle.venue_hall.specs.Replies.{kind_of, closure_done, out_of_memory}
@@ -63,7 +64,8 @@ not_both outcome s v folder report venue b m =
 
 -- a change that can be made, with room for one version more, is refused for no cause of its own
 not_refused : OneOutcome → (s : Shelf) (v : Version) (asked : Change) (r : Reply) → HasRoom v → CanBeMade (Some s) v asked → Refuses (Some s) v asked r → IsMadeKind asked (kind_of r)
-not_refused outcome s v (change.Closure closure) reply.NoFeature room can is = absurd (is can)
+not_refused outcome s v (change.Closure closure) reply.NoProfile room can is = absurd (cc (is, can.1.named))
+not_refused outcome s v (change.Closure closure) reply.NoFeature room can is = absurd (is.2 can.1.closable)
 not_refused outcome s v (change.Closure closure) (reply.ClosureDone it) room can is = refl
 not_refused outcome s v (change.Closure closure) (reply.HistoryFull number) room can is = absurd (omega (arith, room, is.1.1))
 not_refused outcome s v (change.Closure closure) _ room can is = absurd is.1
@@ -73,7 +75,7 @@ not_refused outcome s v (change.Publish folder) (reply.HistoryFull number) room 
 not_refused outcome s v (change.Publish folder) _ room can is = absurd is.1
 
 -- an act is told by the kind of reply that its change asks for
-act_told : (shelf : Option Shelf) (v : Version) (asked : Change) (a : Act) (r : Reply) → IsActOf shelf v asked a → TellsOf v a r → IsMadeKind asked (kind_of r)
+act_told : (shelf : Option Shelf) (v : Version) (asked : Change) (a : Act) (r : Reply) → IsActOf shelf v asked a → TellsOf v asked a r → IsMadeKind asked (kind_of r)
 act_told shelf v (change.Closure closure) (act.Closed closing) (reply.ClosureDone it) is tells = refl
 act_told shelf v (change.Closure closure) (act.Reopened closing) (reply.ClosureDone it) is tells = refl
 act_told shelf v (change.Publish folder) (act.Published venue) (reply.Published number dropped) is tells = inl refl
@@ -109,12 +111,22 @@ change_told outcome shelf worker asked h k v (reply.Published number dropped) st
 change_told outcome shelf worker asked h k v r stands room can is =
     inl (not_refused outcome shelf v asked r room can (refused_here (Some shelf) asked h is.version v r is.stands stands is.cause))
 
+some_set : (a b : ProfileSet) → Some a ≡ Some b → a ≡ b
+some_set a b e = cc e
+
+-- a closure that stands so doesn't stand otherwise
+not_otherwise : (v : Version) (closure : Closure) → StandsSo v closure → StandsOtherwise v closure → ⊥
+not_otherwise v closure so other =
+    let same = some_set so.0 other.0 (sym so.1.named ∙ other.1.named) in
+    other.2 (subst (λ (set : ProfileSet). IsTrue (stands_so v closure set)) same so.2)
+
 -- a closure that stands so already is told so
 not_moved : (shelf : Option Shelf) (v : Version) (closure : Closure) (r : Reply) → StandsSo v closure → Refuses shelf v (change.Closure closure) r
     → kind_of r ≡ closure_done
-not_moved shelf v closure reply.NoFeature so is = absurd (is so.0)
+not_moved shelf v closure reply.NoProfile so is = absurd (cc (is, so.1.named))
+not_moved shelf v closure reply.NoFeature so is = absurd (is.2 so.1.closable)
 not_moved shelf v closure (reply.ClosureDone it) so is = refl
-not_moved shelf v closure (reply.HistoryFull number) so is = absurd (is.0.1 so.1)
+not_moved shelf v closure (reply.HistoryFull number) so is = absurd (not_otherwise v closure so is.0)
 not_moved shelf v closure _ so is = absurd is.1
 
 pub standing_told : (shelf : Option Shelf) (worker : ℕ) (closure : Closure) (h k : List Entry) (v : Version) (r : Reply) → Replays h v

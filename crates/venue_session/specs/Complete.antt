@@ -1,16 +1,16 @@
 -- What a request gets to which no refusal applies.
-use Rattle.std.specs.Prelude.{◌≡◌, ◌⊎◌, ◌<◌, Contains, Option}
+use Rattle.std.specs.Prelude.{◌≡◌, ◌⊎◌, ◌<◌, Option}
 use Rattle.wire_replies.specs.declared.response.Response.{Response}
 use Rattle.wire_replies.specs.declared.response.Response.TheVariants.{Of, No, Bare}
 use Rattle.venue_types.specs.declared.query.Ask.{Ask}
 use Rattle.venue_types.specs.declared.query.Ask.TheVariants as ask
 use Rattle.venue_types.specs.declared.query.Change.{Change}
 use Rattle.venue_types.specs.declared.query.Change.TheVariants as change
-use Rattle.venue_hall.specs.Nodes.{closables}
+use Rattle.venue_types.specs.declared.profile_set.ProfileSet.{ProfileSet}
 use Rattle.venue_hall.specs.Venues.{SeenVenue as Venue}
 use Rattle.venue_hall.specs.Shelves.{Shelf}
 use Rattle.venue_hall.specs.Answers.{HasProfile, IsPlace}
-use Rattle.venue_hall.specs.Changes.{Makes}
+use Rattle.venue_hall.specs.Changes.{Makes, IsClosureFor}
 use Rattle.venue_hall.specs.Closed.{Version}
 use Rattle.venue_hall.specs.Replies.{ReplyKind, kind_of, version, places, place, closures, route, no_route, closure_done, published, folder_fault, out_of_memory}
 
@@ -34,9 +34,9 @@ IsOfKind (ask.Route from to name certificate) kind = (kind ≡ route) ⊎ (kind 
 abbrev pub HasRoom : Version → Type 0
 HasRoom v = v.number < v.settings.last_version
 
--- the change can be made: the feature can be closed, or the files of the folder make a venue
+-- the change can be made: the settings have each profile that is named and the feature can be closed, or the files of the folder make a venue
 abbrev pub CanBeMade : Option Shelf → Version → Change → Type 0
-CanBeMade shelf v (change.Closure asked) = Contains (closables v.features) asked.feature
+CanBeMade shelf v (change.Closure asked) = (set : ProfileSet) × IsClosureFor v asked set
 CanBeMade shelf v (change.Publish folder) = (venue : Venue) × Makes shelf v folder venue
 
 -- the reply tells that the change stands; or, of a publication, that the folder couldn't be read

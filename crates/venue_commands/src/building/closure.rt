@@ -37,6 +37,7 @@ fn close(hall: &mut OwnHall, feature: FeatureId) -> Result<(), OutOfMemory>
         &Change::Closure(Closure {
             feature,
             closed: true,
+            profiles: None,
         }),
     );
     judged(&reply)
