@@ -42,15 +42,6 @@ module _ (v : Version) (asked : Closure) (set : ProfileSet) where
   any : Bool
   any = has_any_of (closed_set v asked.feature) set
 
-so_closed : (closed all any : Bool) → closed ≡ true → IsTrue all → IsTrue (if closed then all else not any)
-so_closed true all any e so = so
-so_closed false all any e so = absurd (cc e)
-
-so_open : (closed all any : Bool) → closed ≡ false → ¬ IsTrue any → IsTrue (if closed then all else not any)
-so_open true all any e other = absurd (cc e)
-so_open false all true e other = absurd (other refl)
-so_open false all false e other = refl
-
 other_closed : (closed all any : Bool) → closed ≡ true → ¬ IsTrue all → ¬ IsTrue (if closed then all else not any)
 other_closed true all any e other = other
 other_closed false all any e other = absurd (cc e)
@@ -62,27 +53,9 @@ other_open false all false e is = λ so. is (λ no. absurd (cc no))
 
 -- ---- closures that aren't made ready
 
--- the feature can't be closed
-pub lacks_feature : (v : Version) (asked : Closure) (set : ProfileSet) → IsUnready v (closure_act asked set) unready.NoFeature → ¬ Contains (closables v.features) asked.feature
-lacks_feature v asked set lacks = lacks_by asked.closed lacks where
-  lacks_by : (closed : Bool) → LacksFeature v (act_by asked set closed) → ¬ Contains (closables v.features) asked.feature
-  lacks_by true lacks = lacks
-  lacks_by false lacks = lacks
-
 has_by : (v : Version) (asked : Closure) (set : ProfileSet) (closed : Bool) → ¬ LacksFeature v (act_by asked set closed) → Contains (closables v.features) asked.feature
 has_by v asked set true some = there (closables v.features) asked.feature some
 has_by v asked set false some = there (closables v.features) asked.feature some
-
--- it stands as asked
-done_by : (v : Version) (asked : Closure) (set : ProfileSet) (closed : Bool) → asked.closed ≡ closed → IsDone v (act_by asked set closed)
-    → Contains (closables v.features) asked.feature × IsTrue (stands_so v asked set)
-unfolding all any
-done_by v asked set true e done = (done.0, so_closed asked.closed (all v asked set) (any v asked set) e done.1)
-done_by v asked set false e done = (done.0, so_open asked.closed (all v asked set) (any v asked set) e done.1)
-
-pub done_closure : (v : Version) (asked : Closure) (set : ProfileSet) → IsUnready v (closure_act asked set) unready.Unchanged
-    → Contains (closables v.features) asked.feature × IsTrue (stands_so v asked set)
-done_closure v asked set done = done_by v asked set asked.closed refl done
 
 -- it stands otherwise
 undone_by : (v : Version) (asked : Closure) (set : ProfileSet) (closed : Bool) → asked.closed ≡ closed → Contains (closables v.features) asked.feature
@@ -95,7 +68,7 @@ pub due_closure : (v : Version) (asked : Closure) (set : ProfileSet) → named_s
     → StandsOtherwise v asked
 due_closure v asked set named full =
     let has = has_by v asked set asked.closed full.0 in
-    (set, (record { named = named; closable = has }, undone_by v asked set asked.closed refl has full.1))
+    (set, record { named = named; closable = has }, undone_by v asked set asked.closed refl has full.1)
 
 -- for nobody it stands as asked, if it can be closed
 nobody_by : (v : Version) (asked : Closure) (set : ProfileSet) (closed : Bool) → IsTrue (is_empty set) → Contains (closables v.features) asked.feature
@@ -107,12 +80,6 @@ nobody_by v asked set false empty has = (has, λ any. some_there (closed_set v a
 pub done_for_nobody : (v : Version) (asked : Closure) (set : ProfileSet) → IsTrue (is_empty set) → Contains (closables v.features) asked.feature
     → IsUnready v (closure_act asked set) unready.Unchanged
 done_for_nobody v asked set empty has = nobody_by v asked set asked.closed empty has
-
-pub lacking : (v : Version) (asked : Closure) (set : ProfileSet) → ¬ Contains (closables v.features) asked.feature → IsUnready v (closure_act asked set) unready.NoFeature
-lacking v asked set lacks = lacking_by asked.closed where
-  lacking_by : (closed : Bool) → LacksFeature v (act_by asked set closed)
-  lacking_by true = lacks
-  lacking_by false = lacks
 
 -- ---- closures that are made ready
 

@@ -42,30 +42,29 @@ profiles-requires c = within _ _ _ _ c.requires.tallied.whole (sym c.in-Some.ens
 pub mark-requires : goal.mark-requires
 mark-requires c = within _ _ _ _ c.requires.tallied.whole (sym c.in-Some.ensures)
 
-was_counted : (c : goal.After-mark) → c.from-before.result ≡ counted (slice_index_or c.args.tally.now.marks c.in-Some.k nobody)
-was_counted c = c.from-before.ensures ∙ ap (λ (b : Bool). from_bool (not b)) (c.is_empty.ensures ∙ ap is_empty c.profiles.ensures)
-
-is_counted : (c : goal.After-from) → c.from.result ≡ counted c.args.profiles
-is_counted c = c.from.ensures ∙ ap (λ (b : Bool). from_bool (not b)) c.is_empty-in-Some.ensures
+counted_so : (set : ProfileSet) (empty : Bool) (n : ℕ) → n ≡ from_bool (not empty) → empty ≡ is_empty set → n ≡ counted set
+counted_so set empty n is so = is ∙ ap (λ (b : Bool). from_bool (not b)) so
 
 pub overflow_sub-tally : goal.overflow_sub-tally
 overflow_sub-tally c =
-    let before = counted_before _ _ _ _ _ c.requires.tallied.whole (sym c.in-Some.ensures) (was_counted c) in
+    let was = counted_so (slice_index_or c.args.tally.now.marks c.in-Some.k nobody) _ _ c.from-before.ensures (c.is_empty.ensures ∙ ap is_empty c.profiles.ensures) in
+    let before = counted_before _ _ _ _ _ c.requires.tallied.whole (sym c.in-Some.ensures) was in
     omega (arith, before, c.requires.tallied.counted)
 
 pub overflow_add-tally : goal.overflow_add-tally
 overflow_add-tally c =
     let short = closed_short c.args.tally.now.marks (network c.args.graph.now).closables in
     let one = one_at_most c.args.profiles in
-    let is = is_counted c in
+    let is = counted_so c.args.profiles _ _ c.from.ensures c.is_empty-in-Some.ensures in
     omega (arith, short, one, is, c.requires.tallied.counted, c.range_law.ensures.closables)
 
 pub returns-in-Some-clause-tallied : goal.returns-in-Some-clause-tallied
 returns-in-Some-clause-tallied c =
     let ids = (network c.args.graph.now).closables in
-    let before = counted_before _ _ _ _ _ c.requires.tallied.whole (sym c.in-Some.ensures) (was_counted c.before) in
-    let after = counts c.args.tally.now.marks c.mark.new.self ids _ _ _ c.args.profiles c.requires.tallied.whole (sym c.in-Some.ensures) (was_counted c.before) c.mark.ensures in
-    let is = is_counted c in
+    let was = counted_so (slice_index_or c.args.tally.now.marks c.in-Some.k nobody) _ _ c.from-before.ensures (c.is_empty.ensures ∙ ap is_empty c.profiles.ensures) in
+    let before = counted_before _ _ _ _ _ c.requires.tallied.whole (sym c.in-Some.ensures) was in
+    let after = counts c.args.tally.now.marks c.mark.new.self ids _ _ _ c.args.profiles c.requires.tallied.whole (sym c.in-Some.ensures) was c.mark.ensures in
+    let is = counted_so c.args.profiles _ _ c.from.ensures c.is_empty-in-Some.ensures in
     record {
       whole = ap length c.mark.ensures ∙ (simp length-set c.requires.tallied.whole);
       counted = omega (arith, before, after, is, c.requires.tallied.counted);
