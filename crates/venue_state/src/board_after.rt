@@ -41,12 +41,12 @@ pub(crate) fn following(
     match act {
         Act::Published(venue) => published(alloc, board, number, venue),
         Act::Closed(it) => {
-            let profiles = board.closed_set(it.feature).joined(it.profiles);
-            changed(alloc, board, number, it.feature, profiles)
+            let closed = board.closed_set(it.feature).joined(it.profiles);
+            changed(alloc, board, number, it.feature, closed)
         }
         Act::Reopened(it) => {
-            let profiles = board.closed_set(it.feature).without(it.profiles);
-            changed(alloc, board, number, it.feature, profiles)
+            let left = board.closed_set(it.feature).without(it.profiles);
+            changed(alloc, board, number, it.feature, left)
         }
     }
 }

@@ -10,8 +10,8 @@ pub returns-in-Closed-clause-next : goal.returns-in-Closed-clause-next
 returns-in-Closed-clause-next c =
     let v = c.args.board.now in
     let it = c.in-Closed.it in
-    let told : c.joined-profiles.result ≡ joined (closed_set v it.feature) it.profiles =
-    c.joined-profiles.ensures ∙ ap (λ (set : ProfileSet). joined set it.profiles) c.closed_set.ensures in
+    let told : c.joined-closed.result ≡ joined (closed_set v it.feature) it.profiles =
+    c.joined-closed.ensures ∙ ap (λ (set : ProfileSet). joined set it.profiles) c.closed_set.ensures in
     let next = rw (told, closed_so v it) at c.changed.ensures.next in
     rw c.in-Closed.is next
 
@@ -19,7 +19,7 @@ pub returns-in-Reopened-clause-next : goal.returns-in-Reopened-clause-next
 returns-in-Reopened-clause-next c =
     let v = c.args.board.now in
     let it = c.in-Reopened.it in
-    let told : c.without-profiles.result ≡ without (closed_set v it.feature) it.profiles =
-    c.without-profiles.ensures ∙ ap (λ (set : ProfileSet). without set it.profiles) c.closed_set-in-Reopened.ensures in
+    let told : c.without-left.result ≡ without (closed_set v it.feature) it.profiles =
+    c.without-left.ensures ∙ ap (λ (set : ProfileSet). without set it.profiles) c.closed_set-in-Reopened.ensures in
     let next = rw (told, reopened_so v it) at c.changed-in-Reopened.ensures.next in
     rw c.in-Reopened.is next
