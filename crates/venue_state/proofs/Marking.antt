@@ -109,15 +109,15 @@ marks_are (m ∷ ms) (x ∷ xs) whole apart =
           subst (λ (cs : List Closing). m ∷ ms ≡ map (set_in cs) (x ∷ xs)) (sym (by_none m ms x xs empty)) both
       | inr some ↦ subst (λ (cs : List Closing). m ∷ ms ≡ map (set_in cs) (x ∷ xs)) (sym (by_some m ms x xs some)) (marked_more rest)
     ] where
-  marked_more : ms ≡ map (set_in (closed_by ms xs)) xs → m ∷ ms ≡ map (set_in (record { feature = x; profiles = m } ∷ closed_by ms xs)) (x ∷ xs)
-  marked_more rest =
-      let it : Closing = record { feature = x; profiles = m } in
-      let here : set_in (it ∷ closed_by ms xs) x ≡ m = set_first it (closed_by ms xs) x (id_same x x refl) in
-      let later : map (set_in (closed_by ms xs)) xs ≡ map (set_in (it ∷ closed_by ms xs)) xs =
-      agree_map (set_in (closed_by ms xs)) (set_in (it ∷ closed_by ms xs)) xs
-      (λ y c. sym (set_later it (closed_by ms xs) y (differs x y (apart_first x xs y apart c)))) in
-      let tail : ms ≡ map (set_in (it ∷ closed_by ms xs)) xs = rest ∙ later in
-      ap (λ (n : ProfileSet). n ∷ ms) (sym here) ∙ ap (λ (ns : List ProfileSet). set_in (it ∷ closed_by ms xs) x ∷ ns) tail
+      marked_more : ms ≡ map (set_in (closed_by ms xs)) xs → m ∷ ms ≡ map (set_in (record { feature = x; profiles = m } ∷ closed_by ms xs)) (x ∷ xs)
+      marked_more rest =
+          let it : Closing = record { feature = x; profiles = m } in
+          let here : set_in (it ∷ closed_by ms xs) x ≡ m = set_first it (closed_by ms xs) x (id_same x x refl) in
+          let later : map (set_in (closed_by ms xs)) xs ≡ map (set_in (it ∷ closed_by ms xs)) xs =
+          agree_map (set_in (closed_by ms xs)) (set_in (it ∷ closed_by ms xs)) xs
+          (λ y c. sym (set_later it (closed_by ms xs) y (differs x y (apart_first x xs y apart c)))) in
+          let tail : ms ≡ map (set_in (it ∷ closed_by ms xs)) xs = rest ∙ later in
+          ap (λ (n : ProfileSet). n ∷ ms) (sym here) ∙ ap (λ (ns : List ProfileSet). set_in (it ∷ closed_by ms xs) x ∷ ns) tail
 
 -- what is closed stands in the order of the identifiers, each with its set
 pub closed_again : (marks : List ProfileSet) (ids : List FeatureId) → length marks ≡ length ids → AreApart ids

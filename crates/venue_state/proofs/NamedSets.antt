@@ -1,15 +1,14 @@
 -- Sets of profiles by the names of these.
-use Rattle.std.proofs.Common.{◌≡◌, ◌∙◌, ℕ, ◌+◌, ◌≤◌, ◌<◌, List, ◌∷◌, ◌++◌, [], length, drop, refl, sym, ap, subst, Bool, true, false, Option, Some, None, inl, inr, arith, append_assoc}
+use Rattle.std.proofs.Common.{◌≡◌, ◌∙◌, ℕ, ◌+◌, ◌≤◌, ◌<◌, List, ◌∷◌, length, drop, refl, sym, ap, Bool, true, false, Option, Some, None, inl, inr, arith}
 use Rattle.std.specs.Prelude.{◌||◌, slice_index_or, nat_eq, nat_lt, IsTrue, ◌↔◌}
 use Rattle.std.specs.Option.{option_map}
 use Rattle.std.proofs.lemmas.Bool.Decides.{nat_tests}
 use Rattle.std.proofs.lemmas.Nat.Bits.{bit_at-pow_same, bit_at-pow_other}
 use Rattle.venue_types.specs.declared.profile_set.ProfileSet.{ProfileSet}
-use Rattle.venue_types.specs.declared.settings.Profile.{Profile}
 use Rattle.venue_types.specs.declared.settings.Settings.{Settings}
-use Rattle.venue_types.specs.ProfileSets.{has, nobody, all_of, just, joined, is_within}
-use Rattle.venue_types.proofs.ProfileSetLemmas.{has_joined, has_of_all, same_set, empty_has, all_of_within, nobody_joined, within_below, within_from}
-use Rattle.venue_history.specs.Closed.{everybody, names_from}
+use Rattle.venue_types.specs.ProfileSets.{has, nobody, all_of, just, joined}
+use Rattle.venue_types.proofs.ProfileSetLemmas.{has_joined, has_of_all, same_set, empty_has, all_of_within, nobody_joined}
+use Rattle.venue_history.specs.Closed.{everybody}
 use Rattle.venue_history.specs.Named.{set_of_names}
 use Rattle.venue_history.specs.Versions.{AreProfiles}
 use Rattle.venue_history.specs.Ways.{profile_number}
@@ -50,12 +49,12 @@ or_assoc false b c = refl
 grown_by : (set grown others : ProfileSet) (n : ℕ) → ((i : ℕ) → IsTrue (has i grown) ↔ IsTrue (has i set || nat_eq i n))
     → joined grown others ≡ joined set (joined (just n) others)
 grown_by set grown others n more = same_set (joined grown others) (joined set (joined (just n) others)) (λ k.
-  has_joined grown others k
-  ∙ ap (λ (b : Bool). b || has k others) (same_tests (has k grown) (has k set || nat_eq k n) (more k))
-  ∙ or_assoc (has k set) (nat_eq k n) (has k others)
-  ∙ ap (λ (b : Bool). has k set || (b || has k others)) (sym (has_just n k))
-  ∙ ap (λ (b : Bool). has k set || b) (sym (has_joined (just n) others k))
-  ∙ sym (has_joined set (joined (just n) others) k))
+    has_joined grown others k
+    ∙ ap (λ (b : Bool). b || has k others) (same_tests (has k grown) (has k set || nat_eq k n) (more k))
+    ∙ or_assoc (has k set) (nat_eq k n) (has k others)
+    ∙ ap (λ (b : Bool). has k set || (b || has k others)) (sym (has_just n k))
+    ∙ ap (λ (b : Bool). has k set || b) (sym (has_joined (just n) others k))
+    ∙ sym (has_joined set (joined (just n) others) k))
 
 pub none_yet : (o : Option ProfileSet) → option_map (joined nobody) o ≡ o
 none_yet None = refl

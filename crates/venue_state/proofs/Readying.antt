@@ -2,14 +2,13 @@
 use Rattle.std.proofs.Common.{◌≡◌, ◌∙◌, ℕ, ◌+◌, Bool, true, false, not, refl, sym, ap, subst, List, Option, Some, None}
 use Rattle.std.proofs.lemmas.List.Elements.{All-contains}
 use Rattle.std.specs.Prelude.{All, Contains, IsTrue, if◌then◌else◌}
-use Rattle.venue_types.specs.declared.feature_id.FeatureId.{FeatureId}
 use Rattle.venue_types.specs.declared.files.Files.{Files}
 use Rattle.venue_types.specs.declared.profile_set.ProfileSet.{ProfileSet}
 use Rattle.venue_types.specs.declared.query.Change.TheVariants.{Closure as AskedClosure, Publish}
 use Rattle.venue_types.specs.declared.query.Closure.{Closure}
 use Rattle.venue_types.specs.declared.reply.ClosureDone.{ClosureDone}
 use Rattle.venue_types.specs.declared.reply.Reply.TheVariants as reply
-use Rattle.venue_types.specs.ProfileSets.{nobody, is_empty, has_all_of, has_any_of}
+use Rattle.venue_types.specs.ProfileSets.{is_empty, has_all_of, has_any_of}
 use Rattle.venue_types.proofs.ProfileSetLemmas.{has_all_of_nobody}
 use Rattle.route_search.specs.Nodes.{closables}
 use Rattle.venue_history.specs.Venues.{SeenVenue as Venue}
@@ -17,7 +16,7 @@ use Rattle.venue_history.specs.Built.{IsVenueOf}
 use Rattle.venue_history.specs.Shelves.{Shelf}
 use Rattle.venue_history.specs.declared.entry.Act.{Act}
 use Rattle.venue_history.specs.declared.entry.Act.TheVariants.{Closed, Reopened}
-use Rattle.venue_history.specs.Changes.{AreRead, IsClosureFor, StandsOtherwise, Refuses, TellsOf, stands_so}
+use Rattle.venue_history.specs.Changes.{AreRead, StandsOtherwise, TellsOf, stands_so}
 use Rattle.venue_history.specs.Closed.{Version, closed_set, closed_ids}
 use Rattle.venue_history.specs.Named.{named_set, repeated}
 use Rattle.venue_history.specs.Versions.{Fits, after}

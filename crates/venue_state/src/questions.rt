@@ -11,8 +11,7 @@ use crate::profile_names::{is_everybody, named};
 use std::alloc::Global;
 use venue_history::{Venue, every_name};
 use venue_types::{
-    Ask, ClosuresTold, FeatureId, List, OutOfMemory, PlaceRow, PlaceTold, Query, Reply, Text,
-    Which,
+    Ask, ClosuresTold, FeatureId, List, OutOfMemory, PlaceRow, PlaceTold, Query, Reply, Text, Which,
 };
 
 impl Board {

@@ -1,5 +1,5 @@
 -- Each closed feature is marked for whom it is closed where it can be, and dropped where it can't.
-use Rattle.std.proofs.Common.{◌≡◌, ◌∙◌, List, [], ◌++◌, map, length, sym, ap}
+use Rattle.std.proofs.Common.{◌∙◌, List, ◌++◌, map, length, sym, ap}
 use Rattle.venue_types.specs.declared.feature_id.FeatureId.{FeatureId}
 use Rattle.venue_history.specs.Closed.{feature_of}
 use Rattle.venue_history.proofs.Closings.{closings_none}

@@ -1,6 +1,5 @@
 -- Settings have a profile.
-use Rattle.std.proofs.Common.{sym, subst, ap}
-use Rattle.venue_types.specs.declared.profile_set.ProfileSet.{ProfileSet}
+use Rattle.std.proofs.Common.{sym, subst}
 use Rattle.venue_history.specs.Versions.{AreProfiles}
 use Rattle.venue_state.proofs.NamedSets.{all_are_profiles}
 use Rattle.venue_state.proofs.profile_names.everybody.Goals as goal

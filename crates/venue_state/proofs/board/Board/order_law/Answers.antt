@@ -1,6 +1,5 @@
 -- What marks close is closed again by its own sets.
 use Rattle.std.proofs.Common.{◌≡◌, List, subst}
-use Rattle.venue_types.specs.declared.feature_id.FeatureId.{FeatureId}
 use Rattle.route_search.specs.Nodes.{closables}
 use Rattle.venue_history.specs.declared.entry.Closing.{Closing}
 use Rattle.venue_history.specs.Closed.{set_in, closed_set}
