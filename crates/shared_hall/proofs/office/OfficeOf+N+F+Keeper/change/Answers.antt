@@ -5,7 +5,7 @@ use Rattle.board_copies.specs.declared.held.Held.{Held}
 use Rattle.board_copies.specs.Rules.{list_of}
 use Rattle.venue_hall.specs.Histories.{Replays}
 use Rattle.board_copies.specs.Making.{shelf_of}
-use Rattle.board_copies.proofs.Entering.{enters, stays}
+use Rattle.board_copies.proofs.Entering.{enters, stays, made_counts}
 use Rattle.shared_hall.proofs.Seen.{changes_seen}
 use Rattle.shared_hall.proofs.office.OfficeOf+N+F+Keeper.change.Goals as goal
 
@@ -40,3 +40,9 @@ returns-in-Ok-clause-reply g c =
     let k = c.enter.new.self.entries in
     changes_seen _ c.args.self.now _ c.args.pass.now c.args.change.now c.in-Made.reply k c.self.view_is c.pass.view_is
     (enters shelf held.board c.pass.inside.worker c.args.change.now h k c.in-Made.ready c.in-Made.reply c.in-Made._files stands c.in-Made.ensures.outcome c.in-Ok.ensures.ok)
+
+-- what is ready tells no fault, and none was counted
+pub returns-in-Ok-clause-fault : goal.returns-in-Ok-clause-fault
+returns-in-Ok-clause-fault g c =
+    let same : c.enter.new.self.faults ≡ c.args.self.now.faults = search rules in
+    made_counts c.deref.result.now.board c.args.change.now c.in-Made.ready.entry.act c.in-Made.reply c.in-Made.ensures.outcome.tells c.args.self.now.faults c.enter.new.self.faults same
