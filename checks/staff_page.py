@@ -134,7 +134,7 @@ def is_keyed(page):
     page.check("what was chosen stays", page.text("picked") == "Lift, level 0 to 1" and page.focused() == "sure")
     page.check("the field is empty and away", page.value("key") == "" and not page.driver.find_element(By.ID, "key").is_displayed())
     page.click("sure")
-    page.says("told", "Lift, level 0 to 1 is closed, as of version")
+    page.says("told", "Lift, level 0 to 1 is closed for everyone, as of version")
     page.click("key-forget")
     page.says("key-told", "It stays in this page until the page is closed")
     page.check("a forgotten key is asked for anew", page.driver.find_element(By.ID, "key").is_displayed())
@@ -162,21 +162,21 @@ def closes_in_three_taps(page):
         visitor.until("the visitor is led round", lambda: "Checked: no shorter way without steps" in visitor.text("answer") and "120 m" in visitor.text("answer"))
         took = time.monotonic() - begun
         visitor.check(f"within two seconds, of a machine that isn't crowded: {took:.1f}", took < (2 if os.getloadavg()[0] < 2 * os.cpu_count() else CROWDED))
-        page.says("told", "Lift, level 0 to 1 is closed, as of version")
+        page.says("told", "Lift, level 0 to 1 is closed for everyone, as of version")
         page.check("a double tap does nothing twice", page.site.sent() == [{"feature": RIDE, "closed": True}])
         page.says("closures", "Lift, level 0 to 1", "for everyone")
         page.says("history", "Closed: Lift, level 0 to 1. From this page.")
         page.until("it is marked on the map", lambda: page.drawn("closed") == 1)
         page.picture("staff-closed")
         visitor.picture("staff-visitor")
-        page.choose("Ramp", "Tickets and Platform would have no step-free way to and from the entrances.", "On foot nothing would be cut off.")
+        page.choose("Ramp", "Tickets and Platform would have no step-free way to and from the entrances.", "For people on foot nothing would be cut off.")
         page.script("document.querySelector('[data-ordinal=\"1\"]').click()")
         page.until("what would be cut off is shaded", lambda: page.drawn("level") == 1 and page.drawn("reached") >= 1)
         page.picture("staff-cut")
         page.driver.find_element(By.CSS_SELECTOR, "#closures button").click()
         page.says("meaning", "No place would get a step-free way by it.")
         page.sure()
-        page.says("told", "Lift, level 0 to 1 is open again, as of version")
+        page.says("told", "Lift, level 0 to 1 is open again for everyone, as of version")
         page.check("it was sent once", page.site.sent() == [{"feature": RIDE, "closed": False}])
         visitor.says("answer", "60 m", seconds=5)
         page.says("closures", "Nothing is closed.")
@@ -197,7 +197,7 @@ def is_closed_by_keyboard(page):
     page.check("the search has the focus", page.focused() == "what")
     page.press("bakery", Keys.ENTER)
     page.until("the room is chosen", lambda: "Bakery" in page.text("picked"))
-    page.says("meaning", "Bakery would have no step-free way to and from the entrances.", "On foot Bakery would be cut off too.")
+    page.says("meaning", "Bakery would have no step-free way to and from the entrances.", "For people on foot Bakery would be cut off.")
     tab_to(page, "choice")
     page.press(Keys.ARROW_DOWN)
     page.until("its door is chosen", lambda: "Door: walkway" in page.text("picked"))
@@ -207,7 +207,7 @@ def is_closed_by_keyboard(page):
     page.check("the focus is on what follows", page.focused() == "sure")
     time.sleep(0.7)
     page.press(Keys.ENTER)
-    page.says("told", "is closed, as of version")
+    page.says("told", "is closed for everyone, as of version")
     page.check("it was sent once", page.site.sent() == [{"feature": ID.format(105), "closed": True}])
     page.until("the focus stays at the card", lambda: page.focused() == "act")
     tab_to(page, "Open")
@@ -306,7 +306,7 @@ def is_refused(page):
         page.site.between.post = lambda path, passes: reply
         page.click("sure")
         page.says("told", sentence)
-        page.until(f"{sentence}: what was chosen stays, to be sent again", lambda: page.text("sure") == "Close now" and page.text("picked") == "Lift, level 0 to 1")
+        page.until(f"{sentence}: what was chosen stays, to be sent again", lambda: page.text("sure") == "Close now for everyone" and page.text("picked") == "Lift, level 0 to 1")
     page.check("each was sent once", len(page.site.sent()) == len(refusals))
     page.site.between.post = lambda path, passes: (403, b'{"error":"not_staff"}')
     page.click("sure")
@@ -317,7 +317,7 @@ def is_refused(page):
     page.type_key(KEY)
     page.says("key-told", "The key is right.")
     page.click("sure")
-    page.says("told", "is closed, as of version")
+    page.says("told", "is closed for everyone, as of version")
     page.site.between.post = lambda path, passes: (502, b'{"error":"folder_fault"}')
     page.publish("station")
     page.says("publish-told", "A file of the folder couldn't be read, so nothing was changed.")
@@ -337,13 +337,13 @@ def loses_replies(page):
     page.site.sent()
     page.site.between.post = lambda path, passes: passes() and None
     page.close_lift()
-    page.says("told", "No reply came, but it stands: at version", "Lift, level 0 to 1 is closed.")
+    page.says("told", "No reply came, but it stands: at version", "Lift, level 0 to 1 is closed for everyone.")
     page.check("it was sent once", page.site.sent() == [{"feature": RIDE, "closed": True}])
     page.picture("staff-lost")
     page.site.between.post = lambda path, passes: None
     page.click("act")
     page.sure()
-    page.says("told", "No reply came, and at version", "is closed as before. If it is still to be, send it again.")
+    page.says("told", "No reply came, and at version", "is closed for everyone. If it is still to be changed, send it again.")
     page.check("it was sent once again", page.site.sent() == [{"feature": RIDE, "closed": False}])
     page.site.between.post = lambda path, passes: time.sleep(11) or passes()
     page.click("sure")
@@ -351,7 +351,7 @@ def loses_replies(page):
     page.check("its button tells that it is sent", page.text("sure") == "Sent …")
     page.picture("staff-slow")
     page.click("sure")
-    page.says("told", "is open again, as of version", seconds=20)
+    page.says("told", "is open again for everyone, as of version", seconds=20)
     page.check("it was sent once, however often it was tapped", page.site.sent() == [{"feature": RIDE, "closed": False}])
     silent = []
 
@@ -393,7 +393,7 @@ def has_no_network(page):
     page.until("the network is back", lambda: not page.text("trouble"))
     page.check("nothing was sent, and what was chosen stays", page.site.sent() == [] and page.text("picked") == "Lift, level 0 to 1")
     page.click("sure")
-    page.says("told", "is closed, as of version")
+    page.says("told", "is closed for everyone, as of version")
     page.reset()
 
 
@@ -416,12 +416,12 @@ def tells_versions(page):
     page.site.begin_anew()
     page.says("history", "The server began anew.", seconds=20)
     page.says("closures", "Nothing is closed.")
-    page.says("gone", "Lift, level 0 was closed before the server began anew, and is open now.", "Ramp", "Stairs")
+    page.says("gone", "Lift, level 0 was closed for everyone before the server began anew, and isn't now.", "Ramp", "Stairs")
     page.picture("staff-anew")
     page.driver.find_element(By.CSS_SELECTOR, "#gone button").click()
     page.says("meaning", "Not proved.")
     page.sure()
-    page.says("told", "is closed, as of version 2.")
+    page.says("told", "is closed for everyone, as of version 2.")
     page.until("what is closed again is gone from the list", lambda: page.count("#gone li") == 2)
     for _ in range(2):
         page.driver.find_element(By.CSS_SELECTOR, "#gone li button:last-child").click()
@@ -446,7 +446,7 @@ def is_computed_alike(page):
     features = [ID.format(it) for it in (21, 22, 23, 24, 101, 105, 108, 110, 203, 300, 301, 304, 305, 400, 404)]
     cases = [(profile, closed, feature, closes) for profile in ("wheelchair", "walk") for closed in ([], [RIDE], [RIDE, RAMP], [ID.format(k) for k in range(107, 112)])
              for feature in features for closes in ([True] if feature not in closed else [False])]
-    rows = [{"number": k, "data": f"http://127.0.0.1:{page.site.port}/data/{told['mark']}/", "profile": profile, "entrances": told["entrances"], "closed": closed, "feature": feature, "closes": closes}
+    rows = [{"number": k, "data": f"http://127.0.0.1:{page.site.port}/data/{told['mark']}/", "profile": profile, "entrances": told["entrances"], "before": closed, "after": list(set(closed) ^ {feature}), "feature": feature}
             for k, (profile, closed, feature, closes) in enumerate(cases)]
     found = page.driver.execute_async_script("""const [rows, done] = arguments, worker = new Worker('staff/reach.js', { type: 'module' }), found = [];
         worker.onmessage = ({ data }) => { found[data.number] = data; if (found.filter(Boolean).length === rows.length) done(found); };
@@ -508,7 +508,7 @@ def is_withheld(page):
         page.tap("Lift")
         page.says("meaning", "What it would mean can't be computed: nobody told this page which doors are entrances.")
         page.click("act")
-        page.check("it can be closed all the same", page.text("sure") == "Close now")
+        page.check("it can be closed all the same", page.text("sure") == "Close now for everyone")
     with site.broken(os.path.join(site.data, "links", "wheelchair", "0.txt")):
         page.open()
         page.tap("Lift")
@@ -543,7 +543,7 @@ def has_all_sentences(page):
     page.open()
     names = re.findall('"([a-z_]+)"', re.search(r"NAMES = new Set\(\[(.*?)\]", read(os.path.join(WEB, "staff", "change.js")))[1])
     built = {f"why.{name}" for name in names if name not in ("not_staff", "rejected")} | {f"{verb}.{how}" for verb in ("open", "close") for how in ("sure", "blind")}
-    built |= {f"{kind}.{profile}{end}" for kind in ("lost", "gained") for profile in ("wheelchair", "walk") for end in ("", ".none")}
+    built |= {f"{kind}.{profile}{end}" for kind in ("lost", "gained") for profile in ("wheelchair", "other") for end in ("", ".none")} | {"who.walk", "who.wheelchair"}
     texts = {name: read(os.path.join(WEB, name)) for folder in ("", "staff") for name in sorted(os.path.join(folder, it) for it in os.listdir(os.path.join(WEB, folder)))
              if name.endswith((".js", ".html")) and name not in ("en.js", "de.js", "staff/words.js")}
     web_page.compare_sentences(page, texts, web_page.tables_of(page), built)
@@ -606,7 +606,7 @@ def is_kept_secret(page):
     page.driver.get_log("performance")
     page.open()
     page.close_lift()
-    page.says("told", "is closed, as of version")
+    page.says("told", "is closed for everyone, as of version")
     page.publish("tall")
     page.says("findings", "K1")
     requests = [json.loads(row["message"])["message"] for row in page.driver.get_log("performance")]

@@ -1,5 +1,5 @@
 // A change of what stands at the server. It is sent once, with the staff's key, and whatever comes back is told as what it is.
-const NAMES = new Set(["not_staff", "bad_body", "no_such_feature", "history_full", "folder_fault", "rejected", "want_of_memory"]);
+const NAMES = new Set(["not_staff", "bad_body", "no_such_profile", "no_such_feature", "history_full", "folder_fault", "rejected", "want_of_memory"]);
 
 /** Whether a text can be a key: 8 to 128 bytes from 0x21 to 0x7E. */
 export const isKey = (text) => /^[!-~]{8,128}$/.test(text);

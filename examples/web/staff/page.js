@@ -8,21 +8,22 @@ import { readIcons } from "../draw.js";
 import { drawAnew, drawLevels, drawNews, fit, listenToMap, ordinals, showLevel, shown } from "../map.js";
 import { indexPlaces, listenToField, placeAt, search, titleAt, titleOfPlace } from "../search.js";
 import { isKey, send } from "./change.js";
+import { ALL, closedBy, inWords, isForAllOf, isForSomeOf, less, nameOf, standing } from "./whom.js";
 import { showFindings } from "./findings.js";
 
 const EVERY = 2_000, SOON = 3_000, RARELY = 60_000, SLOW = 4_000, TAP_AGAIN = 600, MOST_TOLD = 6, MOST_DOORS = 12, MOST_VERSIONS = 200, MOST_COMPARED = 5_000;
 const PATIENCE = { key: 15_000, closures: 60_000, publish: 600_000 };
-const PROFILES = ["wheelchair", "walk"];
 const $ = (id) => document.getElementById(id);
 
-// What is chosen, what is on its way, and what is known. The key stands here alone.
-const state = { key: "", picked: null, choices: [], place: null, isAsked: false, armed: 0, sending: null, meaning: null, turn: 0, folders: [], entrances: null, rules: {}, isPublishAsked: false,
+// What is chosen and for whom, what is on its way, and what is known. The key stands here alone.
+const state = { key: "", picked: null, choices: [], whom: ALL, closes: true, place: null, isAsked: false, armed: 0, sending: null, closed: new Map(), meaning: null, turn: 0, folders: [], entrances: null, rules: {}, isPublishAsked: false,
   versions: [], own: new Set(), gone: [], isOther: false, compared: 0, silent: null, faults: [], told: {} };
 
-const isClosed = (id) => server.closures.closures.includes(id);
+const closedFor = (id) => state.closed.get(id);
 const write = (id, text) => { if ($(id).textContent !== text) $(id).textContent = text; };
+const tellAgain = (id, key, values) => write(id, say(key, { ...values, who: values.whom && inWords(values.whom) }));
 /** Tells a sentence at a place of the page, in the language of then, and again in another one. */
-const tell = (id, key = null, values = {}) => { state.told[id] = key && [key, values]; write(id, key ? say(key, values) : ""); };
+const tell = (id, key = null, values = {}) => { state.told[id] = key && [key, values]; key ? tellAgain(id, key, values) : write(id, ""); };
 
 // ---- The key
 
@@ -93,8 +94,8 @@ async function choose(id) {
   if (at) fit([at[0] - 2_500, at[1] - 2_500, at[0] + 2_500, at[1] + 2_500]);
 }
 
-function pick(id, choices, isAsked = false) {
-  Object.assign(state, { picked: id, choices, isAsked, armed: performance.now() + TAP_AGAIN });
+function pick(id, choices, more = {}) {
+  Object.assign(state, { picked: id, choices, whom: ALL, closes: true, isAsked: false, armed: performance.now() + TAP_AGAIN }, more);
   tell("told");
   tell("news");
   askMeaning();
@@ -108,26 +109,54 @@ const choiceTitle = (id) => {
   return it?.type === "relationship" ? say("the.ride", { title }) : it && isPassage(it) ? say("only.place", { title }) : title;
 };
 
-/** The card of what is chosen: what it is, how it stands, what a change would mean, and the buttons of the change. */
+/** Takes the other one of closing and opening where the one would change nothing for those who are chosen. */
+function settle() {
+  const { picked, closes, whom, sending } = state, its = closedFor(picked);
+  if (!sending && (closes ? isForAllOf(its, whom) : !isForSomeOf(its, whom))) Object.assign(state, { closes: !closes, isAsked: false });
+}
+
+/** The card of what is chosen: what it is, how it stands, for whom it is to change, what that would mean, and the buttons of the change. */
 function drawCard() {
-  const id = state.picked, isShut = isClosed(id), isSent = Boolean(state.sending), focused = document.activeElement?.id;
+  const { picked: id, whom, closes, isAsked } = state, its = closedFor(id), isSent = Boolean(state.sending), focused = document.activeElement?.id;
   $("card").hidden = !id;
   if (!id) return;
   write("picked", titleWithLevel(id));
-  write("stands", say(isShut ? "stands.closed" : "stands"));
-  $("stands").className = isShut ? "shut" : "";
+  write("stands", upper(standing(its)));
+  $("stands").className = its ? "shut" : "";
   $("choices").hidden = state.choices.length < 2;
   $("choice").replaceChildren(...state.choices.map((it) => make("option", { value: it }, choiceTitle(it))));
   $("choice").value = id;
-  $("choice").disabled = isSent;
-  const verb = isShut ? "open" : "close";
-  write("act", say(verb));
-  write("sure", isSent ? say("sent") : say(state.meaning?.text ? `${verb}.sure` : `${verb}.blind`));
-  $("act").hidden = state.isAsked;
-  $("sure").hidden = $("dont").hidden = !state.isAsked;
+  $("choice").disabled = $("whom").disabled = isSent;
+  drawWhom(its);
+  const verbs = closes ? ["close", "open"] : ["open", "close"], words = (key) => upper(say(key, { who: inWords(whom) }));
+  for (const [k, button] of ["act", "other"].entries()) write(button, words(verbs[k]));
+  write("sure", isSent ? say("sent") : words(`${verbs[0]}.${state.meaning?.text ? "sure" : "blind"}`));
+  $("act").hidden = isAsked;
+  $("other").hidden = isAsked || isForAllOf(its, whom) || !isForSomeOf(its, whom);
+  $("sure").hidden = $("dont").hidden = !isAsked;
   $("sure").setAttribute("aria-disabled", String(isSent));
   $("dont").disabled = isSent;
-  if (["act", "sure", "dont"].includes(focused) && ($(focused).hidden || $(focused).disabled)) (state.isAsked ? $("sure") : $("act")).focus();
+  if (["act", "other", "sure", "dont"].includes(focused) && ($(focused).hidden || $(focused).disabled)) (isAsked ? $("sure") : $("act")).focus();
+}
+
+/** The choice for whom: everyone, or some of the profiles that the page or the server has. */
+function drawWhom(its) {
+  const { whom } = state, profiles = [...new Set([site.profiles, whom, its].filter(Array.isArray).flat())], titles = [say("everyone"), ...profiles.map((it) => upper(nameOf(it)))];
+  if ($("whom").textContent !== [say("whom"), ...titles].join("")) {
+    $("whom").querySelectorAll("label").forEach((it) => it.remove());
+    $("whom").append(...titles.map((title, k) => make("label", {}, make("input", { type: "checkbox", value: profiles[k - 1] ?? "", change: takeWhom }), make("span", {}, title))));
+  }
+  $("whom").querySelectorAll("input").forEach((it, k) => { it.checked = k ? whom !== ALL && whom.includes(it.value) : whom === ALL; });
+}
+
+/** Whoever chooses everyone chooses no profile beside, and whoever chooses none chooses everyone. */
+function takeWhom({ target }) {
+  const [all, ...rest] = $("whom").querySelectorAll("input"), chosen = rest.filter((it) => it.checked).map((it) => it.value);
+  Object.assign(state, { whom: target === all || !chosen.length ? ALL : chosen, closes: true, isAsked: false });
+  tell("told");
+  askMeaning();
+  drawCard();
+  drawNews();
 }
 
 // ---- What it would mean
@@ -135,13 +164,19 @@ function drawCard() {
 let worker = null;
 
 function askMeaning() {
-  const closes = !isClosed(state.picked), { version, closures } = server.closures;
-  const why = state.isOther ? "meaning.other" : !state.entrances ? "meaning.unknown" : null;
-  state.meaning = state.picked ? { number: (state.turn += 1), version, closes, rows: {}, why, text: why } : null;
-  if (state.picked && !why) {
+  settle();
+  const { picked, whom, closes } = state, { version } = server.closures, isShut = (id, profile) => isForAllOf(closedFor(id), [profile]);
+  // Wheelchairs first, and those alone for whom it isn't so already.
+  const profiles = (whom === ALL ? site.profiles : whom).filter((it) => isShut(picked, it) !== closes).sort((one, other) => (other === "wheelchair") - (one === "wheelchair"));
+  const why = state.isOther ? "meaning.other" : !state.entrances ? "meaning.unknown" : profiles.length ? null : "meaning.failed";
+  state.meaning = picked ? { number: (state.turn += 1), version, closes, profiles, rows: {}, why, text: why } : null;
+  if (picked && !why) {
     worker ??= listenToWorker(new Worker(new URL("reach.js", import.meta.url), { type: "module" }));
     const data = new URL(`data/${site.mark}/`, document.baseURI).href;
-    for (const profile of PROFILES) worker.postMessage({ number: state.meaning.number, data, profile, entrances: state.entrances, closed: closures, feature: state.picked, closes });
+    for (const profile of profiles) {
+      const before = [...state.closed.keys()].filter((it) => isShut(it, profile)), after = closes ? [...before, picked] : before.filter((it) => it !== picked);
+      worker.postMessage({ number: state.meaning.number, data, profile, entrances: state.entrances, before, after, feature: picked });
+    }
   }
   drawMeaning();
 }
@@ -153,7 +188,7 @@ function listenToWorker(made) {
     if (data.number !== state.meaning?.number) return;
     if (data.wrong) return fail();
     state.meaning.rows[data.profile] = data;
-    if (PROFILES.every((profile) => profile in state.meaning.rows)) state.meaning.text = "meaning.of";
+    if (state.meaning.profiles.every((profile) => profile in state.meaning.rows)) state.meaning.text = "meaning.of";
     drawMeaning();
     drawCard();
     drawNews();
@@ -175,12 +210,15 @@ function drawMeaning() {
   const { meaning } = state;
   if (!meaning) return $("meaning").replaceChildren();
   const lineOf = (profile) => {
-    const { isWithout, lost, gained } = meaning.rows[profile], its = meaning.closes ? lost : gained, key = `${meaning.closes ? "lost" : "gained"}.${profile}`;
-    return isWithout ? say("meaning.without") : its.length ? upper(say(key, { names: namesOf(its) })) : say(`${key}.none`);
+    const { isWithout, lost, gained } = meaning.rows[profile], its = meaning.closes ? lost : gained, key = `${meaning.closes ? "lost" : "gained"}.${profile === "wheelchair" ? profile : "other"}`, who = nameOf(profile);
+    return isWithout ? say("meaning.without", { who }) : upper(its.length ? say(key, { names: namesOf(its), who }) : say(`${key}.none`, { who }));
   };
-  const lines = meaning.text === "meaning.of" ? PROFILES.map(lineOf) : [], end = say(meaning.text ?? "meaning", { version: meaning.version });
-  $("meaning").replaceChildren(...lines.map((line, k) => make("p", { class: meaning.rows[PROFILES[k]].lost?.length && meaning.closes ? "cut" : null }, line)), make("p", { class: "note" }, end));
+  const isOf = meaning.text === "meaning.of", cut = isOf ? cutOff(meaning) : [], lines = isOf ? meaning.profiles.map((it) => make("p", { class: cut.length && meaning.rows[it].lost?.length ? "cut" : null }, lineOf(it))) : [];
+  $("meaning").replaceChildren(...lines, make("p", { class: "note" }, `${cut.length ? `${say("shades")} ` : ""}${say(meaning.text ?? "meaning", { version: meaning.version })}`));
 }
+
+/** What a closing would cut off for any of those that it is computed for. */
+const cutOff = ({ closes, profiles, rows }) => (closes ? profiles.flatMap((it) => rows[it]?.lost ?? []) : []);
 
 // ---- The map
 
@@ -190,12 +228,10 @@ const show = async (ordinal) => {
 };
 
 function newsOf(ordinal) {
-  const here = (ids) => ids.map((id) => features.get(id)).filter((it) => it && it.ordinal === ordinal && it.point), endsOf = (id) => features.get(id)?.ends ?? [id];
-  const closed = here(server.closures.closures.flatMap(endsOf)), { meaning } = state;
-  const reached = here((meaning?.closes && meaning.rows.wheelchair?.lost) || []).filter((it) => it.rings);
-  const mark = (picture, look, text) => (it) => ({ it, point: it.point, picture, text: text ?? titleOf(it), rank: 0, look });
-  const its = state.picked && features.get(state.picked);
-  return { closed, reached, lines: [], marks: [...here(its ? endsOf(state.picked) : []).map(mark("place", "from", its && titleOf(its))), ...closed.map(mark("closed", "shut", say("closed")))] };
+  const here = (ids) => ids.map((id) => features.get(id)).filter((it) => it && it.ordinal === ordinal && it.point), endsOf = (id) => features.get(id)?.ends ?? [id], { closed, picked, meaning } = state;
+  const reached = here(meaning ? [...new Set(cutOff(meaning))] : []).filter((it) => it.rings), marksOf = (id, picture, look, text) => here(endsOf(id)).map((it) => ({ it, point: it.point, picture, text, rank: 0, look }));
+  const its = features.get(picked), shut = [...closed].flatMap(([id, whom]) => marksOf(id, "closed", "shut", whom === ALL ? say("closed") : upper(standing(whom))));
+  return { closed: here([...closed.keys()].flatMap(endsOf)), reached, lines: [], marks: [...(its ? marksOf(picked, "place", "from", titleOf(its)) : []), ...shut] };
 }
 
 // ---- Changes
@@ -231,16 +267,15 @@ async function change(path, body, place, told, wait) {
 const clockOf = (time) => clock(time, true);
 
 async function closeOrOpen() {
-  const id = state.picked, closed = !isClosed(id), title = $("picked").textContent, how = say(closed ? "is.closed" : "is.open");
+  const { picked: id, whom, closes } = state, title = $("picked").textContent;
   if (performance.now() < state.armed || state.sending) return;
-  const came = await change("/v1/closures", { feature: id, closed }, "told", "sent.at", PATIENCE.closures);
+  const came = await change("/v1/closures", { feature: id, closed: closes, ...(whom === ALL ? {} : { profiles: whom }) }, "told", "sent.at", PATIENCE.closures);
   if (!came) return;
-  const { version } = came.told ?? server.closures, stands = isClosed(id) === closed;
-  if (came.is === "done") tell("told", (came.told.changed ? ["open.done", "closed.done"] : ["open.was", "closed.was"])[Number(closed)], { title, version });
-  if (came.is === "lost") tell("told", stands ? "lost.stands" : "lost.not", { title, version: server.closures.version, how: stands ? how : say(closed ? "is.open" : "is.closed") });
-  if (came.is === "done" || (came.is === "lost" && stands)) {
+  const { version } = came.told ?? server.closures, its = closedFor(id), isSo = closes ? isForAllOf(its, whom) : !isForSomeOf(its, whom);
+  if (came.is === "done") tell("told", `${closes ? "closed" : "open"}.${came.told.changed ? "done" : "was"}`, { title, version, whom });
+  if (came.is === "lost") tell("told", isSo ? "lost.stands" : "lost.not", { title, version, how: standing(its) });
+  if (came.is === "done" || isSo) {
     state.isAsked = false;
-    state.gone = state.gone.filter(([it]) => it !== id);
     askMeaning();
   }
   drawAll();
@@ -250,20 +285,20 @@ async function closeOrOpen() {
 
 /** The list of what is closed, each with a button that opens it, and of what a restart has opened. */
 async function drawClosures() {
-  const ids = server.closures.closures;
-  await featuresOf([...ids, ...state.gone.map(([id]) => id)]).catch(note);
-  if (ids !== server.closures.closures) return;
-  const lists = JSON.stringify([ids.map(titleWithLevel), state.gone, spoken()]);
+  const { closed } = state;
+  await featuresOf([...closed.keys(), ...state.gone.map(([id]) => id)]).catch(note);
+  if (closed !== state.closed) return;
+  const rows = [...closed].map(([id, whom]) => [id, titleWithLevel(id), whom]), lists = JSON.stringify([rows, state.gone, spoken()]);
   if (lists === state.listed) return;
   state.listed = lists;
   const focused = [...$("closures").querySelectorAll("button")].indexOf(document.activeElement);
   const button = (key, name, click) => make("button", { type: "button", "aria-label": say(key, { name }), click }, say(key, { name: "" }).trim());
-  const go = (id) => async () => { if (!state.sending) { const it = features.get(id); await show(it?.ordinal ?? site.levels[it?.levels?.[0]]?.ordinal ?? shown.ordinal); pick(id, [id], true); $("sure").focus(); } };
-  $("closures").replaceChildren(...(ids.length ? ids.map((id) => make("li", {}, make("span", {}, titleWithLevel(id)), make("small", {}, say("for.all")), button("open.it", titleWithLevel(id), go(id)))) : [make("li", { class: "hint" }, say("none.closed"))]));
+  const go = (id, whom, closes) => async () => { if (!state.sending) { const it = features.get(id); await show(it?.ordinal ?? site.levels[it?.levels?.[0]]?.ordinal ?? shown.ordinal); pick(id, [id], { whom, closes, isAsked: true }); $("sure").focus(); } };
+  $("closures").replaceChildren(...(rows.length ? rows.map(([id, name, whom]) => make("li", {}, make("span", {}, name), make("small", {}, inWords(whom)), button("open.it", name, go(id, whom, false)))) : [make("li", { class: "hint" }, say("none.closed"))]));
   $("gone").hidden = !state.gone.length;
-  $("gone").replaceChildren(...state.gone.map(([id, name]) => make("li", {}, make("span", {}, say("gone", { name })), button("close.again", name, go(id)),
+  $("gone").replaceChildren(...state.gone.map(([id, name, whom]) => make("li", {}, make("span", {}, say("gone", { name, who: inWords(whom) })), button("close.again", name, go(id, whom, true)),
     make("button", { type: "button", "aria-label": `${say("leave")}: ${name}`, click: () => { state.gone = state.gone.filter(([it]) => it !== id); drawClosures(); } }, say("leave")))));
-  if (focused >= 0) ($("closures").querySelectorAll("button")[Math.min(focused, ids.length - 1)] ?? $("closures-title")).focus();
+  if (focused >= 0) ($("closures").querySelectorAll("button")[Math.min(focused, rows.length - 1)] ?? $("closures-title")).focus();
   drawNews();
 }
 
@@ -316,26 +351,27 @@ async function publish() {
 /** Takes what the server says is closed, and notes which version it is and what has changed since the last. A version that isn't above the last one is that of
     a server that began anew. */
 async function take(told) {
-  const { version, closures } = server.closures, lost = closures.filter((id) => !told.closures.includes(id)), found = told.closures.filter((id) => !closures.includes(id));
-  if (told.version === version && !lost.length && !found.length) return false;
-  await featuresOf([...lost, ...found]).catch(note);
-  const titles = (ids) => ids.map((id) => titleWithLevel(id)), isAnew = told.version <= version;
-  state.titles = new Map([...(state.titles ?? []), ...[...lost, ...found].map((id) => [id, titleWithLevel(id)])]);
+  const { version } = server.closures, before = state.closed, now = closedBy(told.closures), ids = [...new Set([...before.keys(), ...now.keys()])];
+  const [opened, closed] = [[before, now], [now, before]].map(([one, other]) => ids.map((id) => [id, less(one.get(id), other.get(id))]).filter(([, whom]) => whom.length));
+  if (told.version === version && !opened.length && !closed.length) return false;
+  await featuresOf([...opened, ...closed].map(([id]) => id)).catch(note);
+  const titled = (its) => its.map(([id, whom]) => [titleWithLevel(id), whom]), isAnew = told.version <= version;
+  state.titles = new Map([...(state.titles ?? []), ...[...opened, ...closed].map(([id]) => [id, titleWithLevel(id)])]);
   if (isAnew) {
     state.own.clear();
-    state.gone = lost.map((id) => [id, titleWithLevel(id)]);
+    state.gone = opened.map(([id]) => [id, titleWithLevel(id), before.get(id)]);
   }
-  state.gone = state.gone.filter(([id]) => !told.closures.includes(id));
-  state.versions.unshift({ version: told.version, from: version && !isAnew ? version + 1 : told.version, time: Date.now(), isFirst: !version, isAnew, closed: titles(found), opened: titles(lost), count: told.closures.length, isOwn: state.own.has(told.version) });
+  state.gone = state.gone.filter(([id, , whom]) => !isForAllOf(now.get(id), whom));
+  state.versions.unshift({ version: told.version, from: version && !isAnew ? version + 1 : told.version, time: Date.now(), isFirst: !version, isAnew, closed: titled(closed), opened: titled(opened), count: now.size, isOwn: state.own.has(told.version) });
   state.versions.length = Math.min(state.versions.length, MOST_VERSIONS);
-  server.closures = told;
+  [server.closures, state.closed] = [told, now];
   return true;
 }
 
 function versionInWords({ version, from, isFirst, isAnew, closed, opened, count, isOwn }) {
   if (isFirst) return say("was.opened", { n: count });
   if (isAnew) return say("was.restarted");
-  const changes = [...(closed.length ? [say("was.closed", { names: list(closed) })] : []), ...(opened.length ? [say("was.open", { names: list(opened) })] : [])];
+  const changes = [["was.closed", closed], ["was.open", opened]].filter(([, its]) => its.length).map(([key, its]) => say(key, { names: list(its.map(([title, whom]) => (whom === ALL ? title : `${title} ${inWords(whom)}`))) }));
   return [...(changes.length ? changes : from === version ? [say("was.published")] : []), ...(from < version ? [say("was.between")] : []), ...(isOwn ? [say("was.own")] : [])].join(" ");
 }
 
@@ -437,7 +473,7 @@ function tellPage(language) {
   tellElements(language);
   const name = (site.name && label(site.name, site.language)?.text) || (site.folder ? upper(site.folder) : "");
   $("venue").textContent = document.title = name ? say("staff.of", { name }) : say("staff");
-  for (const [id, it] of Object.entries(state.told)) if (it) write(id, say(...it));
+  for (const [id, it] of Object.entries(state.told)) if (it) tellAgain(id, ...it);
   if (site.mark) drawLevels(make, icon, show);
 }
 
@@ -493,8 +529,13 @@ const askFirst = (place) => (event) => {
 $("key-form").addEventListener("submit", (event) => { event.preventDefault(); takeKey(); });
 $("key-forget").addEventListener("click", () => forgetKey());
 $("form").addEventListener("submit", (event) => event.preventDefault());
-$("choice").addEventListener("change", ({ target }) => pick(target.value, state.choices));
+$("choice").addEventListener("change", ({ target }) => pick(target.value, state.choices, { whom: state.whom }));
 $("act").addEventListener("click", askFirst("isAsked"));
+$("other").addEventListener("click", (event) => {
+  state.closes = !state.closes;
+  askMeaning();
+  askFirst("isAsked")(event);
+});
 $("sure").addEventListener("click", closeOrOpen);
 $("dont").addEventListener("click", () => { state.isAsked = false; drawCard(); });
 $("publish-form").addEventListener("submit", askFirst("isPublishAsked"));
