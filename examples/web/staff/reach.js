@@ -67,7 +67,7 @@ function joined(table, entrances, closed) {
 /** What a change of this feature takes and gives for a profile, of what is closed for it before and after. */
 async function judge({ data, profile, entrances, before, after, feature }) {
   const table = await tableOf(data, profile), { numbers, nodes, roomsOf, out, into } = table;
-  const isOf = (id) => { const node = numbers.get(id); return node !== undefined && (roomsOf[node].length || out[node].length || into[node].length); };
+  const isOf = (id) => [roomsOf, out, into].some((its) => its[numbers.get(id)]?.length);
   if (!entrances.some(isOf)) return { isWithout: true };
   const [was, is] = [before, after].map((closed) => joined(table, entrances, new Set(closed)));
   const differ = (one, other) => nodes.filter((id, node) => one[node] && !other[node] && id !== feature);
