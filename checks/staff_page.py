@@ -91,7 +91,7 @@ class StaffPage(web_page.Page):
         it.send_keys(key, Keys.ENTER)
 
     def click(self, identifier):
-        self.driver.find_element(By.ID, identifier).click()
+        self.push(f"#{identifier}")
 
     def tap(self, name):
         self.script("document.getElementById('view').scrollIntoView({ block: 'nearest' })")
@@ -195,7 +195,7 @@ def closes_in_three_taps(page):
         page.script("document.querySelector('[data-ordinal=\"1\"]').click()")
         page.until("what would be cut off is shaded", lambda: page.drawn("level") == 1 and page.drawn("reached") >= 1)
         page.picture("staff-cut")
-        page.driver.find_element(By.CSS_SELECTOR, "#closures button").click()
+        page.push("#closures button")
         page.says("meaning", "No place would get a step-free way by it.")
         page.sure()
         page.says("told", "Lift, level 0 to 1 is open for everyone, as of version")
@@ -374,7 +374,7 @@ def publishes(page):
     page.says("findings", "1 finding", "K1: Each vertex of a unit lies on its level.", "unit.geojson, feature 7", "What to do about K1")
     page.check("what was chosen stays", page.value("folder") == "tall")
     page.until("the picture is there", lambda: page.script("return document.querySelector('#findings img').naturalWidth") == 1000)
-    page.driver.find_element(By.CSS_SELECTOR, "#findings li button").click()
+    page.push("#findings li button")
     page.until("the place is shown enlarged", lambda: "K1 unit.geojson 7 0" in page.script("return document.querySelector('#findings img').alt"))
     middle = page.script("const i = document.querySelector('#findings img').getBoundingClientRect(), l = document.querySelector('.lens').getBoundingClientRect(), z = i.width / 1000; return [(l.left + l.width / 2 - i.left) / z, (l.top + l.height / 2 - i.top) / z]")
     page.check(f"the ring is in the middle: {middle}", abs(middle[0] - 614.2) < 3 and abs(middle[1] - 94) < 3)
@@ -542,13 +542,13 @@ def tells_versions(page):
     page.says("closures", "Nothing is closed.")
     page.says("gone", "Lift, level 0 was closed for everyone before the server began anew, and isn't now.", "Ramp", "Stairs")
     page.picture("staff-anew")
-    page.driver.find_element(By.CSS_SELECTOR, "#gone button").click()
+    page.push("#gone button")
     page.says("meaning", "Not proved.")
     page.sure()
     page.says("told", "is closed for everyone, as of version 2.")
     page.until("what is closed again is gone from the list", lambda: page.count("#gone li") == 2)
     for _ in range(2):
-        page.driver.find_element(By.CSS_SELECTOR, "#gone li button:last-child").click()
+        page.push("#gone li button:last-child")
     page.until("what stays open is gone too", lambda: not page.driver.find_element(By.ID, "gone").is_displayed())
     page.reset()
 
