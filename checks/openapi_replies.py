@@ -124,7 +124,7 @@ def faults_of(document, schema, value, where="body", others_pass=False):
     tests = {"enum": lambda listed: value in listed, "const": lambda only: value == only,
              "pattern": lambda pattern: not isinstance(value, str) or re.search(pattern, value),
              "minimum": lambda least: value >= least, "maximum": lambda most: value <= most,
-             "minItems": lambda least: size >= least, "maxItems": lambda most: size <= most,
+             "minItems": lambda least: not isinstance(value, list) or size >= least, "maxItems": lambda most: not isinstance(value, list) or size <= most,
              "minProperties": lambda least: not isinstance(value, dict) or size >= least,
              "uniqueItems": lambda _: len({compact(item) for item in value}) == size, "required": lambda names: set(names) <= set(value)}
     faults = [f"{where}: {word} {schema[word]} doesn't hold of {value!r}" for word, test in tests.items() if word in schema and not test(schema[word])]
@@ -185,12 +185,17 @@ def targets(document, path, parameters):
 def bodies(document, operation):
     """Bodies with whether each is of its form."""
     content = operation["requestBody"]["content"]["application/json"]
-    schema, example = resolve(document, content["schema"]), next(iter(content["examples"].values()))["value"]
-    values = [example, example | {"nobodys": [1]}, [], 1, "x", None]
+    schema, examples = resolve(document, content["schema"]), [it["value"] for it in content["examples"].values()]
+    example = examples[0]
+    values = [*examples, example | {"nobodys": [1]}, [], 1, "x", None]
     for name, its_schema in schema["properties"].items():
         values.append({key: value for key, value in example.items() if key != name})
-        texts = probes(resolve(document, its_schema), example[name]) if isinstance(example[name], str) else ["true"]
-        values += [example | {name: other} for other in [None, 1, True, False, [], {}] + texts]
+        others = probes(resolve(document, its_schema), example[name]) if isinstance(example.get(name), str) else ["true"]
+        if "items" in its_schema:
+            item = next(it[name][0] for it in examples if name in it)
+            others += [[item] * count for count in (1, 2, its_schema["maxItems"], its_schema["maxItems"] + 1)]
+            others += [[item, other] for other in (None, 1, True, [], {}, "", "nobodys", item.upper())]
+        values += [example | {name: other} for other in [None, 1, True, False, [], {}] + others]
     yield from ((compact(value), not faults_of(document, schema, value, others_pass=True)) for value in values)
     yield from ((text, False) for text in ("", "{", compact(example) + "x", "\ufeff" + compact(example)))
 
@@ -253,6 +258,16 @@ def check_operation(document, program, bases, path, method, operation, parameter
     need(not unseen, f"{operation['operationId']}: listed, and no reply was {sorted(unseen, key=str)}")
 
 
+def check_closed(document, program, base):
+    """What is closed, for some and then for all: as it is answered, as a list, and as a place."""
+    lift, ramp = ("00000000-0000-4000-8000-000000000" + digits for digits in ("301", "024"))
+    bodies = [{"feature": lift, "closed": True, "profiles": ["wheelchair"]}, {"feature": ramp, "closed": True}]
+    asked = [request("get", "/v1/closures"), request("get", f"/v1/place/{lift}")]
+    sent = [it for body in bodies for it in [request("post", "/v1/closures", [KEY], compact(body)), *asked]]
+    schemas = [{"$ref": f"#/components/schemas/{name}"} for name in ("ClosureDone", "Closures", "Place")]
+    serve(document, program, base, {"200": {"content": {"application/json": {"schema": {"oneOf": schemas}}}}}, [(it, lambda status: status == "200") for it in sent])
+
+
 def check_others(document, program, base):
     """Other methods and other paths."""
     for path, item in document["paths"].items():
@@ -288,6 +303,7 @@ def main():
             bases = [make_base(folder, "any", ""), make_base(folder, "last", "\nlast_version = 1\n")]
             for path, method, operation, parameters in operations(document):
                 check_operation(document, program, bases, path, method, operation, parameters)
+            check_closed(document, program, bases[0])
             check_others(document, program, bases[0])
         unused = set(document["components"]["schemas"]) - used - NO_REPLY
         need(not unused, f"no reply was of the schemas {sorted(unused)}")

@@ -1,6 +1,6 @@
 #!/usr/bin/env python3
-"""Looks for ways through small venues made by arithmetic, with nothing closed by `route` and with closures by `session`, and compares each
-answer with plain rounds over the table of all links that `links` prints.
+"""Looks for ways through small venues made by arithmetic, with nothing closed by `route` and with closures for all and for some by `session`, and
+compares each answer with plain rounds over the table of all links that `links` prints, and each closure with sets of profiles.
 
 usage: random_ways.py [PROGRAM [VENUES [FIRST]]]   (without PROGRAM the launcher ./venue, which builds the program if need be)
 The venues have one to three levels of square rooms with doors in their walls, halls that lie over several rooms and share their doors,
@@ -20,6 +20,8 @@ HERE = os.path.dirname(os.path.abspath(__file__))
 KEY = "desk-key-1"
 ROOM = 10
 FREE = 10**18
+# Those of every settings, and one more.
+PROFILES = ["walk", "wheelchair", "pram"]
 
 
 def position(point):
@@ -133,7 +135,7 @@ def settings(draw):
     extras = draw.choice([(3000, 800, 2000, 1500), (0, 0, 0, 0), (1, 1, 1, 1)])
     names = ["elevator_extra", "escalator_extra", "ramp_extra", "stairs_extra"]
     text = "kx = 10000000\nky = 10000000\n" + "".join(f"{name} = {extra}\n" for name, extra in zip(names, extras))
-    return text + f'staff_keys = ["{KEY}"]\n'
+    return text + f'staff_keys = ["{KEY}"]\n[[profile]]\nname = "{PROFILES[2]}"\nelevator = true\nramp = true\nrevolving = true\n'
 
 
 def table_of(text):
@@ -159,6 +161,11 @@ def rounds(count, links, start):
                 costs[b] = costs[a] + cost
                 changed = True
     return costs
+
+
+def ordered(them):
+    """Names in the order of the profiles."""
+    return [name for name in PROFILES if name in them]
 
 
 class Check:
@@ -208,12 +215,14 @@ class Check:
         asked, requests = [], []
         for _ in range(12):
             if draw.random() < 0.4 and closables:
-                name, closed = draw.choice(closables), draw.random() < 0.8
-                body = json.dumps({"feature": name, "closed": closed})
+                name, closed = draw.choice(closables[:3] if draw.random() < 0.3 else closables), draw.random() < 0.8
+                # Some of them, one perhaps twice, or all by naming nobody.
+                names = None if draw.random() < 0.4 else draw.choices(PROFILES, k=draw.randint(1, 4))
+                body = json.dumps({"feature": name, "closed": closed} | ({} if names is None and draw.random() < 0.7 else {"profiles": names}))
                 requests.append(
                     f"POST /v1/closures HTTP/1.1\r\nhost: a\r\nx-staff-key: {KEY}\r\ncontent-length: {len(body)}\r\n\r\n{body}"
                 )
-                asked.append(("closure", name, closed))
+                asked.append(("closure", name, closed, names))
             else:
                 profile = draw.choice(sorted(tables))
                 nodes = tables[profile][0]
@@ -222,22 +231,38 @@ class Check:
                     f"GET /v1/route?from={a}&to={b}&profile={profile}&certificate=yes HTTP/1.1\r\nhost: a\r\n\r\n"
                 )
                 asked.append(("route", profile, a, b))
+        requests.append("GET /v1/closures HTTP/1.1\r\nhost: a\r\n\r\n")
+        asked.append(("closures",))
         status, text = self.run("session", self.base, "venue", stdin="".join(requests).encode())
         if status != 0:
             return self.wrong("session", status, text)
-        shut = set()
+        # For whom each feature is closed, and the version that stands.
+        shut, version = {}, 1
         for what in asked:
             head, _, text = text.partition(b"\r\n\r\n")
             size = int(head.split(b"content-length: ")[1].split(b"\r\n")[0])
             reply, text = json.loads(text[:size]), text[size:]
             if what[0] == "closure":
-                (shut.add if what[2] else shut.discard)(what[1])
-                if reply.get("closed") is not what[2]:
-                    self.wrong("closure", what, reply)
+                version += self.judge_closure(shut, version, what, reply)
+            elif what[0] == "closures":
+                rows = [name if len(shut[name]) == len(PROFILES) else {"feature": name, "profiles": ordered(shut[name])} for name in closables if shut.get(name)]
+                if reply != {"closures": rows, "version": version}:
+                    self.wrong("closures", rows, version, reply)
             else:
-                self.judge_reply(tables[what[1]], shut, what, reply)
+                self.judge_reply(tables[what[1]], {name for name in shut if what[1] in shut[name]}, what, reply)
         if text:
             self.wrong("session", "more bytes", text)
+
+    def judge_closure(self, shut, version, what, reply):
+        """Does the closure, and returns whether that changed anything."""
+        _, name, closed, names = what
+        before, them = shut.get(name, set()), set(PROFILES if names is None else names)
+        shut[name] = before | them if closed else before - them
+        changed = shut[name] != before
+        wanted = {"changed": changed, "closed": closed, "feature": name, "version": version + changed}
+        if reply != wanted | ({} if names is None else {"profiles": ordered(them)}):
+            self.wrong("closure", what, reply)
+        return changed
 
     def judge_reply(self, table, shut, what, reply):
         self.asked += 1
@@ -274,12 +299,12 @@ class Check:
         if status != 0:
             return self.wrong("check", status, text)
         tables = {}
-        for profile in ("walk", "wheelchair"):
+        for profile in PROFILES:
             _, text = self.run("links", self.base, "venue", profile)
             with open(os.path.join(self.base, "links.txt"), "wb") as file:
                 file.write(text)
             nodes, links = tables[profile] = table_of(text.decode())
-            for _ in range(4 if nodes else 0):
+            for _ in range(4 if nodes and profile != PROFILES[2] else 0):
                 self.judge_route(profile, nodes, links, draw.randrange(len(nodes)), draw.randrange(len(nodes)))
         closables = [row["id"] for kind in ("opening", "relationship", "unit") for row in venue.rows.get(kind, [])]
         if tables["walk"][0]:

@@ -63,8 +63,10 @@ def post(path, body):
     return f"POST {path} HTTP/1.1\r\nhost: a\r\nx-staff-key: desk-key-1\r\ncontent-length: {len(body)}\r\n\r\n{body}".encode()
 
 
-def closure(feature, closed=True):
-    return post("/v1/closures", f'{{"feature":"{feature}","closed":{str(closed).lower()}}}')
+def closure(feature, closed=True, profiles=""):
+    """A closure for all, or for profiles that are named, in quotation marks."""
+    named = f',"profiles":[{profiles}]' if profiles else ""
+    return post("/v1/closures", f'{{"feature":"{feature}","closed":{str(closed).lower()}{named}}}')
 
 
 def publish(folder):
@@ -77,7 +79,7 @@ WORKED = [
     closure(LIFT),
     closure(LIFT),
     route("wheelchair"),
-    closure(RAMP),
+    closure(RAMP, profiles='"wheelchair","wheelchair"'),
     route("wheelchair", "&certificate=yes"),
     route("walk"),
     publish("tall"),

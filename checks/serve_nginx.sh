@@ -54,6 +54,14 @@ head -c 65536 /dev/zero >"$work/large"
 compare 'a body of 65,536 bytes' "$(ask $staff closures -H "$key" --data-binary "@$work/large")" '{"error":"bad_body"} 400'
 printf x >>"$work/large"
 compare 'a large body' "$(ask $staff closures -H "$key" --data-binary "@$work/large")" '<html>*413'
+# Closures for some, in the order of members in which they are told, in the other one, and with names that are none.
+stairs='"feature":"00000000-0000-4000-8000-000000000022"'
+first=$(grep -c . "$work/venue-changes.log")
+compare 'a closing for some' "$(ask $staff closures -H "$key" -d "{$stairs,\"closed\":true,\"profiles\":[\"walk\"]}")" '{"changed":true,*,"profiles":\["walk"\],"version":6} 200'
+compare 'an opening for some' "$(ask $staff closures -H "$key" -d "{ \"closed\": false, $stairs, \"profiles\": [ \"wheelchair\" , \"walk\" ] }")" '{"changed":true,*,"profiles":\["walk","wheelchair"\],"version":7} 200'
+compare 'a closing for all by null' "$(ask $staff closures -H "$key" -d "{$stairs,\"closed\":true,\"profiles\":null}")" '{"changed":true,*,"version":8} 200'
+compare 'a name of nobody' "$(ask $staff closures -H "$key" -d "{$stairs,\"closed\":true,\"profiles\":[\"a\\\"} close\u000a\"]}")" '{"error":"no_such_profile"} 404'
+compare 'names that are none' "$(ask $staff closures -H "$key" -d "{$stairs,\"closed\":true,\"profiles\":[]}")" '{"error":"bad_body"} 400'
 # Each change so far, as the log tells it: address, key, what was asked and the status. No key stands there.
 logged() { # line
     sed -n "$1 s/.*\"address\":\"\([^\"]*\)\",\"key\":\"\([^\"]*\)\".*\"asked\":\"\(.*\)\",\"status\":\([0-9]*\)}/\1 \2 \3 \4/p" "$work/venue-changes.log"
@@ -65,6 +73,14 @@ compare 'the log of a rejected folder' "$(logged 5)" "$staff 0 publish tall 422"
 compare 'the log of a publication' "$(logged 6)" "$staff 0 publish station 200"
 compare 'the log of an opening' "$(logged 7)" "$staff 0 open $lift 200"
 compare 'the log of another body' "$(logged 8)" "$staff - body {*x*:1} 403"
+told=${stairs#*:}
+told=${told//\"/}
+compare 'the log of a closing for some' "$(logged $((first + 1)))" "$staff 0 close $told for *walk* 200"
+compare 'the log of an opening for some' "$(logged $((first + 2)))" "$staff 0 open $told for *wheelchair*,*walk* 200"
+compare 'the log of a closing by null' "$(logged $((first + 3)))" "$staff 0 close $told 200"
+compare 'the log of a name of nobody' "$(logged $((first + 4)))" "$staff 0 body {*profiles*:\\[*a*} close* 404"
+compare 'the log of names that are none' "$(logged $((first + 5)))" "$staff 0 body {*profiles*:\\[\\]} 400"
+compare 'the lines of the log are JSON' "$(python3 -c 'import json, sys; print(*{json.loads(line)["asked"] for line in sys.stdin}, sep="\n")' <"$work/venue-changes.log" | grep -a ' for ')" "*close $told for \"walk\"*"
 compare 'keys in logs and settings' "$(grep -rlF desk-key-1 "$work"/*.log "$work"/*.conf)" ''
 # The pages: those of visitors for all, that of staff for their network, and nothing of the base.
 mkdir -p "$work/site/folders"

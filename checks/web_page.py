@@ -1,7 +1,7 @@
 #!/usr/bin/python3
 """Opens the page of examples/web in a browser, as visitors with a phone and at a desk do, over a copy of the example station and a venue of fifty
-levels that `venue serve` serves behind nginx: ways by keyboard alone, what is closed meanwhile, replies with something exchanged, files that
-are missing or broken, two languages, a publication, print, and no network. And has check.js judge the made answers of compare_checkers.py,
+levels that `venue serve` serves behind nginx: ways by keyboard alone, what is closed meanwhile, for all or for some, replies with something
+exchanged, files that are missing or broken, two languages, a publication, print, and no network. And has check.js judge the made answers of compare_checkers.py,
 and replies with their certificates, beside the checkers in Python.
 
 usage: web_page.py [PROGRAM [large | LOOK ..]]   (without PROGRAM the launcher ./venue, which builds the program if need be)
@@ -45,7 +45,7 @@ EXAMPLES = os.path.join(TOP, "examples")
 PICTURES = os.path.join(TOP, "out", "pages")
 SIZES = {"phone": (390, 844), "desk": (1440, 900)}
 ID = "00000000-0000-4000-8000-{:0>12}"
-BAKERY, TICKETS, LIFT, RAMP, RESTROOM = (ID.format(digits) for digits in (51, 52, 301, 24, 31))
+BAKERY, TICKETS, LIFT, RAMP, STAIRS, RESTROOM = (ID.format(digits) for digits in (51, 52, 301, 24, 22, 31))
 TAG = "<script>window.bad = 1</script><b>"
 LONGEST = 90  # seconds after which no further look begins, so that a machine with much else to do is done in time too
 SLACK = 4  # how much longer a try may take here than it is to, on a machine that others use too
@@ -170,8 +170,8 @@ class Site:
         status, body = ask(self.server, path, change)
         assert status == 200, body
 
-    def close(self, feature, closed=True):
-        self.post("/v1/closures", {"feature": feature, "closed": closed})
+    def close(self, feature, closed=True, profiles=None):
+        self.post("/v1/closures", {"feature": feature, "closed": closed} | ({"profiles": profiles} if profiles else {}))
 
     def edit(self, path, old, new):
         text = read(path)
@@ -352,6 +352,45 @@ def goes_on_by_itself(page):
     page.driver.find_element(By.CSS_SELECTOR, "input[value=wheelchair]").send_keys(Keys.ARROW_LEFT)
     page.says("answer", "70 m", "15 m counted for the stairs", "Checked: no shorter way")
     for feature in (LIFT, RAMP):
+        page.site.close(feature, False)
+
+
+def is_closed_for_some(page):
+    """What is closed for wheelchairs alone leaves a walker's way as it is and leads a wheelchair's round, and the list says for whom."""
+    page.site.close(STAIRS, profiles=["walk"])
+    page.open(WHEELCHAIR.replace("wheelchair", "walk"))
+    page.says("answer", "60 m", "30 m counted for the lift", "Checked: no shorter way")
+    page.says("closures", "Closed now", "Stairs, level 0 to 1\nOnly for: On foot")
+    page.until("the sign of the stairs for a walker", lambda: page.drawn("closed") == 1)
+    page.site.close(LIFT, profiles=["wheelchair"])
+    page.says("closures", "Stairs, level 0 to 1\nOnly for: On foot\nLift, level 0\nOnly for: Wheelchair", seconds=15)
+    version = json.loads(ask(page.site.server, "/v1/version")[1])["version"]
+    page.until("the answer is of the new version", lambda: f"Version {version}," in page.script("return document.querySelector('#answer details').textContent"))
+    page.check("a walker's way stays", all(text in page.text("answer") for text in ("60 m", "Take the lift up to level 1", "Checked: no shorter way")))
+    page.check("no news, and no sign of the lift for a walker", not page.text("news") and page.drawn("closed") == 1)
+    page.picture("closed-for-wheelchairs-walk")
+    page.script("location.hash = arguments[0]", WHEELCHAIR)
+    page.says("answer", "120 m", "20 m counted for the ramp", "Checked: no shorter way without steps")
+    page.until("the sign of the lift for a wheelchair", lambda: page.drawn("closed") == 1 and page.drawn("lines") == 2)
+    page.picture("closed-for-wheelchairs")
+    page.site.close(LIFT, False, ["wheelchair"])
+    page.says("answer", "60 m", "30 m counted for the lift", seconds=15)
+    page.site.close(LIFT, profiles=["wheelchair"])
+    page.says("news", "Closed on your way: Lift, level 0. This is the new way.", seconds=15)
+    page.says("answer", "120 m")
+    page.site.close(LIFT)
+    page.until("closed for all it is told as such", lambda: page.text("closures").endswith("Only for: On foot\nLift, level 0"), 15)
+    page.site.between.change = lambda path, body: body.replace(b"profiles", b"profile") if path.startswith("/v1/closures") else body
+    page.open(WHEELCHAIR)
+    page.says("answer", "Not proved: what is closed isn't told in its form. No way is drawn.")
+    page.site.between.change = None
+    page.ask_again()
+    page.says("answer", "120 m", "Checked: no shorter way without steps")
+    page.speak("de-CH")
+    page.open(WHEELCHAIR)
+    page.says("closures", "Zurzeit gesperrt", "Treppe, Ebene 0 bis 1\nNur für: Zu Fuß")
+    page.speak("en-GB")
+    for feature in (STAIRS, LIFT):
         page.site.close(feature, False)
 
 
@@ -895,9 +934,9 @@ def made_replies(page):
     """Replies with their certificates, before and after closures, and beside each some with one number exchanged."""
     chance, places = random.Random(3), [31, 41, 42, 51, 52, 101, 107, 203, 300, 301, 305, 404]
     anchors = [[BAKERY, ID.format(41)], [TICKETS, ID.format(42)]]
-    for closed in ([], [LIFT], [LIFT, RAMP], [ID.format(305)]):
-        for feature in closed:
-            page.site.close(feature)
+    for closed in ({}, {LIFT: None}, {LIFT: None, RAMP: None}, {ID.format(305): None}, {LIFT: ["wheelchair"], STAIRS: ["walk"]}, {RAMP: ["walk", "wheelchair"], LIFT: ["walk"]}):
+        for feature, profiles in closed.items():
+            page.site.close(feature, profiles=profiles)
         closures = json.loads(ask(page.site.server, "/v1/closures")[1])
         for profile in ("walk", "wheelchair"):
             for _ in range(3):
@@ -998,8 +1037,8 @@ def take_looks(name, words, looks, make_page, make_site, longest):
 
 # What is looked at with a phone and at a desk, what says most first.
 LOOKS = {
-    "phone": [asks_by_keyboard, goes_on_by_itself, is_tapped],
-    "desk": [asks_by_keyboard, is_lied_to, judged_alike, has_all_sentences, tells_turns, refuses_in_words, goes_far, speaks_german, finds_places, hears_nothing, is_renewed, has_no_network,
+    "phone": [asks_by_keyboard, goes_on_by_itself, is_closed_for_some, is_tapped],
+    "desk": [asks_by_keyboard, is_lied_to, is_closed_for_some, judged_alike, has_all_sentences, tells_turns, refuses_in_words, goes_far, speaks_german, finds_places, hears_nothing, is_renewed, has_no_network,
              is_printed, reads_broken_files, fits_everywhere, looks_otherwise, tells_states, is_tapped, is_large],
 }
 

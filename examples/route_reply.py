@@ -89,6 +89,24 @@ def links_of_part(text, wanted):
                 yield other, member, cost, via
 
 
+def closed_for(rows, profile):
+    """The identifiers of what these rows of the closures close for a profile. A row that is a text is closed for all; else it is an object of a
+    feature and the profiles for which it is closed, of which there are some. A row of another form can't be judged."""
+    need(type(rows) is list, "closures")
+    closed = set()
+    for row in rows:
+        if type(row) is dict:
+            names = row.get("profiles")
+            need(set(row) == {"feature", "profiles"} and type(names) is list and names and all(type(name) is str for name in names), "closures")
+            feature, is_closed = row["feature"], profile in names
+        else:
+            feature, is_closed = row, True
+        need(type(feature) is str, "closures")
+        if is_closed:
+            closed.add(feature)
+    return closed
+
+
 def node_of(place, nodes, anchors):
     """The node at which a place is: its own, or that of its anchor."""
     node = place if place in nodes else anchors.get(place)
@@ -122,9 +140,9 @@ def check_none(reply, links, start, end):
 
 def check(reply, path, closures, occupants):
     need(reply["version"] == closures["version"], "version")
+    closed = closed_for(closures["closures"], reply["profile"])
     anchors = {place["id"]: place["properties"]["anchor_id"] for place in occupants}
     nodes, links = links_of_parts(path, reply) if os.path.isdir(path) else links_of(read(path))
-    closed = set(closures["closures"])
     links = [link for link in links if not closed & {link[0], link[1], link[3]}]
     start, end = (node_of(reply[key], nodes, anchors) for key in ("from", "to"))
     need(reply["result"] in ("route", "none"), "result")

@@ -1,6 +1,7 @@
 #!/bin/sh
 # Restarts the server and closes again what was closed, since its history lives in memory: reads /v1/closures, restarts the unit, waits until
-# the server answers, publishes FOLDER if it is named, and closes each feature. What staff change meanwhile is lost.
+# the server answers, publishes FOLDER if it is named, and closes each feature for those for whom it was closed. What staff change meanwhile is
+# lost.
 #
 # usage: STAFF_KEY=KEY restart.sh [AT [FOLDER]]
 # KEY is one of `staff_keys` in venue.toml; AT is where the server listens, http://127.0.0.1:7070 if left out; FOLDER was published last, where
@@ -19,14 +20,24 @@ post() { # path, body
     printf 'x-staff-key: %s\n' "${STAFF_KEY-}" | curl -s --max-time 600 -H @- -d "$2" -w ' %{http_code}' "$at/$1"
 }
 
+# Bodies as staff read them: the feature, and for whom where that isn't for all.
+told() { # bodies
+    printf '%s\n' "$*" | sed -e 's/{"feature":"\([^"]*\)","closed":true/\1/g' -e 's/,"profiles":\[\([^]]*\)]/ for \1/g' -e 's/[}"]//g'
+}
+
 reply=$(curl -sf --max-time 60 "$at/closures") || fail "$at doesn't answer, so nothing was restarted"
-closed=$(printf '%s' "$reply" | sed -n 's/^{"closures":\[\([^]]*\)\].*/\1/p' | tr '",' '  ')
+# Each row becomes the body that closes it again, and no row a space. An identifier has 36 characters and a profile's name at most 32, so they are
+# told apart; neither has a space or a brace.
+bodies=$(printf '%s\n' "$reply" | sed -n 's/^{"closures":\[\(.*\)\],"version":[0-9]*}$/\1 /p' |
+    sed -e 's/"[0-9a-f-]\{36\}"/{"feature":&,"closed":true}/g' -e 's/{"feature":\({[^}]*\)},"profiles"/\1,"profiles"/g' -e 's/},{/} {/g')
+[ -n "$bodies" ] || fail "$at doesn't tell what is closed, so nothing was restarted"
 # A body that asks for nothing tells whether the key is one: 400 where it is, else 403.
 case $(post closures '{}') in
     *400) ;;
     *) fail 'the staff key is refused, so nothing was restarted' ;;
 esac
-echo "restart: closed before:" $closed
+set -f # A body has brackets, which are no pattern of files.
+echo "restart: closed before:" $(told "$bodies")
 
 sh -c "${RESTART-systemctl restart venue}" || fail 'the restart failed'
 curl -sf -o /dev/null --max-time 60 --retry 60 --retry-delay 1 --retry-connrefused "$at/version" || fail "$at doesn't answer again"
@@ -37,9 +48,9 @@ if [ -n "$folder" ]; then
     echo "restart: $folder: $reply"
     case $reply in *200) ;; *) status=1 ;; esac
 fi
-for feature in $closed; do
-    reply=$(post closures "{\"feature\":\"$feature\",\"closed\":true}")
-    echo "restart: $feature: $reply"
+for body in $bodies; do
+    reply=$(post closures "$body")
+    echo "restart: $(told "$body"): $reply"
     case $reply in *200) ;; *) status=1 ;; esac
 done
 exit $status

@@ -145,7 +145,26 @@ function needLinks(parts, isOpen, isListed, valueOf, holds) {
   }
 }
 
-/** `proved`, or what fails of a reply to what was asked, over the table less what is closed at the same version. `parts` has by their names the parts
+/** A row of what is closed: `id`, and the names of the `profiles` for which it is, or null where it is for all. Null where it isn't of the form. */
+export function readRow(row) {
+  const isText = (it) => typeof it === "string";
+  if (isText(row)) return { id: row, profiles: null };
+  const { feature: id, profiles } = row ?? {}, isSome = Array.isArray(profiles) && profiles.length > 0 && profiles.every(isText);
+  return isText(id) && isSome && Object.keys(row).length === 2 ? { id, profiles } : null;
+}
+
+/** Whether such a row is closed for a profile. */
+export const isClosedFor = ({ profiles }, profile) => !profiles || profiles.includes(profile);
+
+/** The identifiers of what these rows close for a profile. A row that isn't of the form can't be judged. */
+function closedFor(rows, profile) {
+  need(Array.isArray(rows), "closures");
+  const read = rows.map(readRow);
+  need(read.every(Boolean), "closures");
+  return new Set(read.filter((row) => isClosedFor(row, profile)).map(({ id }) => id));
+}
+
+/** `proved`, or what fails of a reply to what was asked, over the table less what is closed for the profile at the same version. `parts` has by their names the parts
     that partsOf tells and `between`, and `anchors` the anchor of each occupant. The kind of a step stands in no table and isn't judged.
 
     Why these parts are enough: a node that the reply doesn't list has the potential `cost`, and isn't reached. So a link neither of whose ends is
@@ -153,9 +172,9 @@ function needLinks(parts, isOpen, isListed, valueOf, holds) {
 export function judgeReply(asked, reply, closures, table, parts, anchors) {
   return told(() => {
     const whole = (value) => Number.isSafeInteger(value) && value >= 0, list = (value) => (need(Array.isArray(value), "form"), value);
-    const { nodes, numbers, partOf } = table, closed = new Set(list(closures.closures)), shut = new Set([...closed].map((id) => numbers.get(id)));
-    const isOpen = (from, to, via) => !closed.has(via) && !shut.has(from) && !shut.has(to);
     need(whole(reply.version) && reply.version === closures.version, "version");
+    const { nodes, numbers, partOf } = table, closed = closedFor(closures.closures, reply.profile), shut = new Set([...closed].map((id) => numbers.get(id)));
+    const isOpen = (from, to, via) => !closed.has(via) && !shut.has(from) && !shut.has(to);
     need(["from", "to", "profile"].every((key) => reply[key] === asked[key]), "asked");
     const [start, end] = [asked.from, asked.to].map((place) => numbers.get(numbers.has(place) ? place : anchors.get(place)));
     need(start !== undefined && end !== undefined, "place");

@@ -29,7 +29,7 @@ export default {
     "table.unread": "The table of links can't be read ({stop}), so no way can be checked.", "table.mark": "The map is being renewed. Load the page again.",
     // Answers.
     "not.proved": "Not proved: {why}. No way is drawn.", "fails.version": "it isn't of the version that is closed as told", "fails.asked": "it is an answer to another question",
-    "fails.place": "the table of links doesn't know one of the two places", "fails.table": "the table of links is of another version of the venue", "fails.part": "a part of the table is missing", "fails.form": "it isn't of its form",
+    "fails.place": "the table of links doesn't know one of the two places", "fails.table": "the table of links is of another version of the venue", "fails.part": "a part of the table is missing", "fails.form": "it isn't of its form", "fails.closures": "what is closed isn't told in its form",
     "fails.potentials": "its potentials aren't whole numbers, one a place", "fails.step": "one of its steps is no link that is open", "fails.end": "its steps don't lead to the end",
     "fails.sum": "its steps don't add up to its cost", "fails.start": "it doesn't begin at the start", "fails.finish": "what it says of the end contradicts itself", "fails.link": "by its own numbers a shorter way may be there",
     "checked.walk": "Checked: no shorter way", "checked.wheelchair": "Checked: no shorter way without steps", "checked.other": "Checked: no shorter way for {profile}", "checked.none": "Checked: there is none",
@@ -40,7 +40,7 @@ export default {
     what: "What this means", "what.minutes": "Minutes are at 70 metres a minute. What the venue counts for lifts, stairs and ramps counts as walked, for the time and for which way is shorter.",
     "what.exact": "To the centimetre: {walked} walked, {cost} with what is counted.", "what.checked": "Checked: your browser itself went through the venue's table of links, less what is closed, and found no shorter way. The server isn't believed.",
     "what.believed": "Believed are the venue's plan and its table of links: that doors and lifts are where the plan has them, and that inside a room one goes in a straight line, unless the venue's settings say otherwise.", "what.version": "Version {version}, {time}.",
-    "closed.now": "Closed now", closed: "Closed", "closed.way": "Closed on your way: {what}.", "closed.other": "Something was opened or closed.", "new.way": "This is the new way.", "no.other": "There is no other way.", "level.range": "level {levels}", "to.range": "{from} to {to}", unknown: "Something that the map doesn't show",
+    "closed.now": "Closed now", "closed.for": "Only for: {names}", closed: "Closed", "closed.way": "Closed on your way: {what}.", "closed.other": "Something was opened or closed.", "new.way": "This is the new way.", "no.other": "There is no other way.", "level.range": "level {levels}", "to.range": "{from} to {to}", unknown: "Something that the map doesn't show",
     // Steps.
     "to.level": "To level {level}", "from.level": "From level {level}", door: "Door", "door.of": "Door: {rooms}", "the.door": "to the door", "the.door.of": "to the door of {name}", "to.name": "to {name}",
     begin: "Start at {name}.", left: "Turn left.", right: "Turn right.", back: "Turn round.", past: ", past {names},",

@@ -12,6 +12,8 @@ export const iconOf = (it) => (it?.category === "steps" ? "stairs" : isPassage(i
 export const labelOf = (it) => label(it?.name, site.language);
 export const noun = (it, form = 0) => nounOf(it.category)[form];
 export const signed = (ordinal) => String(ordinal).replace("-", "−");
+/** A profile's name: the page's own word, where it has one. */
+export const profileName = (profile) => (profile === "walk" || profile === "wheelchair" ? say(`profile.${profile}`) : upper(profile.replace(/[-_]/g, " ")));
 export const levelName = (ordinal) => say("level", { level: signed(ordinal) });
 
 export function levelTitle(ordinal) {

@@ -1,9 +1,9 @@
 // The page: it asks for ways, and draws and tells those alone that check.js proves.
-import { judgeReply } from "./check.js";
+import { isClosedFor, judgeReply } from "./check.js";
 import { chosenOf, clock, date, label, list, say, spoken, upper } from "./words.js";
 import { drawLanguages, icon, make, remembered, tellElements } from "./frame.js";
-import { Trouble, ask, features, featuresOf, isOfSite, keep, kept, levelOf, nodesOf, passagesOf, placesOf, readSite, sentence, server, site, tableFor, takeSite } from "./store.js";
-import { ALONG, iconOf, isPassage, labelOf, noun, signed, titleOf, titleWithLevel } from "./names.js";
+import { Trouble, ask, closedRows, features, featuresOf, isOfSite, keep, kept, levelOf, nodesOf, passagesOf, placesOf, readSite, sentence, server, site, tableFor, takeSite } from "./store.js";
+import { ALONG, iconOf, isPassage, labelOf, noun, profileName, signed, titleOf, titleWithLevel } from "./names.js";
 import { readIcons } from "./draw.js";
 import { drawAnew, drawLevels, drawNews, fit, listenToMap, ordinals, pictureOf, showLevel, shown } from "./map.js";
 import { indexPlaces, listenToField, placeAt, titleAt } from "./search.js";
@@ -17,8 +17,6 @@ const state = { from: null, to: null, profile: null, turn: 0, answer: null, faul
   shownAnswer: null, compared: { version: 0, time: Date.now() } };
 
 // ---- The words of the page around
-
-const profileName = (profile) => (profile === "walk" || profile === "wheelchair" ? say(`profile.${profile}`) : upper(profile.replace(/[-_]/g, " ")));
 
 /** Puts the page into a language: all that stands in it now, and all that is told from now on. */
 function tellPage(language) {
@@ -59,10 +57,13 @@ function drawLegend() {
 const show = (ordinal) => showLevel(ordinal).catch(note);
 const isHere = (it, ordinal) => it && it.ordinal === ordinal && it.point;
 
-/** What stands on a level beside its plan: what is closed, what can be reached, the way and its marks. */
+/** The identifiers of what these closures close for a profile. */
+const closedFor = (closures, profile) => closedRows(closures).filter((row) => isClosedFor(row, profile)).map(({ id }) => id);
+
+/** What stands on a level beside its plan: what is closed for who is on the way, what can be reached, the way and its marks. */
 function newsOf(ordinal) {
   const { answer } = state, here = (ids) => ids.map((id) => features.get(id)).filter((it) => isHere(it, ordinal));
-  const closed = here(server.closures.closures.flatMap((id) => features.get(id)?.ends ?? [id]));
+  const closed = here(closedFor(server.closures, state.profile).flatMap((id) => features.get(id)?.ends ?? [id]));
   const reached = here(answer?.reply.reached ?? []).filter((it) => it.rings);
   const steps = answer?.steps ?? [], lines = [], turns = [];
   for (const step of steps) {
@@ -190,7 +191,7 @@ async function showKept(asked, turn) {
 }
 
 function tellChange(before, answer) {
-  const closed = new Set(answer.closures.closures), isOther = JSON.stringify(before.reply.steps) !== JSON.stringify(answer.reply.steps);
+  const closed = new Set(closedFor(answer.closures, answer.asked.profile)), isOther = JSON.stringify(before.reply.steps) !== JSON.stringify(answer.reply.steps);
   const shut = [...new Set((before.legs ?? []).flatMap(({ from, via, to }) => [from, via, to]))].filter((id) => closed.has(id));
   const next = answer.line !== "proved" ? "" : ` ${say(answer.reply.result === "none" ? "no.other" : "new.way")}`;
   if (shut.length) $("news").textContent = `${say("closed.way", { what: shut.map(titleWithLevel).join("; ") })}${next}`;
@@ -286,11 +287,14 @@ function boxOn({ steps }, ordinal, step) {
   return [Math.min(...xs) - 500, Math.min(...ys) - 500, Math.max(...xs) + 500, Math.max(...ys) + 500];
 }
 
+/** What is closed, and for whom where that isn't for all. */
 async function drawClosures() {
-  const ids = server.closures.closures;
-  await featuresOf(ids).catch(note);
-  if (ids !== server.closures.closures) return;
-  $("closures").replaceChildren(...(ids.length ? [make("h2", {}, icon("closed"), say("closed.now")), make("ul", {}, ...ids.map((id) => make("li", {}, titleWithLevel(id))))] : []));
+  const { closures } = server.closures, rows = closedRows(server.closures);
+  await featuresOf(rows.map(({ id }) => id)).catch(note);
+  if (closures !== server.closures.closures) return;
+  const forWhom = (profiles) => (profiles ? make("small", {}, say("closed.for", { names: list(profiles.map(profileName)) })) : null);
+  const items = rows.map(({ id, profiles }) => make("li", {}, titleWithLevel(id), forWhom(profiles)));
+  $("closures").replaceChildren(...(rows.length ? [make("h2", {}, icon("closed"), say("closed.now")), make("ul", {}, ...items)] : []));
   drawNews();
 }
 
@@ -347,10 +351,11 @@ async function takeNewSite() {
   if (mark !== site.mark && !document.querySelector("[aria-expanded=true]")) location.reload();
 }
 
-/** Asks what is closed; where the version went on, the way is asked for anew, and whether the folder is still this site's. */
+/** Asks what is closed; where the version went on, the way is asked for anew, and whether the folder is still this site's. A list that is the same stays
+    the one that is held, which may be being drawn. */
 async function poll() {
-  const told = await ask("/v1/closures", {}, "closures"), isSame = String(told.closures) === String(server.closures.closures), isOther = told.version !== server.closures.version;
-  server.closures = told;
+  const told = await ask("/v1/closures", {}, "closures"), isSame = JSON.stringify(told.closures) === JSON.stringify(server.closures.closures), isOther = told.version !== server.closures.version;
+  server.closures = isSame ? { ...told, closures: server.closures.closures } : told;
   await isSiteOf(told.version);
   const isFailed = state.shownAnswer?.line && !state.answer;
   if (isOther || isFailed || Date.now() - state.compared.time > RARELY) await takeNewSite();

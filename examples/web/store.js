@@ -1,5 +1,5 @@
 // What is fetched: the files of the site, a level at a time, the parts of the tables, and the server's replies.
-import { readNodes, readPart, partsOf } from "./check.js";
+import { readNodes, readPart, readRow, partsOf } from "./check.js";
 import { say } from "./words.js";
 
 const PATIENCE = 15_000, TRIES = 3, MOST_FEATURES = 40_000, KEPT = "kept";
@@ -177,6 +177,9 @@ export async function ask(path, keys = {}, list = null) {
   server.version = Math.max(server.version, body.version);
   return body;
 }
+
+/** The rows of what is closed that are of the form. Where one isn't, no answer is proved, and the page says so. */
+export const closedRows = ({ closures }) => closures.map(readRow).filter(Boolean);
 
 /** Whether the server's places are those of this site, by their identifiers. */
 export async function isOfSite() {
