@@ -118,10 +118,14 @@ class StaffPage(web_page.Page):
         return [it.text for it in self.driver.find_elements(By.CSS_SELECTOR, "#whom :checked + span")]
 
     def choose_whom(self, *titles):
-        for it in self.driver.find_elements(By.CSS_SELECTOR, "#whom label"):
-            if (it.text in titles) != (it.text in self.chosen()):
-                it.find_element(By.TAG_NAME, "input").click()
-        self.until(f"{titles} are chosen", lambda: self.chosen() == list(titles))
+        """Taps what isn't chosen as it is to be, and waits for what the change would mean then."""
+        def taps():
+            for it in self.driver.find_elements(By.CSS_SELECTOR, "#whom label"):
+                if (it.text in titles) != (it.text in self.chosen()):
+                    it.find_element(By.TAG_NAME, "input").click()
+            return self.chosen() == list(titles)
+
+        self.until(f"{titles} are chosen", taps)
         self.says("meaning", "Not proved.")
 
     def buttons(self):
@@ -284,7 +288,7 @@ def closes_for_some(page):
         page.says("told", f"{title} is open for people on foot and wheelchairs, as of version")
         page.check("it was sent once", site.sent() == [{"feature": RIDE, "closed": False, "profiles": ["walk", "wheelchair"]}] and site.closures() == {STAIRS: ["walk"]})
         chair.says("answer", "60 m", "Checked: no shorter way without steps")
-    page.driver.find_element(By.CSS_SELECTOR, "#closures button").click()
+    page.push("#closures button")
     page.says("picked", "Stairs, level 0 to 1")
     page.check(f"the list opens it for the same: {page.chosen()}", page.chosen() == ["People on foot"] and page.buttons() == ["Open now for people on foot", "Don't"])
     page.sure()
@@ -339,6 +343,28 @@ def is_closed_by_keyboard(page):
     time.sleep(0.7)
     page.press(Keys.ENTER)
     page.says("told", "is open for everyone")
+    page.site.sent()
+    tab_to(page, "Wheelchairs")
+    page.press(Keys.SPACE)
+    page.until("wheelchairs are chosen alone", lambda: page.chosen() == ["Wheelchairs"])
+    page.says("meaning", "Not proved.")
+    page.check("the focus stays at the choice", page.focused() == "Wheelchairs")
+    tab_to(page, "act")
+    page.press(Keys.ENTER)
+    time.sleep(0.7)
+    page.press(Keys.ENTER)
+    page.says("told", "is closed for wheelchairs, as of version")
+    page.check("it was sent once, for wheelchairs", page.site.sent() == [{"feature": ID.format(105), "closed": True, "profiles": ["wheelchair"]}])
+    tab_to(page, "Everyone")
+    page.press(Keys.SPACE)
+    page.until("everyone is chosen", lambda: page.chosen() == ["Everyone"])
+    page.says("meaning", "Not proved.")
+    tab_to(page, "other")
+    page.press(Keys.ENTER)
+    page.until("the other button leads to the last one", lambda: page.focused() == "sure" and page.text("sure").startswith("Open now for everyone"))
+    time.sleep(0.7)
+    page.press(Keys.ENTER)
+    page.says("told", "is open for everyone")
     tab_to(page, "folder")
     page.press("tall")
     tab_to(page, "publish-act")
@@ -351,7 +377,7 @@ def is_closed_by_keyboard(page):
 
 
 def tab_to(page, name):
-    for _ in range(30):
+    for _ in range(60):
         page.press(Keys.TAB)
         if page.focused() == name:
             break
@@ -477,6 +503,7 @@ def loses_replies(page):
     page.click("sure")
     page.says("told", "is open for everyone, as of version", seconds=20)
     page.check("it was sent once, however often it was tapped", page.site.sent() == [{"feature": RIDE, "closed": False}])
+    loses_replies_for_some(page)
     silent = []
 
     def vanish(path, passes):
@@ -499,6 +526,29 @@ def loses_replies(page):
     page.publish("station")
     page.says("publish-told", "No reply came. Version", "stands as before.")
     page.reset()
+
+
+def loses_replies_for_some(page):
+    """It tells what stands for whom, also where another one closed it for others meanwhile."""
+    page.site.between.post = lambda path, passes: passes() and None
+    page.change_lift("Wheelchairs")
+    page.says("told", "No reply came. It stands all the same. At version", "Lift, level 0 to 1 is closed for wheelchairs.")
+    page.check("it was sent once", page.site.sent() == [{"feature": RIDE, "closed": True, "profiles": ["wheelchair"]}])
+    page.site.between.post = lambda path, passes: None
+    page.click("act")
+    page.sure()
+    page.says("told", "No reply came. At version", "Lift, level 0 to 1 is closed for wheelchairs. If it is still to be done, send it again.")
+    page.check("it is to be sent again for the same", page.buttons() == ["Open now for wheelchairs", "Don't"] and page.site.sent() == [{"feature": RIDE, "closed": False, "profiles": ["wheelchair"]}])
+    page.site.between.post = lambda path, passes: page.site.close(RIDE, profiles=["walk"])
+    page.click("sure")
+    page.says("told", "Lift, level 0 to 1 is closed for people on foot and wheelchairs. If it is still to be done, send it again.")
+    page.site.between.post = lambda path, passes: passes() and None
+    page.click("sure")
+    page.says("told", "It stands all the same. At version", "Lift, level 0 to 1 is closed for people on foot.")
+    page.site.between.post = None
+    page.site.close(RIDE, False)
+    page.says("stands", "Open")
+    page.site.sent()
 
 
 def has_no_network(page):
@@ -529,10 +579,21 @@ def tells_versions(page):
     page.says("history", "Closed: Lift, level 0.")
     page.site.close(RAMP)
     page.says("history", "Closed: Ramp, level 0 to 1.")
+    page.site.close(LIFT, False, ["wheelchair"])
+    page.says("history", "Opened, or gone by a publication: Lift, level 0 for wheelchairs.")
     page.site.close(LIFT, False)
-    page.says("history", "Opened, or gone by a publication: Lift, level 0.")
+    page.says("history", "Opened, or gone by a publication: Lift, level 0 for people on foot and delivery cart.")
+    page.site.close(LIFT, profiles=["wheelchair", "walk"])
+    page.says("history", "Closed: Lift, level 0 for people on foot and wheelchairs.")
+    page.site.close(LIFT, profiles=["delivery_cart"])
+    page.says("history", "Closed: Lift, level 0 for delivery cart.")
+    page.says("closures", "Lift, level 0\nfor everyone")
+    page.site.close(LIFT, False, ["delivery_cart"])
+    page.says("closures", "Lift, level 0\nfor people on foot and wheelchairs")
     with held(page):
         page.site.close(LIFT)
+        page.site.close(LIFT, False)
+        page.site.close(LIFT, profiles=["wheelchair"])
         page.site.close(STAIRS)
     page.says("history", "More may have changed in between.")
     page.site.post("/v1/publish", {"folder": "station"})
@@ -540,15 +601,24 @@ def tells_versions(page):
     page.site.begin_anew()
     page.says("history", "The server began anew.", seconds=20)
     page.says("closures", "Nothing is closed.")
-    page.says("gone", "Lift, level 0 was closed for everyone before the server began anew, and isn't now.", "Ramp", "Stairs")
+    page.says("gone", "Lift, level 0 was closed for wheelchairs before the server began anew, and isn't now.", "Ramp, level 0 to 1 was closed for everyone before", "Stairs")
     page.picture("staff-anew")
-    page.push("#gone button")
-    page.says("meaning", "Not proved.")
-    page.sure()
-    page.says("told", "is closed for everyone, as of version 2.")
-    page.until("what is closed again is gone from the list", lambda: page.count("#gone li") == 2)
-    for _ in range(2):
-        page.push("#gone li button:last-child")
+    page.site.close(LIFT, profiles=["walk"])
+    page.says("closures", "Lift, level 0\nfor people on foot")
+    page.check("closed for others it is told all the same", page.count("#gone li") == 3)
+    page.site.sent()
+    again = {"Lift, level 0": {"feature": LIFT, "closed": True, "profiles": ["wheelchair"]}, "Ramp, level 0 to 1": {"feature": RAMP, "closed": True}}
+    for title, body in again.items():
+        count = page.count("#gone li")
+        page.push(f"#gone [aria-label='Close {title} again']")
+        page.says("meaning", "Not proved.")
+        page.check(f"{title} is chosen for the same: {page.chosen()}", page.chosen() == (["Wheelchairs"] if "profiles" in body else ["Everyone"]))
+        page.sure()
+        page.says("told", f"{title} is closed for {'wheelchairs' if 'profiles' in body else 'everyone'}, as of version")
+        page.check(f"{title} is closed again for the same", page.site.sent() == [body])
+        page.until("what is closed again is gone from the list", lambda: page.count("#gone li") == count - 1)
+    page.check("nobody else is let in or kept out", page.site.closures() == {LIFT: ["walk", "wheelchair"], RAMP: None})
+    page.push("#gone li button:last-child")
     page.until("what stays open is gone too", lambda: not page.driver.find_element(By.ID, "gone").is_displayed())
     page.reset()
 
@@ -711,8 +781,10 @@ def is_read(page):
             page.check(f"contrast before it is sent: {wrong}", not wrong)
         page.picture("staff-" + ("-".join(look.values()) or "light"))
         named = [(node["role"]["value"], node.get("name", {}).get("value")) for node in page.tell("Accessibility.getFullAXTree")["nodes"] if not node.get("ignored") and "role" in node]
-        controls = [(role, name) for role, name in named if role in ("button", "textbox", "combobox", "listbox", "link", "progressbar", "image", "img", "form", "group", "region", "radio", "search")]
+        controls = [(role, name) for role, name in named if role in ("button", "textbox", "combobox", "listbox", "link", "progressbar", "image", "img", "form", "group", "region", "checkbox", "search")]
         page.check(f"each control has a name: {[it for it in controls if not it[1]]}", len(controls) > 15 and all(name for _, name in controls))
+        choices = [name for role, name in controls if role == "checkbox"]
+        page.check(f"the choice for whom is a group with a name: {choices}", ("group", "For whom") in controls and choices == ["Everyone", "People on foot", "Wheelchairs", "Delivery cart"])
     page.look()
     for width, height in ((1440, 900), (720, 450), (390, 844), (320, 640), (320, 225)):
         page.resize(width, height)
