@@ -114,6 +114,9 @@ class StaffPage(web_page.Page):
         self.click("act")
         self.sure()
 
+    def focused(self):
+        return self.script("const it = document.activeElement; return it.id || it.labels?.[0]?.textContent || it.textContent")
+
     def chosen(self):
         return [it.text for it in self.driver.find_elements(By.CSS_SELECTOR, "#whom :checked + span")]
 
@@ -396,7 +399,7 @@ def publishes(page):
     page.until("it shows that it goes on", lambda: page.driver.find_element(By.ID, "judging").is_displayed() and re.search(r"[1-9] s", page.text("elapsed")))
     page.check("its button tells that it is sent", page.text("publish-sure") == "Sent …")
     page.picture("staff-judging")
-    page.says("publish-told", "tall is rejected: it breaks rules, which stand below. Nothing was changed.")
+    page.says("publish-told", "tall is rejected: it breaks the rules below. Nothing was changed.")
     page.says("findings", "1 finding", "K1: Each vertex of a unit lies on its level.", "unit.geojson, feature 7", "What to do about K1")
     page.check("what was chosen stays", page.value("folder") == "tall")
     page.until("the picture is there", lambda: page.script("return document.querySelector('#findings img').naturalWidth") == 1000)
@@ -736,7 +739,7 @@ def has_all_sentences(page):
     """Each sentence of the page is there in both languages, and said; what is typed and what the page weighs."""
     page.open()
     names = re.findall('"([a-z_]+)"', re.search(r"NAMES = new Set\(\[(.*?)\]", read(os.path.join(WEB, "staff", "change.js")))[1])
-    built = {f"why.{name}" for name in names if name not in ("not_staff", "rejected")} | {f"{verb}.{how}" for verb in ("open", "close") for how in ("sure", "blind")}
+    built = {f"why.{name}" for name in names if name not in ("not_staff", "rejected")}
     built |= {f"{kind}.{profile}{end}" for kind in ("lost", "gained") for profile in ("wheelchair", "other") for end in ("", ".none")} | {"who.walk", "who.wheelchair"}
     texts = {name: read(os.path.join(WEB, name)) for folder in ("", "staff") for name in sorted(os.path.join(folder, it) for it in os.listdir(os.path.join(WEB, folder)))
              if name.endswith((".js", ".html")) and name not in ("en.js", "de.js", "staff/words.js")}

@@ -2,7 +2,7 @@
 import { icon, make } from "../frame.js";
 import { number, say } from "../words.js";
 
-const OPEN = 20, WIDE = 320; // findings of a rule that are shown at once; how much of the picture is shown round one, in its own pixels
+const OPEN = 20, WIDE = 320; // findings of a rule at once; how much of the picture round one, in its own pixels
 
 const nameOf = ({ rule, file, index, member }) => `${rule} ${file} ${index} ${member}`;
 

@@ -16,7 +16,7 @@ const PATIENCE = { key: 15_000, closures: 60_000, publish: 600_000 };
 const $ = (id) => document.getElementById(id);
 
 // What is chosen and for whom, what is on its way, and what is known. The key stands here alone.
-const state = { key: "", choices: [], whom: ALL, closes: true, armed: 0, turn: 0, closed: new Map(), gone: [], titles: new Map(), folders: [], rules: {}, versions: [], own: new Set(), isOther: false, compared: 0, faults: [], told: {} };
+const state = { key: "", choices: [], whom: ALL, closes: true, armed: 0, turn: 0, closed: new Map(), gone: [], titles: new Map(), folders: [], rules: {}, versions: [], own: new Set(), isOther: false, compared: 0, faults: new Set(), told: {} };
 
 const closedFor = (id) => state.closed.get(id);
 const write = (id, text) => { if ($(id).textContent !== text) $(id).textContent = text; };
@@ -389,7 +389,7 @@ function drawHistory() {
 
 function note(trouble) {
   if (trouble.key === "silent") hear(trouble);
-  else if (!state.faults.includes(sentence(trouble))) state.faults.push(sentence(trouble));
+  else state.faults.add(sentence(trouble));
   tellLive();
 }
 
@@ -440,7 +440,7 @@ async function compare() {
 async function renew(told) {
   takeSite(told);
   Object.assign(shown, { ordinal: null, levels: [] });
-  state.faults = [];
+  state.faults.clear();
   await readFolders();
   await begin();
   if (!state.picked) return;
@@ -511,7 +511,7 @@ async function begin() {
 
 async function start() {
   takeSite(await readSite());
-  state.faults = [];
+  state.faults.clear();
   await Promise.all([readIcons(), readFolders()]);
   await begin();
   await pollOnce();

@@ -74,7 +74,7 @@ learn({
   "folders.none": ["The operator named no folders for this page.", "Der Betreiber hat dieser Seite keine Ordner genannt."],
   published: ["{folder} is published, as version {version}. Visitors see its map once the operator has run site.py.", "{folder} ist veröffentlicht, als Version {version}. Besucher sehen die Karte, sobald der Betreiber site.py ausgeführt hat."],
   dropped: ["No longer closed, since the new folder doesn't have it: {names}.", "Nicht mehr gesperrt, da es der neue Ordner nicht hat: {names}."],
-  rejected: ["{folder} is rejected: it breaks rules, which stand below.", "{folder} ist abgelehnt: der Ordner verletzt die Regeln, die unten stehen."],
+  rejected: ["{folder} is rejected: it breaks the rules below.", "{folder} ist abgelehnt: der Ordner verletzt die Regeln hier unten."],
   "publish.moved": ["Version {version} stands, before it was {before}: the history tells what changed.", "Version {version} gilt, davor war es {before}: der Verlauf sagt, was sich geändert hat."],
   "publish.same": ["Version {version} stands as before.", "Version {version} gilt wie zuvor."],
   findings: [{ one: "{n} finding", other: "{n} findings" }, { one: "{n} Befund", other: "{n} Befunde" }],
