@@ -636,6 +636,26 @@ def held(page):
     time.sleep(0.1)
 
 
+def is_told_apart(page):
+    """For whom something is closed, as the page's rows, words and comparisons have it, beside sets of profiles."""
+    page.open()
+    everyone, some = ["walk", "wheelchair", "delivery_cart"], [["walk"], ["wheelchair", "delivery_cart"], ["walk", "wheelchair", "delivery_cart"]]
+    cases = [(these, those) for these in [None, "*", *some] for those in ["*", *some]]
+    rows = [LIFT, {"feature": RAMP, "profiles": ["walk"]}]
+    found = page.driver.execute_async_script("""const [cases, rows, done] = arguments; import('./staff/whom.js').then((whom) => done([[...whom.closedBy(rows)],
+        cases.map(([these, those]) => [whom.isSo(these ?? undefined, true, those), whom.isSo(these ?? undefined, false, those), whom.less(those, these ?? undefined)])]), String);""", cases, rows)
+    page.check(f"both forms of rows: {found[0]}", found[0] == [[LIFT, "*"], [RAMP, ["walk"]]])
+    beyond = "one whom the page doesn't know"  # Closed for all is more than closed for those that the page knows.
+    set_of = lambda its: set() if its is None else {*everyone, beyond} if its == "*" else set(its)
+    for (these, those), (closed, opened, rest) in zip(cases, found[1]):
+        one, other = set_of(these), set_of(those)
+        page.check(f"{these} {those}: {closed} {opened} {rest}", closed == (other <= one) and opened == (not other & one))
+        page.check(f"{those} less {these}: {rest}", (set_of(rest) - {beyond} == other - one - {beyond} or rest == "*") and bool(rest) == bool(other - one))
+    wrong = page.driver.execute_async_script("const done = arguments[0]; import('./staff/whom.js').then(({ closedBy }) => { try { done(closedBy([{ feature: 'x' }])); } catch (wrong) { done('refused'); } });")
+    page.check(f"a row of another form is none: {wrong}", wrong == "refused")
+    return [f"{len(cases)} sets of profiles told apart alike"]
+
+
 def is_computed_alike(page):
     """Which places a closing cuts off, as the page's worker says, beside what the printed tables say."""
     page.open()
@@ -835,7 +855,7 @@ def is_kept_secret(page):
 
 # What is looked at with a phone and at a desk, what says most first.
 PATHS = [closes_in_three_taps, closes_for_some, is_closed_by_keyboard, publishes, is_keyed, loses_replies, is_read, is_refused, tells_versions, has_no_network]
-LOOKS = {"phone": PATHS, "desk": [is_kept_secret, is_computed_alike, has_all_sentences, *PATHS, is_withheld, speaks_german]}
+LOOKS = {"phone": PATHS, "desk": [is_kept_secret, is_computed_alike, is_told_apart, has_all_sentences, *PATHS, is_withheld, speaks_german]}
 
 if __name__ == "__main__":
     sys.exit(web_page.take_looks("staff_page", sys.argv[1:], LOOKS, StaffPage, StaffSite, LONGEST))

@@ -235,7 +235,7 @@ const show = async (ordinal) => {
 
 function newsOf(ordinal) {
   const here = (ids) => ids.map((id) => features.get(id)).filter((it) => it?.ordinal === ordinal && it.point), endsOf = (id) => features.get(id)?.ends ?? [id], { closed, picked, meaning } = state;
-  const marksOf = (id, picture, look, text) => here(endsOf(id)).map((it) => ({ it, point: it.point, picture, text, rank: 0, look })), its = features.get(picked);
+  const marksOf = (id, picture, look, text) => here(endsOf(id)).map((it) => ({ it, point: it.point, picture, text, rank: Number(look === "shut"), look })), its = features.get(picked);
   const shut = [...closed].flatMap(([id, whom]) => marksOf(id, "closed", "shut", whom === ALL ? say("closed") : upper(howOf(whom))));
   const reached = here(meaning ? [...new Set(cutOff(meaning))] : []).filter((it) => it.rings);
   return { closed: here([...closed.keys()].flatMap(endsOf)), reached, lines: [], marks: [...(its ? marksOf(picked, "place", "from", titleOf(its)) : []), ...shut] };
