@@ -645,12 +645,13 @@ def is_told_apart(page):
     found = page.driver.execute_async_script("""const [cases, rows, done] = arguments; import('./staff/whom.js').then((whom) => done([[...whom.closedBy(rows)],
         cases.map(([these, those]) => [whom.isSo(these ?? undefined, true, those), whom.isSo(these ?? undefined, false, those), whom.less(those, these ?? undefined)])]), String);""", cases, rows)
     page.check(f"both forms of rows: {found[0]}", found[0] == [[LIFT, "*"], [RAMP, ["walk"]]])
-    beyond = "one whom the page doesn't know"  # Closed for all is more than closed for those that the page knows.
+    beyond = "a profile that the page doesn't know"  # So closed for all is more than closed for those that it knows.
     set_of = lambda its: set() if its is None else {*everyone, beyond} if its == "*" else set(its)
     for (these, those), (closed, opened, rest) in zip(cases, found[1]):
         one, other = set_of(these), set_of(those)
-        page.check(f"{these} {those}: {closed} {opened} {rest}", closed == (other <= one) and opened == (not other & one))
-        page.check(f"{those} less {these}: {rest}", (set_of(rest) - {beyond} == other - one - {beyond} or rest == "*") and bool(rest) == bool(other - one))
+        page.check(f"{these} {those}: {closed} {opened}", closed == (other <= one) and opened == (not other & one))
+        left = [it for it in everyone if it in other - one]
+        page.check(f"{those} less {these}: {rest}", rest == ("*" if other - one in (set_of("*"), {beyond}) else left))
     wrong = page.driver.execute_async_script("const done = arguments[0]; import('./staff/whom.js').then(({ closedBy }) => { try { done(closedBy([{ feature: 'x' }])); } catch (wrong) { done('refused'); } });")
     page.check(f"a row of another form is none: {wrong}", wrong == "refused")
     return [f"{len(cases)} sets of profiles told apart alike"]

@@ -2,7 +2,7 @@
 // profile less what is closed. It proves nothing.
 import { readNodes, readPart } from "../check.js";
 
-const tables = new Map(); // by the address of the profile's folder, of the publication that was asked for last
+const tables = new Map(); // by the address of the profile's folder, of the last publication
 
 async function read(address) {
   const reply = await fetch(address);
