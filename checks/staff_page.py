@@ -6,7 +6,7 @@ page beside it is led round a lift that is closed for who asks there. Of all req
 log or storage.
 
 usage: staff_page.py [PROGRAM [LOOK ..]]   (without PROGRAM the launcher ./venue, which builds the program if need be)
-With names of looks, as is_keyed, it takes these alone, and prints how long each took. Without, no look begins after three minutes, and the line says
+With names of looks, as is_keyed, it takes these alone, and prints how long each took. Without, no look begins after four minutes, and the line says
 which were left out. It prints one line, and ends with status 1 at a difference. Pictures of the page go to out/pages. Where chromium, its
 driver, nginx or Debian's python3-selenium is missing it says so, and ends with status 0.
 """
@@ -27,7 +27,7 @@ from web_page import EXAMPLES, ID, LIFT, RAMP, SIZES, WHEELCHAIR, By, Keys, apar
 KEY, RIDE, STAIRS = "desk-key-1", ID.format(21), ID.format(22)
 CART = '[[profile]]\nname = "delivery_cart"\nelevator = true\nramp = true\n'
 WEB = os.path.join(EXAMPLES, "web")
-LONGEST, MOST_BYTES = 180, 60_000
+LONGEST, MOST_BYTES = 240, 60_000
 WALK = WHEELCHAIR.replace("wheelchair", "walk")
 CROWDED = 15  # seconds in which a visitor is led round on a machine with more than twice as many processes to run as it has processors
 FOLDERS = ("station", "tall", "nolift")
@@ -116,6 +116,11 @@ class StaffPage(web_page.Page):
 
     def focused(self):
         return self.script("const it = document.activeElement; return it.id || it.labels?.[0]?.textContent || it.textContent")
+
+    def another(self, feature, closed=True, profiles=None):
+        """Another one closes a feature, or opens it, and the page asks at once."""
+        self.site.close(feature, closed, profiles)
+        self.nudge()
 
     def chosen(self):
         return [it.text for it in self.driver.find_elements(By.CSS_SELECTOR, "#whom :checked + span")]
@@ -257,6 +262,7 @@ def closes_for_some(page):
         page.check("it was sent once", site.sent() == [{"feature": RIDE, "closed": True, "profiles": ["wheelchair"]}])
         chair.says("answer", "120 m", "Checked: no shorter way without steps")
         version = json.loads(ask(site.server, "/v1/version")[1])["version"]
+        walker.nudge()
         walker.until("who walks hears of it", lambda: f"version {version}" in walker.text("live"))
         walker.check("and isn't led round", all(text in walker.text("answer") for text in ("60 m", "Take the lift up to level 1", "Checked: no shorter way")))
         page.says("closures", f"{title}\nfor wheelchairs\nOpen", "Stairs, level 0 to 1\nfor people on foot\nOpen")
@@ -273,6 +279,7 @@ def closes_for_some(page):
         page.check("for everyone nobody is named", site.sent() == [{"feature": RIDE, "closed": True}])
         page.says("history", f"Closed: {title} for people on foot and delivery cart. From this page.")
         page.says("closures", f"{title}\nfor everyone")
+        walker.nudge()
         walker.until("who walks is led round now", lambda: "lift" not in walker.text("answer") and "Checked: no shorter way" in walker.text("answer"))
         page.choose_whom("People on foot", "Delivery cart")
         page.check(f"closed for all, it can only be opened: {page.buttons()}", page.buttons() == ["Open for people on foot and delivery cart …"])
@@ -314,7 +321,7 @@ def stands_so(page):
     page.choose_whom("People on foot")
     page.click("act")
     page.check(f"it is to be opened: {page.buttons()}", page.buttons() == ["Open now for people on foot", "Don't"])
-    page.site.close(RIDE, False, ["walk"])
+    page.another(RIDE, False, ["walk"])
     page.until("another one has opened it", lambda: page.buttons() == ["Close for people on foot …"])
 
 
@@ -549,7 +556,7 @@ def loses_replies_for_some(page):
     page.click("sure")
     page.says("told", "It stands all the same. At version", "Lift, level 0 to 1 is closed for people on foot.")
     page.site.between.post = None
-    page.site.close(RIDE, False)
+    page.another(RIDE, False)
     page.says("stands", "Open")
     page.site.sent()
 
@@ -578,20 +585,20 @@ def tells_versions(page):
     """What others change goes by, and a server that begins anew is told with what was closed before."""
     page.open()
     page.says("history", "The page was opened, with 0 closed.")
-    page.site.close(LIFT)
+    page.another(LIFT)
     page.says("history", "Closed: Lift, level 0.")
-    page.site.close(RAMP)
+    page.another(RAMP)
     page.says("history", "Closed: Ramp, level 0 to 1.")
-    page.site.close(LIFT, False, ["wheelchair"])
+    page.another(LIFT, False, ["wheelchair"])
     page.says("history", "Opened, or gone by a publication: Lift, level 0 for wheelchairs.")
-    page.site.close(LIFT, False)
+    page.another(LIFT, False)
     page.says("history", "Opened, or gone by a publication: Lift, level 0 for people on foot and delivery cart.")
-    page.site.close(LIFT, profiles=["wheelchair", "walk"])
+    page.another(LIFT, profiles=["wheelchair", "walk"])
     page.says("history", "Closed: Lift, level 0 for people on foot and wheelchairs.")
-    page.site.close(LIFT, profiles=["delivery_cart"])
+    page.another(LIFT, profiles=["delivery_cart"])
     page.says("history", "Closed: Lift, level 0 for delivery cart.")
     page.says("closures", "Lift, level 0\nfor everyone")
-    page.site.close(LIFT, False, ["delivery_cart"])
+    page.another(LIFT, False, ["delivery_cart"])
     page.says("closures", "Lift, level 0\nfor people on foot and wheelchairs")
     with held(page):
         page.site.close(LIFT)
@@ -606,7 +613,7 @@ def tells_versions(page):
     page.says("closures", "Nothing is closed.")
     page.says("gone", "Lift, level 0 was closed for wheelchairs before the server began anew, and isn't now.", "Ramp, level 0 to 1 was closed for everyone before", "Stairs")
     page.picture("staff-anew")
-    page.site.close(LIFT, profiles=["walk"])
+    page.another(LIFT, profiles=["walk"])
     page.says("closures", "Lift, level 0\nfor people on foot")
     page.check("closed for others it is told all the same", page.count("#gone li") == 3)
     page.site.sent()
