@@ -8,6 +8,9 @@ use Rattle.venue_types.specs.declared.feature_id.FeatureId.{FeatureId}
 use Rattle.venue_types.specs.declared.link.Link.{Link}
 use Rattle.venue_types.specs.declared.link.LinkFacts.{LinkFacts}
 use Rattle.venue_types.specs.declared.link.Node.{Node}
+use Rattle.venue_types.specs.declared.profile_set.ProfileSet.{ProfileSet}
+use Rattle.venue_types.specs.ProfileSets.{has, nobody}
+use Rattle.venue_types.proofs.ProfileSetLemmas.{has_nobody}
 use Rattle.imdf_access.specs.declared.parts.EndFacts.{EndFacts}
 use Rattle.venue_nodes.specs.Identity.{is_same}
 use Rattle.venue_nodes.specs.Numbering.{number_among}
@@ -18,7 +21,7 @@ use Rattle.link_graph.specs.declared.parts.Core.{Core}
 use Rattle.link_graph.specs.declared.parts.Door.{Door}
 use Rattle.link_graph.specs.Cores.{IsSoundCore, ends_in, barred_in, network_in}
 use Rattle.link_graph.specs.Facts.{IsNodeClosed, IsWayClosed}
-use Rattle.link_graph.specs.Marking.{chosen, is_set}
+use Rattle.link_graph.specs.Marking.{chosen}
 use Rattle.link_graph.specs.Networks.{joined_facts, link_facts}
 use Rattle.link_graph.proofs.AskingItems.{at_place}
 use Rattle.link_graph.proofs.AskingMarks.{from_chosen, chosen_exact}
@@ -48,11 +51,12 @@ open_exact : (b : Bool) {P : Type 0} → (P ↔ (b ≡ true)) → IsTrue (not b)
 open_exact true both = (λ h. absurd (true≢false (sym h)), λ none. absurd (none (both.1 refl)))
 open_exact false both = (λ h p. true≢false (sym (both.0 p)), λ none. refl)
 
-pub way_open : (marks : List Bool) (ids : List FeatureId) (via : ℕ) (id : FeatureId) → AllPairs (λ a b. a ≢ b) ids → slice_get ids via ≡ Some id → IsTrue (not (slice_index_or marks via false)) ↔ ¬ IsWayClosed ids (chosen is_set marks ids) via
-way_open marks ids via id once there =
-    let both = chosen_exact marks ids via id once there in
-    open_exact (slice_index_or marks via false) (
-      λ closed. both.0 (subst (λ (x : FeatureId). Contains (chosen is_set marks ids) x) (same_Some closed.0 id (sym closed.1 ∙ there)) closed.2),
+pub way_open : {X : Type 0} (test : X → Bool) (none : X) → test none ≡ false → (marks : List X) (ids : List FeatureId) (via : ℕ) (id : FeatureId) → AllPairs (λ a b. a ≢ b) ids → slice_get ids via ≡ Some id
+    → IsTrue (not (test (slice_index_or marks via none))) ↔ ¬ IsWayClosed ids (chosen test marks ids) via
+way_open test none fails marks ids via id once there =
+    let both = chosen_exact test none fails marks ids via id once there in
+    open_exact (test (slice_index_or marks via none)) (
+      λ closed. both.0 (subst (λ (x : FeatureId). Contains (chosen test marks ids) x) (same_Some closed.0 id (sym closed.1 ∙ there)) closed.2),
       λ marked. (id, there, both.1 marked),
     )
 
@@ -61,19 +65,21 @@ way_open marks ids via id once there =
 same_node : (nodes : List Node) (n : ℕ) (node other : Node) → slice_get nodes n ≡ Some node → slice_get nodes n ≡ Some other → other ≡ node
 same_node nodes n node other here there = same_Some other node (sym there ∙ here)
 
-pub node_open : (marks : List Bool) (ids : List FeatureId) (nodes : List Node) (n k : ℕ) (node : Node) → AllPairs (λ a b. a ≢ b) ids → slice_get nodes n ≡ Some node → number_among ids node.id ≡ Some k
-    → IsTrue (not (slice_index_or marks k false)) ↔ ¬ IsNodeClosed nodes (chosen is_set marks ids) n
-node_open marks ids nodes n k node once here is =
-    let both = chosen_exact marks ids k node.id once (stands_there ids node.id k is) in
-    open_exact (slice_index_or marks k false) (
-      λ closed. both.0 (subst (λ (other : Node). Contains (chosen is_set marks ids) other.id) (same_node nodes n node closed.0 here closed.1) closed.2),
+pub node_open : {X : Type 0} (test : X → Bool) (none : X) → test none ≡ false → (marks : List X) (ids : List FeatureId) (nodes : List Node) (n k : ℕ) (node : Node)
+    → AllPairs (λ a b. a ≢ b) ids → slice_get nodes n ≡ Some node → number_among ids node.id ≡ Some k
+    → IsTrue (not (test (slice_index_or marks k none))) ↔ ¬ IsNodeClosed nodes (chosen test marks ids) n
+node_open test none fails marks ids nodes n k node once here is =
+    let both = chosen_exact test none fails marks ids k node.id once (stands_there ids node.id k is) in
+    open_exact (test (slice_index_or marks k none)) (
+      λ closed. both.0 (subst (λ (other : Node). Contains (chosen test marks ids) other.id) (same_node nodes n node closed.0 here closed.1) closed.2),
       λ marked. (node, here, both.1 marked),
     )
 
-pub node_always_open : (marks : List Bool) (ids : List FeatureId) (nodes : List Node) (n : ℕ) (node : Node) → slice_get nodes n ≡ Some node → number_among ids node.id ≡ None → ¬ IsNodeClosed nodes (chosen is_set marks ids) n
-node_always_open marks ids nodes n node here is = λ closed.
-    let there = subst (λ (other : Node). Contains (chosen is_set marks ids) other.id) (same_node nodes n node closed.0 here closed.1) closed.2 in
-    let at = from_chosen marks ids node.id there in
+pub node_always_open : {X : Type 0} (test : X → Bool) (none : X) (marks : List X) (ids : List FeatureId) (nodes : List Node) (n : ℕ) (node : Node)
+    → slice_get nodes n ≡ Some node → number_among ids node.id ≡ None → ¬ IsNodeClosed nodes (chosen test marks ids) n
+node_always_open test none marks ids nodes n node here is = λ closed.
+    let there = subst (λ (other : Node). Contains (chosen test marks ids) other.id) (same_node nodes n node closed.0 here closed.1) closed.2 in
+    let at = from_chosen test none marks ids node.id there in
     numbered ids node.id at.k at.there is
 
 -- ---- of a graph
@@ -98,21 +104,27 @@ number_marked core n k count h e =
     let within = slice_get_within (closable_list core.nodes) k h.node.id (stands_there (closable_list core.nodes) h.node.id k h.is) in
     omega (arith, within, e)
 
-pub free_by_number : (core : Core) (marks : List Bool) (n k : ℕ) (set : Bool) → IsSoundCore core → HasNumber core n (Some k) → set ≡ slice_index_or marks k false → IsTrue (not set) ↔ ¬ IsNodeClosed (node_list core.nodes) (chosen is_set marks (closable_list core.nodes)) n
-free_by_number core marks n k set sound h e =
-    subst (λ (b : Bool). IsTrue (not b) ↔ ¬ IsNodeClosed (node_list core.nodes) (chosen is_set marks (closable_list core.nodes)) n) (sym e)
-    (node_open marks (closable_list core.nodes) (node_list core.nodes) n k h.node sound.once h.there h.is)
+-- the features that are marked for a profile
+abbrev closed_for : Core → List ProfileSet → ℕ → List FeatureId
+closed_for core marks profile = chosen (has profile) marks (closable_list core.nodes)
 
-pub free_without_number : (core : Core) (marks : List Bool) (n : ℕ) → HasNumber core n None → IsTrue true ↔ ¬ IsNodeClosed (node_list core.nodes) (chosen is_set marks (closable_list core.nodes)) n
-free_without_number core marks n h =
-    let open_here = node_always_open marks (closable_list core.nodes) (node_list core.nodes) n h.node h.there h.is in
+pub free_by_number : (core : Core) (marks : List ProfileSet) (profile n k : ℕ) (set : Bool) → IsSoundCore core → HasNumber core n (Some k) → set ≡ has profile (slice_index_or marks k nobody)
+    → IsTrue (not set) ↔ ¬ IsNodeClosed (node_list core.nodes) (closed_for core marks profile) n
+free_by_number core marks profile n k set sound h e =
+    subst (λ (b : Bool). IsTrue (not b) ↔ ¬ IsNodeClosed (node_list core.nodes) (closed_for core marks profile) n) (sym e)
+    (node_open (has profile) nobody (has_nobody profile) marks (closable_list core.nodes) (node_list core.nodes) n k h.node sound.once h.there h.is)
+
+pub free_without_number : (core : Core) (marks : List ProfileSet) (profile n : ℕ) → HasNumber core n None → IsTrue true ↔ ¬ IsNodeClosed (node_list core.nodes) (closed_for core marks profile) n
+free_without_number core marks profile n h =
+    let open_here = node_always_open (has profile) nobody marks (closable_list core.nodes) (node_list core.nodes) n h.node h.there h.is in
     (λ holds. open_here, λ none. refl)
 
-pub free_way : (core : Core) (marks : List Bool) (via : ℕ) (set : Bool) → IsSoundCore core → via < length (closable_list core.nodes) → set ≡ slice_index_or marks via false → IsTrue (not set) ↔ ¬ IsWayClosed (closable_list core.nodes) (chosen is_set marks (closable_list core.nodes)) via
-free_way core marks via set sound within e =
+pub free_way : (core : Core) (marks : List ProfileSet) (profile via : ℕ) (set : Bool) → IsSoundCore core → via < length (closable_list core.nodes) → set ≡ has profile (slice_index_or marks via nobody)
+    → IsTrue (not set) ↔ ¬ IsWayClosed (closable_list core.nodes) (closed_for core marks profile) via
+free_way core marks profile via set sound within e =
     let there = at_place (closable_list core.nodes) via within in
-    subst (λ (b : Bool). IsTrue (not b) ↔ ¬ IsWayClosed (closable_list core.nodes) (chosen is_set marks (closable_list core.nodes)) via) (sym e)
-    (way_open marks (closable_list core.nodes) via there.0 sound.once there.1)
+    subst (λ (b : Bool). IsTrue (not b) ↔ ¬ IsWayClosed (closable_list core.nodes) (closed_for core marks profile) via) (sym e)
+    (way_open (has profile) nobody (has_nobody profile) marks (closable_list core.nodes) via there.0 sound.once there.1)
 
 -- what is joined of both doors and the way of a link
 pub facts_joined : (core : Core) (link : Link) (made : LinkFacts) (barred : Bool) (from to : EndFacts) → IsSoundCore core → Contains (network_in core).links link → barred ≡ get_or core.barred.items link.via barred → from ≡ ends_in core link.from → to ≡ ends_in core link.to

@@ -17,7 +17,8 @@ pub(crate) fn can_pass(ways: &Ways, link: &Link) -> bool
     requires marks { AreMarked ways.now }
     ensures { IsTrue result ↔ CanPass ways.now link.now }
 {
-    allows(ways.profile, &ways.graph.facts(link)) && ways.graph.is_free(link, ways.marks, ways.number)
+    allows(ways.profile, &ways.graph.facts(link))
+        && ways.graph.is_free(link, ways.marks, ways.number)
 }
 
 /// Whether a link out of the node may be passed as far as the node itself has a say.
@@ -27,7 +28,8 @@ pub(crate) fn can_leave(ways: &Ways, node: u32) -> bool
     ensures { (link : ALink) → CanPass ways.now link → link.from ≡ node → IsTrue result }
 {
     network_parts_law();
-    passes_end(ways.profile, &ways.graph.ends(node)) && ways.graph.is_node_free(node, ways.marks, ways.number)
+    passes_end(ways.profile, &ways.graph.ends(node))
+        && ways.graph.is_node_free(node, ways.marks, ways.number)
 }
 
 // Whether the last link of a walk goes by this number.

@@ -1,6 +1,6 @@
 -- To one change at one history belongs one kind of reply, where the shelf is told.
-use Rattle.std.proofs.Common.{◌≡◌, ◌≢◌, ◌∙◌, ℕ, ◌<◌, List, length, refl, sym, subst, arith, inl, inr, Option, Some, Bool, true, false}
-use Rattle.std.specs.Prelude.{Contains, if◌then◌else◌}
+use Rattle.std.proofs.Common.{◌≡◌, ◌≢◌, ◌∙◌, ℕ, ◌<◌, List, length, refl, sym, subst, arith, inl, inr, Option, Some, None, Bool}
+use Rattle.std.specs.Prelude.{Contains, if◌then◌else◌, IsTrue}
 use Rattle.std.specs.Arc.{arc_value}
 use Rattle.std.proofs.lemmas.Option.{same_Some}
 use Rattle.venue_types.specs.declared.feature_id.FeatureId.{FeatureId}
@@ -9,6 +9,7 @@ use Rattle.venue_types.specs.declared.finding.Report.{Report}
 use Rattle.venue_types.specs.declared.query.Change.{Change}
 use Rattle.venue_types.specs.declared.query.Change.TheVariants as change
 use Rattle.venue_types.specs.declared.query.Closure.{Closure}
+use Rattle.venue_types.specs.declared.profile_set.ProfileSet.{ProfileSet}
 use Rattle.venue_types.specs.declared.reply.ClosureDone.{ClosureDone}
 use Rattle.venue_types.specs.declared.reply.Reply.{Reply}
 use Rattle.venue_types.specs.declared.reply.Reply.TheVariants as reply
@@ -24,13 +25,15 @@ use Rattle.venue_history.specs.Closed.{Version}
 use Rattle.venue_history.specs.Histories.{Replays}
 use Rattle.venue_history.specs.Replies.{ReplyKind, kind_of, told, IsOutsideFault}
 use Rattle.venue_history.specs.Replies as kind
-use Rattle.venue_history.specs.Changes.{Makes, Breaks, StandsSo, StandsOtherwise, IsActOf, TellsOf, Refuses, Changes}
+use Rattle.venue_history.specs.Changes.{Makes, Breaks, stands_so, IsClosureFor, StandsOtherwise, IsActOf, TellsOf, Refuses, Changes}
+use Rattle.venue_history.specs.Named.{named_set}
 use Rattle.venue_history.proofs.Changing.{closure_way}
 
 -- what the kind of a reply to a closure says, and whether it tells an accepted change
 data ClosureCause (v : Version) (asked : Closure) : ReplyKind → ℕ → Type 0 where
-  missing : ¬ Contains (closables v.features) asked.feature → ClosureCause v asked kind.no_feature 0
-  same : StandsSo v asked → ClosureCause v asked kind.closure_done 0
+  unnamed : named_set v.settings asked.profiles ≡ None → ClosureCause v asked kind.no_profile 0
+  missing : (set : ProfileSet) → named_set v.settings asked.profiles ≡ Some set → ¬ Contains (closables v.features) asked.feature → ClosureCause v asked kind.no_feature 0
+  same : (set : ProfileSet) → IsClosureFor v asked set → IsTrue (stands_so v asked set) → ClosureCause v asked kind.closure_done 0
   full : StandsOtherwise v asked → v.number ≡ v.settings.last_version → ClosureCause v asked kind.history_full 0
   done : StandsOtherwise v asked → v.number < v.settings.last_version → ClosureCause v asked kind.closure_done 1
 
@@ -42,9 +45,10 @@ data PublishCause (shelf : Option Shelf) (v : Version) (folder : List ℕ) : Rep
 
 refused_closure : (shelf : Option Shelf) (v : Version) (asked : Closure) (r : Reply)
     → Refuses shelf v (change.Closure asked) r → ClosureCause v asked (kind_of r) (told r)
-refused_closure shelf v asked reply.NoFeature is = missing is
+refused_closure shelf v asked reply.NoProfile is = unnamed is
+refused_closure shelf v asked reply.NoFeature is = missing is.0 is.1 is.2
 refused_closure shelf v asked (reply.ClosureDone it) is =
-    subst (λ (b : Bool). ClosureCause v asked kind.closure_done (if b then 1 else 0)) (sym is.1.changed_is) (same is.0)
+    subst (λ (b : Bool). ClosureCause v asked kind.closure_done (if b then 1 else 0)) (sym is.3.changed_is) (same is.0 is.1 is.2)
 refused_closure shelf v asked (reply.HistoryFull number) is = full is.0 is.1.1
 refused_closure shelf v asked _ is = absurd is.1
 
@@ -56,12 +60,12 @@ refused_publish shelf v folder (reply.HistoryFull number) inside is = full is.0.
 refused_publish shelf v folder _ inside is = absurd is.1
 
 stands_otherwise : (shelf : Option Shelf) (v : Version) (asked : Closure) (a : Act) → IsActOf shelf v (change.Closure asked) a → StandsOtherwise v asked
-stands_otherwise shelf v asked (act.Closed it) is = is.2
-stands_otherwise shelf v asked (act.Reopened it) is = is.2
+stands_otherwise shelf v asked (act.Closed it) is = (it.profiles, is.1.closure_for, is.1.stood)
+stands_otherwise shelf v asked (act.Reopened it) is = (it.profiles, is.1.closure_for, is.1.stood)
 stands_otherwise shelf v asked _ is = absurd is
 
 not_published : (shelf : Option Shelf) (v : Version) (asked : Closure) (a : Act) (number : ℕ) (dropped : List FeatureId)
-    → IsActOf shelf v (change.Closure asked) a → TellsOf v a (reply.Published number dropped) → ⊥
+    → IsActOf shelf v (change.Closure asked) a → TellsOf v (change.Closure asked) a (reply.Published number dropped) → ⊥
 not_published shelf v asked (act.Closed it) number dropped is tells = tells
 not_published shelf v asked (act.Reopened it) number dropped is tells = tells
 not_published shelf v asked (act.Published venue) number dropped is tells = is
@@ -71,7 +75,7 @@ made_of shelf v folder (act.Published venue) is = (arc_value venue, is)
 made_of shelf v folder _ is = absurd is
 
 not_closed : (shelf : Option Shelf) (v : Version) (folder : List ℕ) (a : Act) (it : ClosureDone)
-    → IsActOf shelf v (change.Publish folder) a → TellsOf v a (reply.ClosureDone it) → ⊥
+    → IsActOf shelf v (change.Publish folder) a → TellsOf v (change.Publish folder) a (reply.ClosureDone it) → ⊥
 not_closed shelf v folder (act.Published venue) it is tells = tells
 not_closed shelf v folder (act.Closed closing) it is tells = is
 not_closed shelf v folder (act.Reopened closing) it is tells = is
@@ -123,24 +127,38 @@ one_version h u v r s = same_Some u v (sym r.leads ∙ s.leads)
 Same : ReplyKind → ReplyKind → ℕ → ℕ → Type 0
 Same k l m n = (k ≡ l) × (m ≡ n)
 
+-- a feature doesn't stand both as asked and otherwise
+not_both_ways : (v : Version) (asked : Closure) (set : ProfileSet) → IsClosureFor v asked set → IsTrue (stands_so v asked set) → StandsOtherwise v asked → ⊥
+not_both_ways v asked set one so other =
+    other.2 (subst (λ (it : ProfileSet). IsTrue (stands_so v asked it)) (same_Some set other.0 (sym one.named ∙ other.1.named)) so)
+
 one_closure : (v : Version) (asked : Closure) (k l : ReplyKind) (m n : ℕ) → ClosureCause v asked k m → ClosureCause v asked l n → Same k l m n
 unfolding Same
-one_closure v asked _ _ _ _ (missing a) (missing b) = (refl, refl)
-one_closure v asked _ _ _ _ (missing a) (same b) = absurd (a b.0)
-one_closure v asked _ _ _ _ (missing a) (full b e) = absurd (a b.0)
-one_closure v asked _ _ _ _ (missing a) (done b e) = absurd (a b.0)
-one_closure v asked _ _ _ _ (same a) (missing b) = absurd (b a.0)
-one_closure v asked _ _ _ _ (same a) (same b) = (refl, refl)
-one_closure v asked _ _ _ _ (same a) (full b e) = absurd (b.1 a.1)
-one_closure v asked _ _ _ _ (same a) (done b e) = absurd (b.1 a.1)
-one_closure v asked _ _ _ _ (full a d) (missing b) = absurd (b a.0)
-one_closure v asked _ _ _ _ (full a d) (same b) = absurd (a.1 b.1)
-one_closure v asked _ _ _ _ (full a d) (full b e) = (refl, refl)
-one_closure v asked _ _ _ _ (full a d) (done b e) = absurd (omega arith)
-one_closure v asked _ _ _ _ (done a d) (missing b) = absurd (b a.0)
-one_closure v asked _ _ _ _ (done a d) (same b) = absurd (a.1 b.1)
-one_closure v asked _ _ _ _ (done a d) (full b e) = absurd (omega arith)
-one_closure v asked _ _ _ _ (done a d) (done b e) = (refl, refl)
+one_closure v asked _ _ _ _ (unnamed n) (unnamed n') = (refl, refl)
+one_closure v asked _ _ _ _ (unnamed n) (missing s' n' a') = absurd (cc (n, n'))
+one_closure v asked _ _ _ _ (unnamed n) (same s' c' so') = absurd (cc (n, c'.named))
+one_closure v asked _ _ _ _ (unnamed n) (full o' e') = absurd (cc (n, o'.1.named))
+one_closure v asked _ _ _ _ (unnamed n) (done o' l') = absurd (cc (n, o'.1.named))
+one_closure v asked _ _ _ _ (missing s n a) (unnamed n') = absurd (cc (n', n))
+one_closure v asked _ _ _ _ (missing s n a) (missing s' n' a') = (refl, refl)
+one_closure v asked _ _ _ _ (missing s n a) (same s' c' so') = absurd (a c'.closable)
+one_closure v asked _ _ _ _ (missing s n a) (full o' e') = absurd (a o'.1.closable)
+one_closure v asked _ _ _ _ (missing s n a) (done o' l') = absurd (a o'.1.closable)
+one_closure v asked _ _ _ _ (same s c so) (unnamed n') = absurd (cc (n', c.named))
+one_closure v asked _ _ _ _ (same s c so) (missing s' n' a') = absurd (a' c.closable)
+one_closure v asked _ _ _ _ (same s c so) (same s' c' so') = (refl, refl)
+one_closure v asked _ _ _ _ (same s c so) (full o' e') = absurd (not_both_ways v asked s c so o')
+one_closure v asked _ _ _ _ (same s c so) (done o' l') = absurd (not_both_ways v asked s c so o')
+one_closure v asked _ _ _ _ (full o e) (unnamed n') = absurd (cc (n', o.1.named))
+one_closure v asked _ _ _ _ (full o e) (missing s' n' a') = absurd (a' o.1.closable)
+one_closure v asked _ _ _ _ (full o e) (same s' c' so') = absurd (not_both_ways v asked s' c' so' o)
+one_closure v asked _ _ _ _ (full o e) (full o' e') = (refl, refl)
+one_closure v asked _ _ _ _ (full o e) (done o' l') = absurd (omega arith)
+one_closure v asked _ _ _ _ (done o l) (unnamed n') = absurd (cc (n', o.1.named))
+one_closure v asked _ _ _ _ (done o l) (missing s' n' a') = absurd (a' o.1.closable)
+one_closure v asked _ _ _ _ (done o l) (same s' c' so') = absurd (not_both_ways v asked s' c' so' o)
+one_closure v asked _ _ _ _ (done o l) (full o' e') = absurd (omega arith)
+one_closure v asked _ _ _ _ (done o l) (done o' l') = (refl, refl)
 
 -- files are rejected or make a venue, and not both
 abbrev pub OneOutcome : Type 0

@@ -1,7 +1,12 @@
 pub mod Beginnings
 pub mod Identities
+pub mod Closings
 pub mod Settled
 pub mod Standing
+pub mod Within
+pub mod Listed
+pub mod Naming
+pub mod Fitting
 pub mod Once
 pub mod Sorting
 pub mod Changing

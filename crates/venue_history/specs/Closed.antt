@@ -1,5 +1,5 @@
 -- A version of a venue, and what is closed in it, and for whom. The layers above ask what is closed by these words alone.
-use Rattle.std.specs.Prelude.{ℕ, ◌+◌, List, [], ◌∷◌, map, filter, length, Bool, not, ◌&&◌, ◌||◌, if◌then◌else◌, nat_eq, Option, Some, None}
+use Rattle.std.specs.Prelude.{ℕ, ◌+◌, List, [], ◌∷◌, map, filter, length, Bool, not, ◌&&◌, if◌then◌else◌, nat_eq, Option, Some, None}
 use Rattle.std.specs.List.{list_any}
 use Rattle.venue_types.specs.declared.feature_id.FeatureId.{FeatureId}
 use Rattle.venue_types.specs.declared.features.Features.{Features}

@@ -117,11 +117,16 @@ place_data told =
     (member (codes "version") (count told.number)
     no_members)))))))
 
+-- a feature that is closed for some, with their names
+abbrev pub closed_for_data : FeatureId → List (List ℕ) → Data
+closed_for_data id names =
+    object (member (codes "feature") (id_data id) (member (codes "profiles") (names_data names) no_members))
+
 -- a feature that is closed: its identifier where it is closed for all, else with the names of those for whom it is
 abbrev pub closed_data : ClosedRow → Data
 closed_data row = elim row.profiles [
   | None ↦ id_data row.id
-  | Some names ↦ object (member (codes "feature") (id_data row.id) (member (codes "profiles") (names_data names) no_members))
+  | Some names ↦ closed_for_data row.id names
 ]
 
 -- what is closed

@@ -5,7 +5,7 @@ ghost use Rattle.wire_replies.specs.Bodies as bodies;
 ghost use Rattle.wire_replies.specs.Tokens.{Adds, data_tokens};
 
 use crate::labels::Name;
-use crate::written::{Written, begin, end, member, write_items};
+use crate::written::{Written, begin, end, member, member_where_there, write_items};
 use json::Writer;
 use std::alloc::{AllocError, Global};
 use venue_types::{
@@ -67,6 +67,7 @@ pub(crate) fn write_place(
     member(alloc, out, "kind", &told.row.class)?;
     member(alloc, out, "name", &Name(&told.row.name))?;
     member(alloc, out, "ordinal", &told.row.ordinal)?;
+    member_where_there(alloc, out, "profiles", &told.profiles)?;
     member(alloc, out, "version", &told.number)?;
     end(out)
 }
@@ -95,6 +96,7 @@ pub(crate) fn write_closure(
     member(alloc, out, "changed", &done.changed)?;
     member(alloc, out, "closed", &done.closed)?;
     member(alloc, out, "feature", &done.feature)?;
+    member_where_there(alloc, out, "profiles", &done.profiles)?;
     member(alloc, out, "version", &done.number)?;
     end(out)
 }

@@ -1,11 +1,15 @@
-//! The rows of lists: steps, potentials, places and findings.
+//! The rows of lists: steps, potentials, closed features, places and findings.
+
+ghost use Rattle.std.specs.Prelude.{OnOk};
+ghost use Rattle.wire_replies.specs.Bodies.{closed_for_data};
+ghost use Rattle.wire_replies.specs.Tokens.{Adds, data_tokens};
 
 use crate::labels::Name;
 use crate::words::{FileNumber, RuleNumber};
 use crate::written::{Written, begin, end, member};
 use json::Writer;
 use std::alloc::{AllocError, Global};
-use venue_types::{ClosedRow, Finding, Mark, PlaceRow, StepRow};
+use venue_types::{ClosedRow, FeatureId, Finding, List, Mark, PlaceRow, StepRow, Text};
 
 impl Written for StepRow {
     ghost use Rattle.wire_replies.specs.Bodies.{step_data};
@@ -35,13 +39,31 @@ impl Written for Mark {
     }
 }
 
+// Writes a feature with the names of the profiles for which it is closed.
+fn write_closed_for(
+    alloc: Global,
+    out: &mut Writer,
+    id: FeatureId,
+    names: &List<Text>,
+) -> Result<(), AllocError>
+    ensures { OnOk result (Adds (data_tokens (closed_for_data id names.now)) out.old out.new) }
+{
+    begin(out)?;
+    member(alloc, out, "feature", &id)?;
+    member(alloc, out, "profiles", names)?;
+    end(out)
+}
+
 impl Written for ClosedRow {
     ghost use Rattle.wire_replies.specs.Bodies.{closed_data};
 
     ghost shown = { closed_data };
 
     fn write_to(&self, alloc: Global, out: &mut Writer) -> Result<(), AllocError> {
-        self.id.write_to(alloc, out)
+        match &self.profiles {
+            None => self.id.write_to(alloc, out),
+            Some(names) => write_closed_for(alloc, out, self.id, names),
+        }
     }
 }
 

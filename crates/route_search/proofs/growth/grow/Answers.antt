@@ -75,7 +75,7 @@ nodes-preserved g c =
     let low : (n : ℕ) → settled_in old n ≡ true → cost_in old n ≤ c.in-Some.cost = λ n so. omega (arith, c.nodes.invariant.between.tree.below n so, entry.late) in
     record {
       between = closed (network c.args.ways.now.graph.now) (CanPass c.args.ways.now) nodes c.in-Some.node _ c.scan.new.state scanned c.member_law.ensures (λ l is. is.there)
-          (c.detour_law.ensures (marked (network c.args.ways.now.graph.now) c.args.ways.now.marks.now) c.args.ways.now.profile.now);
+          (c.detour_law.ensures (marked (network c.args.ways.now.graph.now) c.args.ways.now.marks.now c.args.ways.now.number) c.args.ways.now.profile.now);
       ends = later_ends (g.E.Ends.ends c.args.ends.now) c.args.count c.in-Some.node _ c.note.new.self _ c.scan.new.state scanned.later
           (settled_ends (g.E.Ends.ends c.args.ends.now) c.args.count c.in-Some.cost c.in-Some.node old _ c.nodes.tally c.note.new.self due.1 within refl refl due.0 low c.note.ensures c.nodes.invariant.ends);
       roots = λ from is. (let was = c.nodes.invariant.roots from is in root_later from c.in-Some.node _ _ c.scan.new.state scanned.later (record { start = was.start; only = was.only }));

@@ -18,6 +18,6 @@ returns-then-is_passed_over-clause-scanned g c =
     let within : c.args.node < length c.args.state.now.lasts.items = omega (arith, c.requires.node, c.requires.amid.tree.lasts_count) in
     let last : c.index.result.now ≡ last_in c.args.state.now c.args.node = last_read c.args.state.now.lasts.items c.args.node _ _ within c.index.ensures in
     passed_over (network c.args.ways.now.graph.now) (CanPass c.args.ways.now) (node_count c.args.ways.now.graph.now) c.args.node c.args.stretch.now _ c.args.state.now
-    (c.detour_law.ensures (marked (network c.args.ways.now.graph.now) c.args.ways.now.marks.now) c.args.ways.now.profile.now)
+    (c.detour_law.ensures (marked (network c.args.ways.now.graph.now) c.args.ways.now.marks.now c.args.ways.now.number) c.args.ways.now.profile.now)
     (λ l is. c.range_law.ensures.apart l is.there) (out_from (network c.args.ways.now.graph.now) c.args.node) (c.stretch_law.ensures c.args.node c.requires.node) c.requires.stretch c.requires.amid
     (ap (λ (y : Last). y.by) last) (c.is_passed_over.ensures c.if-is_passed_over.true)

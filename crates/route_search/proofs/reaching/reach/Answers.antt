@@ -11,7 +11,7 @@ use Rattle.route_search.proofs.reaching.reach.Goals as goal
 
 pub grow-requires-clause-begun : goal.grow-requires-clause-begun
 grow-requires-clause-begun g c =
-    begun_between (IsPassable (network c.args.graph.now) (marked (network c.args.graph.now) c.args.marks.now) c.args.profile.now) (node_count c.args.graph.now) c.args.from c.in_ok-state.state
+    begun_between (IsPassable (network c.args.graph.now) (marked (network c.args.graph.now) c.args.marks.now c.args.number) c.args.profile.now) (node_count c.args.graph.now) c.args.from c.in_ok-state.state
     (subst (λ (n : ℕ). IsBegun n c.args.from c.in_ok-state.state) c.nodes.ensures.number c.in_ok-state.ensures) c.requires.from c.range_law.ensures.nodes
 
 pub returns-in_err-bound-clause-steps : goal.returns-in_err-bound-clause-steps
@@ -19,7 +19,7 @@ returns-in_err-bound-clause-steps g c = omega (arith, c.grow.ensures.steps, out_
 
 pub invariant_of-result : goal.invariant_of-result
 invariant_of-result g c =
-    let IsLink = IsPassable (network c.args.graph.now) (marked (network c.args.graph.now) c.args.marks.now) c.args.profile.now in
+    let IsLink = IsPassable (network c.args.graph.now) (marked (network c.args.graph.now) c.args.marks.now c.args.number) c.args.profile.now in
     let begun = subst (λ (n : ℕ). IsBegun n c.args.from c.in_ok-state.state) c.nodes.ensures.number c.in_ok-state.ensures in
     let ended = c.in_ok-bound.ensures.ended c.args.from (begun_from IsLink (node_count c.args.graph.now) c.args.from c.in_ok-state.state begun c.requires.from c.range_law.ensures.nodes) in
     record {
@@ -30,7 +30,7 @@ invariant_of-result g c =
 
 pub returns-clause-over : goal.returns-clause-over
 returns-clause-over g c =
-    let IsLink = IsPassable (network c.args.graph.now) (marked (network c.args.graph.now) c.args.marks.now) c.args.profile.now in
+    let IsLink = IsPassable (network c.args.graph.now) (marked (network c.args.graph.now) c.args.marks.now c.args.number) c.args.profile.now in
     let begun = subst (λ (n : ℕ). IsBegun n c.args.from c.in_ok-state.state) c.nodes.ensures.number c.in_ok-state.ensures in
     let ended = c.in_ok-bound.ensures.ended c.args.from (begun_from IsLink (node_count c.args.graph.now) c.args.from c.in_ok-state.state begun c.requires.from c.range_law.ensures.nodes) in
     ended_over IsLink (node_count c.args.graph.now) c.args.from _ c.grow.new.state refl refl refl ended
@@ -40,7 +40,7 @@ returns-clause-enough g c = ended_enough (g.E.Ends.ends c.args.ends.now) c.args.
 
 pub returns-clause-small : goal.returns-clause-small
 returns-clause-small g c =
-    let IsLink = IsPassable (network c.args.graph.now) (marked (network c.args.graph.now) c.args.marks.now) c.args.profile.now in
+    let IsLink = IsPassable (network c.args.graph.now) (marked (network c.args.graph.now) c.args.marks.now c.args.number) c.args.profile.now in
     let begun = subst (λ (n : ℕ). IsBegun n c.args.from c.in_ok-state.state) c.nodes.ensures.number c.in_ok-state.ensures in
     let ended = c.in_ok-bound.ensures.ended c.args.from (begun_from IsLink (node_count c.args.graph.now) c.args.from c.in_ok-state.state begun c.requires.from c.range_law.ensures.nodes) in
     ended_small IsLink (node_count c.args.graph.now) c.args.from _ c.grow.new.state refl ended

@@ -5,6 +5,7 @@ use Rattle.venue_build.specs.Report.{AreValid}
 use Rattle.venue_history.proofs.Once.{closables_once}
 use Rattle.venue_history.proofs.Settled.{replay_settings, replay_under, replay_valid}
 use Rattle.venue_history.proofs.Standing.{closed_closable, closed_once, closed_in_order}
+use Rattle.venue_history.proofs.Within.{closed_profiles}
 use Rattle.venue_history.proofs.laws.version_law.Goals as goal
 
 pub returns-clause-settings : goal.returns-clause-settings
@@ -24,6 +25,9 @@ returns-clause-once c h v r =
 
 pub returns-clause-in_order : goal.returns-clause-in_order
 returns-clause-in_order c = closed_in_order
+
+pub returns-clause-profiles : goal.returns-clause-profiles
+returns-clause-profiles c = closed_profiles
 
 pub returns-clause-all_settings : goal.returns-clause-all_settings
 returns-clause-all_settings c = replay_under

@@ -1,5 +1,4 @@
 use Rattle.std.proofs.Common.{rules, ◌≡◌, sym, subst}
-use Rattle.std.specs.Arc.{arc_value}
 use Rattle.venue_build.specs.Report.{AreValid}
 use Rattle.venue_build.specs.Venues.{SeenVenue as Venue}
 use Rattle.venue_history.specs.Histories.{IsLegal}
