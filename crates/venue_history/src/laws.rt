@@ -6,12 +6,12 @@ ghost use Rattle.std.specs.Arc.{arc_value};
 ghost use Rattle.std.specs.declared.sync.Arc.{Arc};
 ghost use Rattle.std.specs.declared.alloc.Global.{Global};
 ghost use Rattle.venue_types.specs.declared.feature_id.FeatureId.{FeatureId};
-ghost use Rattle.venue_types.specs.declared.profile_set.ProfileSet.{ProfileSet as Set};
 ghost use Rattle.venue_types.specs.declared.query.Change.{Change as AChange};
 ghost use Rattle.venue_types.specs.declared.query.Query.{Query as AQuery};
 ghost use Rattle.venue_types.specs.declared.reply.Reply.{Reply as AReply};
 ghost use Rattle.venue_types.specs.declared.reply.Reply.TheVariants as reply;
-ghost use Rattle.venue_types.specs.ProfileSets.{has, nobody, joined, without, is_empty};
+ghost use Rattle.venue_types.specs.ProfileSets.{has, nobody, is_empty};
+ghost use Rattle.venue_build.specs.Identity.{is_same};
 ghost use Rattle.venue_build.specs.Nodes.{closables};
 ghost use Rattle.venue_build.specs.Venues.{SeenVenue as AVenue};
 ghost use Rattle.venue_build.specs.Report.{AreValid};
@@ -20,7 +20,7 @@ ghost use Rattle.venue_history.specs.declared.entry.Entry.{Entry as AnEntry};
 ghost use Rattle.venue_history.specs.declared.entry.Act.TheVariants.{Published, Closed, Reopened};
 ghost use Rattle.venue_history.specs.declared.entry.Closing.{Closing};
 ghost use Rattle.venue_history.specs.Closed.{Version, is_one_of, is_closed, is_closed_for_all, closed_for, closed_ids, closed_set, closed_count, everybody};
-ghost use Rattle.venue_history.specs.Versions.{Fits, MayFollow, AreProfiles, closings, set_with, set_without, after};
+ghost use Rattle.venue_history.specs.Versions.{Fits, MayFollow, AreProfiles, closings, after};
 ghost use Rattle.venue_history.specs.Histories.{IsPublished, IsLegal, Replays};
 ghost use Rattle.venue_history.specs.Answers.{Answers};
 ghost use Rattle.venue_history.specs.Replies.{told, kind_of, IsOutsideFault};
@@ -65,13 +65,13 @@ pub fn version_law()
 }
 
 /// The words on what is closed belong together: a feature is closed for anybody exactly where its identifier is listed, and the list is
-/// as long as is counted; where each is listed once and for somebody, as at every version of a history, a feature is closed for a profile
-/// exactly where its set has it, and for nobody exactly where it isn't listed.
+/// as long as is counted. At every version of a history each is listed once and for somebody: so a feature is closed for a profile exactly
+/// where its set has it, and for nobody exactly where it isn't listed.
 pub fn closed_law()
     ensures ids { (v : Version) (id : FeatureId) → IsTrue (is_closed v id) ↔ Contains (closed_ids v) id }
     ensures count { (v : Version) → closed_count v ≡ length (closed_ids v) }
     ensures for_profile { (v : Version) (number : ℕ) (id : FeatureId) → AllPairs (λ a b. a ≢ b) (closed_ids v) → Contains (closed_for v number) id ↔ IsTrue (has number (closed_set v id)) }
-    ensures for_nobody { (v : Version) (id : FeatureId) → AllPairs (λ a b. a ≢ b) (closed_ids v) → All (λ (it : Closing). ¬ IsTrue (is_empty it.profiles)) v.closed
+    ensures for_nobody { (v : Version) (id : FeatureId) → All (λ (it : Closing). ¬ IsTrue (is_empty it.profiles)) v.closed
         → IsTrue (is_empty (closed_set v id)) ↔ (¬ Contains (closed_ids v) id) }
     ensures for_all { (v : Version) (id : FeatureId) → IsTrue (is_closed_for_all v id) → closed_set v id ≡ everybody v.settings }
 {
@@ -83,14 +83,11 @@ pub fn closed_law()
 pub fn act_law()
     ensures published { (v : Version) (venue : Arc AVenue Global) (id : FeatureId)
         → closed_set (after v (Published venue)) id ≡ (if is_one_of (closables (arc_value venue).features) id then closed_set v id else nobody) }
-    ensures closed { (h : List AnEntry) (v : Version) (it : Closing) (id : FeatureId) → Replays h v → Fits v (Closed it)
-        → closed_set (after v (Closed it)) id ≡ set_with v it id }
-    ensures reopened { (h : List AnEntry) (v : Version) (it : Closing) (id : FeatureId) → Replays h v → Fits v (Reopened it)
-        → closed_set (after v (Reopened it)) id ≡ set_without v it id }
-    ensures for_profile { (set other : Set) (k : ℕ) → (has k (joined set other) ≡ (has k set || has k other)) × (has k (without set other) ≡ (has k set && not (has k other))) }
-{
-    profile_set_law();
-}
+    ensures closed { (h : List AnEntry) (v : Version) (it : Closing) (id : FeatureId) (k : ℕ) → Replays h v → Fits v (Closed it)
+        → has k (closed_set (after v (Closed it)) id) ≡ (has k (closed_set v id) || (is_same id it.feature && has k it.profiles)) }
+    ensures reopened { (h : List AnEntry) (v : Version) (it : Closing) (id : FeatureId) (k : ℕ) → Replays h v → Fits v (Reopened it)
+        → has k (closed_set (after v (Reopened it)) id) ≡ (has k (closed_set v id) && not (is_same id it.feature && has k it.profiles)) }
+{}
 
 /// To one question at one version belongs one kind of reply, but for want of memory.
 pub fn answer_law()

@@ -33,7 +33,7 @@ changed_closure shelf worker asked h k told changed is =
 
 -- a closure that leaves the history as it is tells that nothing changed
 unchanged : (shelf : Option Shelf) (v : Version) (asked : Change) (told : ClosureDone) → Refuses shelf v asked (reply.ClosureDone told) → told.changed ≡ false
-unchanged shelf v (change.Closure closure) told is = is.1.changed_is
+unchanged shelf v (change.Closure closure) told is = is.3.changed_is
 unchanged shelf v (change.Publish folder) told is = absurd is.1
 
 refused_closure : (shelf : Option Shelf) (worker : ℕ) (asked : Change) (h k : List Entry) (told : ClosureDone) → told.changed ≡ false
@@ -42,11 +42,11 @@ refused_closure shelf worker asked h k told same is =
     subst (λ (b : Bool). IsAcceptedIf b shelf worker asked h (reply.ClosureDone told) k) (sym same) is
 
 -- a reply that tells an act belongs to an accepted change
-told_changes : (shelf : Option Shelf) (v : Version) (worker : ℕ) (asked : Change) (h k : List Entry) (done : Act) (r : Reply) → TellsOf v done r
+told_changes : (shelf : Option Shelf) (v : Version) (worker : ℕ) (asked : Change) (h k : List Entry) (done : Act) (r : Reply) → TellsOf v asked done r
     → IsAccepted shelf worker asked h r k → Changes shelf worker asked h r k
-told_changes shelf v worker asked h k (act.Closed it) (reply.ClosureDone told) tells is = changed_closure shelf worker asked h k told tells.changed_is is
-told_changes shelf v worker asked h k (act.Reopened it) (reply.ClosureDone told) tells is = changed_closure shelf worker asked h k told tells.changed_is is
-told_changes shelf v worker asked h k (act.Published venue) (reply.Published number dropped) tells is = is
+told_changes shelf v worker (change.Closure asked) h k (act.Closed it) (reply.ClosureDone told) tells is = changed_closure shelf worker (change.Closure asked) h k told tells.changed_is is
+told_changes shelf v worker (change.Closure asked) h k (act.Reopened it) (reply.ClosureDone told) tells is = changed_closure shelf worker (change.Closure asked) h k told tells.changed_is is
+told_changes shelf v worker (change.Publish folder) h k (act.Published venue) (reply.Published number dropped) tells is = is
 told_changes shelf v worker asked h k _ _ tells is = absurd tells
 
 -- what is ready changes the history by its entry
@@ -88,8 +88,8 @@ same_settings v (act.Closed it) = refl
 same_settings v (act.Reopened it) = refl
 
 -- what is ready tells no fault
-pub made_counts : (v : Version) (done : Act) (r : Reply) → TellsOf v done r → (before now : ℕ) → now ≡ before → CountsFault before now r
-made_counts v (act.Closed it) (reply.ClosureDone told) tells before now same = same
-made_counts v (act.Reopened it) (reply.ClosureDone told) tells before now same = same
-made_counts v (act.Published venue) (reply.Published number dropped) tells before now same = same
-made_counts v _ _ tells before now same = absurd tells
+pub made_counts : (v : Version) (asked : Change) (done : Act) (r : Reply) → TellsOf v asked done r → (before now : ℕ) → now ≡ before → CountsFault before now r
+made_counts v (change.Closure asked) (act.Closed it) (reply.ClosureDone told) tells before now same = same
+made_counts v (change.Closure asked) (act.Reopened it) (reply.ClosureDone told) tells before now same = same
+made_counts v (change.Publish folder) (act.Published venue) (reply.Published number dropped) tells before now same = same
+made_counts v _ _ _ tells before now same = absurd tells

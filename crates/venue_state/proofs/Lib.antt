@@ -2,6 +2,7 @@ pub mod Marking
 pub mod Carrying
 pub mod Changing
 pub mod NameLemmas
+pub mod NamedSets
 pub mod Placing
 pub mod Routes
 pub mod Replying

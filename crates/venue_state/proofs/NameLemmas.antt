@@ -1,6 +1,7 @@
 -- Names by numbers, and a list that is copied by number.
-use Rattle.std.proofs.Common.{◌≡◌, ◌∙◌, ℕ, ◌+◌, ◌<◌, ◌≤◌, List, [], ◌∷◌, ◌++◌, length, take, refl, sym, ap, Some, None, subst}
-use Rattle.std.specs.Prelude.{slice_get}
+use Rattle.std.proofs.Common.{◌≡◌, ◌∙◌, ℕ, ◌+◌, ◌<◌, ◌≤◌, List, [], ◌∷◌, ◌++◌, length, take, drop, add-one, refl, sym, ap, Some, None, subst}
+use Rattle.std.specs.Prelude.{slice_get, slice_index_or}
+use Rattle.std.proofs.Math.Seq.{drop-cons}
 use Rattle.std.proofs.lemmas.List.{take_more}
 use Rattle.std.proofs.lemmas.Option.{slice_get_past, get_or_from_slice_get}
 use Rattle.venue_types.specs.declared.feature_id.FeatureId.{FeatureId}
@@ -32,6 +33,10 @@ unfolding way_name
 way_nameless v ids k same past =
     let none : slice_get (closables v.features) k ≡ None = subst (λ (xs : List FeatureId). slice_get xs k ≡ None) same (slice_get_past ids k past) in
     rw (none, way_name) refl
+
+-- what is left from a place on
+pub rest_at : {X : Type 0} (xs : List X) (i : ℕ) (d : X) → i < length xs → drop i xs ≡ slice_index_or xs i d ∷ drop (i + 1) xs
+rest_at xs i d within = rw add-one (drop-cons xs i d within)
 
 -- one item more of a list that is copied by number
 pub copied_more : {X : Type 0} (xs : List X) (i : ℕ) (x : X) (done : List X) → i < length xs → done ≡ take i xs → slice_get xs i ≡ Some x

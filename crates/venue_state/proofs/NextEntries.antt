@@ -4,19 +4,21 @@ use Rattle.std.proofs.Math.Logic.{∥∥₁_map, ∥∥₁_elim}
 use Rattle.std.proofs.Props.{props}
 use Rattle.std.proofs.lemmas.Option.{same_Some}
 use Rattle.std.proofs.lemmas.List.Elements.{All-contains}
-use Rattle.std.specs.Prelude.{All, Contains, IsTrue, ◌↔◌}
+use Rattle.std.specs.Prelude.{All, Contains}
 use mathlib.Core.HLevel.{⊥_prop}
-use Rattle.venue_types.specs.declared.feature_id.FeatureId.{FeatureId}
+use Rattle.venue_types.specs.declared.profile_set.ProfileSet.{ProfileSet}
+use Rattle.venue_types.specs.declared.settings.Settings.{Settings}
 use Rattle.route_search.specs.Nodes.{closables}
 use Rattle.venue_history.specs.declared.entry.Act.{Act}
 use Rattle.venue_history.specs.declared.entry.Act.TheVariants.{Published, Closed, Reopened}
 use Rattle.venue_history.specs.declared.entry.Entry.{Entry}
-use Rattle.venue_history.specs.Closed.{Version, is_closed, closed_ids}
+use Rattle.venue_history.specs.Closed.{Version, closed_ids}
 use Rattle.venue_history.specs.Histories.{after_all, MayAllFollow, replay_from, IsLegalFrom, KeepsTheRules, IsLegal, Replays}
-use Rattle.venue_history.specs.Versions.{Fits, MayFollow, after}
+use Rattle.venue_history.specs.Versions.{AreProfiles, Fits, MayFollow, after}
 use Rattle.venue_state.specs.Preparing.{HasSettings, LacksFeature, IsDone, IsUnready}
 use Rattle.venue_state.specs.declared.unready.Unready.{Unready}
 use Rattle.venue_state.specs.declared.unready.Unready.TheVariants as unready
+use Rattle.venue_state.proofs.Replying.{listed_any}
 
 all_may : (v : Version) (es k : List Entry) (e : Entry) → MayAllFollow v (es ++ e ∷ k) → MayFollow (after_all v es) e
 all_may v [] k e all = all.0
@@ -39,36 +41,39 @@ next_worker_some h k e v stands legal = ∥∥₁_elim (next_may h k e v stands 
 pub next_worker_range : (h k : List Entry) (e : Entry) (v : Version) → Replays h v → IsLegal (h ++ e ∷ k) → e.worker ≤ 16
 next_worker_range h k e v stands legal = ∥∥₁_elim (next_may h k e v stands legal) (hlevel props) (λ (m : MayFollow v e). m.worker_range)
 
+known_profiles : (settings : Settings) (set : ProfileSet) → ∥ AreProfiles settings set ∥₁ → AreProfiles settings set
+known_profiles settings set are = record {
+  some = λ empty. ∥∥₁_elim are ⊥_prop (λ (p : AreProfiles settings set). p.some empty);
+  known = ∥∥₁_elim are (hlevel props) (λ (p : AreProfiles settings set). p.known);
+}
+
 fits_settings : (v : Version) (a : Act) → ∥ Fits v a ∥₁ → HasSettings v a
 fits_settings v (Published venue) fits = ∥∥₁_elim fits (hlevel props) (λ (f : Fits v (Published venue)). f.0)
-fits_settings v (Closed it) fits = tt
-fits_settings v (Reopened it) fits = tt
+fits_settings v (Closed it) fits = known_profiles v.settings it.profiles (∥∥₁_map fits (λ (f : Fits v (Closed it)). f.0))
+fits_settings v (Reopened it) fits = known_profiles v.settings it.profiles (∥∥₁_map fits (λ (f : Fits v (Reopened it)). f.0))
 
--- a venue that it publishes has the version's settings
+-- a venue that it publishes has the version's settings, and a closure is for profiles of these
 pub next_settings : (h k : List Entry) (e : Entry) (v : Version) → Replays h v → IsLegal (h ++ e ∷ k) → HasSettings v e.act
 next_settings h k e v stands legal = fits_settings v e.act (∥∥₁_map (next_may h k e v stands legal) (λ (m : MayFollow v e). m.fits))
 
--- what the laws on what is closed say of a version
-abbrev pub ClosedIds : Type 0
-ClosedIds = (v : Version) (id : FeatureId) → IsTrue (is_closed v id) ↔ Contains (closed_ids v) id
-
-not_lacking : ClosedIds → (v : Version) (a : Act) → All (Contains (closables v.features)) (closed_ids v) → Fits v a → LacksFeature v a → ⊥
-not_lacking ids v (Published venue) all fits lacks = lacks
-not_lacking ids v (Closed it) all fits lacks = lacks fits.0
-not_lacking ids v (Reopened it) all fits lacks = lacks (All-contains (Contains (closables v.features)) (closed_ids v) it.feature all ((ids v it.feature).0 fits))
+not_lacking : (v : Version) (a : Act) → All (Contains (closables v.features)) (closed_ids v) → Fits v a → LacksFeature v a → ⊥
+not_lacking v (Published venue) all fits lacks = lacks
+not_lacking v (Closed it) all fits lacks = lacks fits.1
+not_lacking v (Reopened it) all fits lacks =
+    lacks (All-contains (Contains (closables v.features)) (closed_ids v) it.feature all (listed_any v.closed it.feature it.profiles fits.1))
 
 not_done : (v : Version) (a : Act) → Fits v a → IsDone v a → ⊥
 not_done v (Published venue) fits done = done
-not_done v (Closed it) fits done = fits.1 done.1
-not_done v (Reopened it) fits done = done.1 fits
+not_done v (Closed it) fits done = fits.2 done.1
+not_done v (Reopened it) fits done = done.1 fits.1
 
 -- only want of memory keeps it from being made ready
-pub next_unready : ClosedIds → (h k : List Entry) (e : Entry) (v : Version) (why : Unready) → All (Contains (closables v.features)) (closed_ids v)
+pub next_unready : (h k : List Entry) (e : Entry) (v : Version) (why : Unready) → All (Contains (closables v.features)) (closed_ids v)
     → Replays h v → IsLegal (h ++ e ∷ k) → IsUnready v e.act why → why ≡ unready.OutOfMemory
-next_unready ids h k e v unready.NoFeature all stands legal is =
-    absurd (∥∥₁_elim (next_may h k e v stands legal) ⊥_prop (λ (m : MayFollow v e). not_lacking ids v e.act all m.fits is))
-next_unready ids h k e v unready.Unchanged all stands legal is =
+next_unready h k e v unready.NoFeature all stands legal is =
+    absurd (∥∥₁_elim (next_may h k e v stands legal) ⊥_prop (λ (m : MayFollow v e). not_lacking v e.act all m.fits is))
+next_unready h k e v unready.Unchanged all stands legal is =
     absurd (∥∥₁_elim (next_may h k e v stands legal) ⊥_prop (λ (m : MayFollow v e). not_done v e.act m.fits is))
-next_unready ids h k e v unready.Full all stands legal is =
+next_unready h k e v unready.Full all stands legal is =
     absurd (∥∥₁_elim (next_may h k e v stands legal) ⊥_prop (λ (m : MayFollow v e). let room = m.room in let last = is.2 in absurd (omega (arith, room, last))))
-next_unready ids h k e v unready.OutOfMemory all stands legal is = refl
+next_unready h k e v unready.OutOfMemory all stands legal is = refl

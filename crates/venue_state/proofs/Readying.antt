@@ -1,99 +1,134 @@
 -- What a board's answer to an act says of the change that asked for it.
-use Rattle.std.proofs.Common.{◌≡◌, ◌∙◌, ℕ, ◌+◌, Bool, true, false, refl, sym, ap, subst, List, Option, None}
+use Rattle.std.proofs.Common.{◌≡◌, ◌∙◌, ℕ, ◌+◌, Bool, true, false, not, refl, sym, ap, subst, List, Option, Some, None}
 use Rattle.std.proofs.lemmas.List.Elements.{All-contains}
-use Rattle.std.specs.Prelude.{◌≢◌, All, Contains, IsTrue, ◌↔◌, if◌then◌else◌}
-use Rattle.venue_types.specs.declared.feature_id.FeatureId.{FeatureId}
+use Rattle.std.specs.Prelude.{All, Contains, IsTrue, if◌then◌else◌}
 use Rattle.venue_types.specs.declared.files.Files.{Files}
+use Rattle.venue_types.specs.declared.profile_set.ProfileSet.{ProfileSet}
 use Rattle.venue_types.specs.declared.query.Change.TheVariants.{Closure as AskedClosure, Publish}
 use Rattle.venue_types.specs.declared.query.Closure.{Closure}
 use Rattle.venue_types.specs.declared.reply.ClosureDone.{ClosureDone}
 use Rattle.venue_types.specs.declared.reply.Reply.TheVariants as reply
+use Rattle.venue_types.specs.ProfileSets.{is_empty, has_all_of, has_any_of}
+use Rattle.venue_types.proofs.ProfileSetLemmas.{has_all_of_nobody}
 use Rattle.route_search.specs.Nodes.{closables}
 use Rattle.venue_history.specs.Venues.{SeenVenue as Venue}
 use Rattle.venue_history.specs.Built.{IsVenueOf}
 use Rattle.venue_history.specs.Shelves.{Shelf}
 use Rattle.venue_history.specs.declared.entry.Act.{Act}
 use Rattle.venue_history.specs.declared.entry.Act.TheVariants.{Closed, Reopened}
-use Rattle.venue_history.specs.Changes.{AreRead, StandsOtherwise, TellsOf}
-use Rattle.venue_history.specs.Closed.{Version, is_closed, closed_ids}
+use Rattle.venue_history.specs.Changes.{AreRead, StandsOtherwise, TellsOf, stands_so}
+use Rattle.venue_history.specs.Closed.{Version, closed_set, closed_ids}
+use Rattle.venue_history.specs.Named.{named_set, repeated}
 use Rattle.venue_history.specs.Versions.{Fits, after}
+use Rattle.venue_history.proofs.Closings.{empty_nobody}
+use Rattle.venue_history.proofs.Fitting.{some_there}
 use Rattle.venue_state.specs.declared.prepared.NextBoard.{NextBoard}
 use Rattle.venue_state.specs.Preparing.{IsReady, IsUnready, LacksFeature, IsDone}
 use Rattle.venue_state.specs.declared.unready.Unready.TheVariants as unready
-use Rattle.venue_state.specs.Making.{closing_of, closure_act, Brings, IsMade, Leaves}
+use Rattle.venue_state.specs.Making.{closure_act, Brings, IsMade, Leaves}
+use Rattle.venue_state.proofs.Replying.{there, listed_any}
 
--- what the law on what is closed says of identifiers
-abbrev pub ClosedIds : Type 0
-ClosedIds = (v : Version) (id : FeatureId) → IsTrue (is_closed v id) ↔ Contains (closed_ids v) id
+-- the act that closes what is asked for these profiles, or opens it again
+abbrev act_by : Closure → ProfileSet → Bool → Act
+act_by asked set closed = if closed then Closed (record { feature = asked.feature; profiles = set }) else Reopened (record { feature = asked.feature; profiles = set })
 
-decided : (b : Bool) (P : Type 0) → (b ≡ true → P) → (P → b ≡ true) → ¬ ¬ P → P
-decided true P gives takes some = gives refl
-decided false P gives takes some = absurd (some (λ (p : P). let e : false ≡ true = takes p in cc))
+-- ---- how the feature stands
 
--- a feature that doesn't lack can be closed
-closable : ClosedIds → (v : Version) (id : FeatureId) → ¬ ¬ Contains (closables v.features) id → Contains (closables v.features) id
-closable ids v id some =
-    let all : Version = record v { closed = closables v.features } in
-    decided (is_closed all id) (Contains (closables v.features) id) (ids all id).0 (ids all id).1 some
+module _ (v : Version) (asked : Closure) (set : ProfileSet) where
+  all : Bool
+  all = has_all_of (closed_set v asked.feature) set
 
--- the act that closes what is asked, or opens it again
-abbrev act_by : Closure → Bool → Act
-act_by asked closed = if closed then Closed (closing_of asked) else Reopened (closing_of asked)
+  any : Bool
+  any = has_any_of (closed_set v asked.feature) set
 
-otherwise_by : (v : Version) (asked : Closure) (closed : Bool) → asked.closed ≡ closed → Contains (closables v.features) asked.feature
-    → ¬ IsDone v (act_by asked closed) → is_closed v asked.feature ≢ asked.closed
-otherwise_by v asked true e has undone = λ is. undone (has, is ∙ e)
-otherwise_by v asked false e has undone = λ is. undone (has, λ (t : is_closed v asked.feature ≡ true). let other : false ≡ true = sym (is ∙ e) ∙ t in cc)
+other_closed : (closed all any : Bool) → closed ≡ true → ¬ IsTrue all → ¬ IsTrue (if closed then all else not any)
+other_closed true all any e other = other
+other_closed false all any e other = absurd (cc e)
 
-otherwise : (v : Version) (asked : Closure) → Contains (closables v.features) asked.feature → ¬ IsDone v (closure_act asked) → StandsOtherwise v asked
-otherwise v asked has undone = (has, otherwise_by v asked asked.closed refl has undone)
+other_open : (closed all any : Bool) → closed ≡ false → ¬ ¬ IsTrue any → ¬ IsTrue (if closed then all else not any)
+other_open true all any e is = absurd (cc e)
+other_open false all true e is = λ so. absurd (cc so)
+other_open false all false e is = λ so. is (λ no. absurd (cc no))
 
-has_feature : ClosedIds → (v : Version) (asked : Closure) (closed : Bool) → ¬ LacksFeature v (act_by asked closed) → Contains (closables v.features) asked.feature
-has_feature ids v asked true some = closable ids v asked.feature some
-has_feature ids v asked false some = closable ids v asked.feature some
+-- ---- closures that aren't made ready
 
-pub due_closure : ClosedIds → (v : Version) (asked : Closure) → IsUnready v (closure_act asked) unready.Full → StandsOtherwise v asked
-due_closure ids v asked full = otherwise v asked (has_feature ids v asked asked.closed full.0) full.1
+has_by : (v : Version) (asked : Closure) (set : ProfileSet) (closed : Bool) → ¬ LacksFeature v (act_by asked set closed) → Contains (closables v.features) asked.feature
+has_by v asked set true some = there (closables v.features) asked.feature some
+has_by v asked set false some = there (closables v.features) asked.feature some
 
-stands_by : ClosedIds → (v : Version) (asked : Closure) (closed : Bool) → asked.closed ≡ closed → All (Contains (closables v.features)) (closed_ids v)
-    → Fits v (act_by asked closed) → StandsOtherwise v asked
-stands_by ids v asked true e all fits = (fits.0, λ is. fits.1 (is ∙ e))
-stands_by ids v asked false e all fits = (
-  All-contains (Contains (closables v.features)) (closed_ids v) asked.feature all ((ids v asked.feature).0 fits),
-  λ is. let other : true ≡ false = sym fits ∙ (is ∙ e) in cc,
-)
+-- it stands otherwise
+undone_by : (v : Version) (asked : Closure) (set : ProfileSet) (closed : Bool) → asked.closed ≡ closed → Contains (closables v.features) asked.feature
+    → ¬ IsDone v (act_by asked set closed) → ¬ IsTrue (stands_so v asked set)
+unfolding all any
+undone_by v asked set true e has undone = other_closed asked.closed (all v asked set) (any v asked set) e (λ is. undone (has, is))
+undone_by v asked set false e has undone = other_open asked.closed (all v asked set) (any v asked set) e (λ not_any. undone (has, not_any))
 
-stands_otherwise : ClosedIds → (v : Version) (asked : Closure) → All (Contains (closables v.features)) (closed_ids v) → Fits v (closure_act asked) → StandsOtherwise v asked
-stands_otherwise ids v asked all fits = stands_by ids v asked asked.closed refl all fits
+pub due_closure : (v : Version) (asked : Closure) (set : ProfileSet) → named_set v.settings asked.profiles ≡ Some set → IsUnready v (closure_act asked set) unready.Full
+    → StandsOtherwise v asked
+due_closure v asked set named full =
+    let has = has_by v asked set asked.closed full.0 in
+    (set, record { named = named; closable = has }, undone_by v asked set asked.closed refl has full.1)
 
-brought_by : (shelf : Option Shelf) (v : Version) (asked : Closure) (closed : Bool) → asked.closed ≡ closed → StandsOtherwise v asked
-    → Brings shelf v (AskedClosure asked) (act_by asked closed) None
-brought_by shelf v asked true e other = (e, refl, other)
-brought_by shelf v asked false e other = (e, refl, other)
+-- for nobody it stands as asked, if it can be closed
+nobody_by : (v : Version) (asked : Closure) (set : ProfileSet) (closed : Bool) → IsTrue (is_empty set) → Contains (closables v.features) asked.feature
+    → IsDone v (act_by asked set closed)
+nobody_by v asked set true empty has =
+    (has, subst (λ (s : ProfileSet). IsTrue (has_all_of (closed_set v asked.feature) s)) (sym (empty_nobody set empty)) (has_all_of_nobody (closed_set v asked.feature)))
+nobody_by v asked set false empty has = (has, λ any. some_there (closed_set v asked.feature) set any empty)
 
-brought : (shelf : Option Shelf) (v : Version) (asked : Closure) → StandsOtherwise v asked → Brings shelf v (AskedClosure asked) (closure_act asked) None
-brought shelf v asked other = brought_by shelf v asked asked.closed refl other
+pub done_for_nobody : (v : Version) (asked : Closure) (set : ProfileSet) → IsTrue (is_empty set) → Contains (closables v.features) asked.feature
+    → IsUnready v (closure_act asked set) unready.Unchanged
+done_for_nobody v asked set empty has = nobody_by v asked set asked.closed empty has
+
+-- ---- closures that are made ready
 
 -- the reply that tells of a closure
-abbrev done_at : ℕ → Closure → ClosureDone
-done_at number asked = record { number = number; feature = asked.feature; closed = asked.closed; changed = true }
+abbrev done_at : ℕ → Closure → Option (List (List ℕ)) → ClosureDone
+done_at number asked names = record { number = number; feature = asked.feature; closed = asked.closed; changed = true; profiles = names }
 
-tells_by : (v : Version) (asked : Closure) (number : ℕ) (closed : Bool) → asked.closed ≡ closed → number ≡ v.number + 1
-    → TellsOf v (act_by asked closed) (reply.ClosureDone (done_at number asked))
-tells_by v asked number true e next = record { number_is = next; feature_is = refl; closed_is = e; changed_is = refl }
-tells_by v asked number false e next = record { number_is = next; feature_is = refl; closed_is = e; changed_is = refl }
+brought_by : (shelf : Option Shelf) (v : Version) (asked : Closure) (set : ProfileSet) (closed : Bool) → asked.closed ≡ closed
+    → named_set v.settings asked.profiles ≡ Some set → All (Contains (closables v.features)) (closed_ids v) → Fits v (act_by asked set closed)
+    → Brings shelf v (AskedClosure asked) (act_by asked set closed) None
+unfolding all any
+brought_by shelf v asked set true e named all_can fits = (
+  e,
+  record {
+    feature_is = refl;
+    closure_for = record { named = named; closable = fits.1 };
+    stood = other_closed asked.closed (all v asked set) (any v asked set) e fits.2;
+  },
+)
+brought_by shelf v asked set false e named all_can fits = (
+  e,
+  record {
+    feature_is = refl;
+    closure_for = record {
+      named = named;
+      closable = All-contains (Contains (closables v.features)) (closed_ids v) asked.feature all_can (listed_any v.closed asked.feature set fits.1);
+    };
+    stood = other_open asked.closed (all v asked set) (any v asked set) e (λ no. no fits.1);
+  },
+)
 
-pub made_closure : ClosedIds → (shelf : Option Shelf) (v : Version) (worker : ℕ) (asked : Closure) (ready : NextBoard) (number : ℕ)
-    → All (Contains (closables v.features)) (closed_ids v) → IsReady v (closure_act asked) worker ready → number ≡ v.number + 1
-    → IsMade shelf v worker (AskedClosure asked) ready (reply.ClosureDone (done_at number asked)) None
-made_closure ids shelf v worker asked ready number all is next =
-    let fits : Fits v (closure_act asked) = subst (Fits v) is.act_is is.may.fits in
+tells_by : (v : Version) (asked : Closure) (set : ProfileSet) (number : ℕ) (names : Option (List (List ℕ))) (closed : Bool) → number ≡ v.number + 1
+    → names ≡ repeated v.settings asked.profiles set → TellsOf v (AskedClosure asked) (act_by asked set closed) (reply.ClosureDone (done_at number asked names))
+tells_by v asked set number names true next told = record { number_is = next; feature_is = refl; closed_is = refl; changed_is = refl; profiles_are = told }
+tells_by v asked set number names false next told = record { number_is = next; feature_is = refl; closed_is = refl; changed_is = refl; profiles_are = told }
+
+pub made_closure : (shelf : Option Shelf) (v : Version) (worker : ℕ) (asked : Closure) (set : ProfileSet) (ready : NextBoard) (number : ℕ) (names : Option (List (List ℕ)))
+    → All (Contains (closables v.features)) (closed_ids v) → named_set v.settings asked.profiles ≡ Some set → names ≡ repeated v.settings asked.profiles set
+    → IsReady v (closure_act asked set) worker ready → number ≡ v.number + 1
+    → IsMade shelf v worker (AskedClosure asked) ready (reply.ClosureDone (done_at number asked names)) None
+made_closure shelf v worker asked set ready number names all_can named told is next =
+    let fits : Fits v (closure_act asked set) = subst (Fits v) is.act_is is.may.fits in
     record {
       by_worker = is.worker_is;
       may = is.may;
       next_is = is.next_is ∙ ap (after v) (sym is.act_is);
-      brings = subst (λ (a : Act). Brings shelf v (AskedClosure asked) a None) (sym is.act_is) (brought shelf v asked (stands_otherwise ids v asked all fits));
-      tells = subst (λ (a : Act). TellsOf v a (reply.ClosureDone (done_at number asked))) (sym is.act_is) (tells_by v asked number asked.closed refl next);
+      brings = subst (λ (a : Act). Brings shelf v (AskedClosure asked) a None) (sym is.act_is) (brought_by shelf v asked set asked.closed refl named all_can fits);
+      tells =
+          subst (λ (a : Act). TellsOf v (AskedClosure asked) a (reply.ClosureDone (done_at number asked names))) (sym is.act_is)
+          (tells_by v asked set number names asked.closed next told);
     }
 
 pub full_publication : (shelf : Option Shelf) (v : Version) (folder : List ℕ) (files : Files) (venue : Venue) (number : ℕ)

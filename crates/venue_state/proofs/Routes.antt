@@ -1,13 +1,15 @@
 -- Answers of a search over links that stand for others, and what a reply tells of them.
-use Rattle.std.proofs.Common.{◌≡◌, ◌∙◌, ◌↔◌, ℕ, List, [], ◌∷◌, map, sym, ap, Bool, true, false, Option, Some, None, subst}
+use Rattle.std.proofs.Common.{◌≡◌, ◌∙◌, ◌↔◌, ℕ, List, [], ◌∷◌, map, sym, ap, Bool, true, false, Option, Some, None, subst, filter}
 use Rattle.venue_types.specs.declared.feature_id.FeatureId.{FeatureId}
 use Rattle.venue_types.specs.declared.link.Link.{Link}
+use Rattle.venue_types.specs.declared.profile_set.ProfileSet.{ProfileSet}
 use Rattle.venue_types.specs.declared.settings.Profile.{Profile}
 use Rattle.walk_laws.specs.Walks.{IsWalk, HasWalk}
 use Rattle.venue_types.specs.declared.features.Features.{Features}
 use Rattle.venue_types.specs.declared.settings.Settings.{Settings}
+use Rattle.venue_types.specs.ProfileSets.{has}
 use Rattle.route_search.specs.Nodes.{closables}
-use Rattle.route_search.specs.Marking.{chosen, is_set, marked}
+use Rattle.route_search.specs.Marking.{chosen, marked}
 use Rattle.route_search.specs.Networks.{Network, IsNetworkOf, IsPassable}
 use Rattle.route_search.specs.Usable.{IsUsable}
 use Rattle.route_search.specs.Views.{link_view}
@@ -15,9 +17,12 @@ use Rattle.route_search.specs.declared.found.Found.{Found}
 use Rattle.route_search.specs.declared.found.Found.TheVariants.{Route, Cut}
 use Rattle.route_search.specs.Answers.{IsAnswer}
 use Rattle.route_search.specs.Answers as search
-use Rattle.venue_history.specs.Closed.{Version, closed_ids, closed_for}
+use Rattle.venue_history.specs.declared.entry.Closing.{Closing}
+use Rattle.venue_history.specs.Closed.{Version, feature_of, closed_for}
 use Rattle.venue_history.specs.Ways.{Usable, name_of}
 use Rattle.venue_history.specs.Answers.{IfAsked, IsTrip, AreReached, IsNoRoute}
+use Rattle.venue_state.specs.Boards.{closed_by}
+use Rattle.venue_state.proofs.Marking.{chosen_for}
 
 walk_over : (P Q : Link → Type 0) → ((link : Link) → P link → Q link) → (walk : List Link) (a b : ℕ) → IsWalk link_view P a b walk → IsWalk link_view Q a b walk
 walk_over P Q over [] a b w = w
@@ -51,18 +56,21 @@ abbrev pub PassesUsable : Type 0
 PassesUsable = (features : Features) (settings : Settings) (given : Network) (closed : List FeatureId) (profile : Profile) (link : Link)
     → IsNetworkOf features settings given → IsPassable given closed profile link ↔ IsUsable features settings closed profile link
 
-marked_is : (v : Version) (given : Network) (marks : List Bool) → IsNetworkOf v.features v.settings given → chosen is_set marks (closables v.features) ≡ closed_ids v
-    → marked given marks ≡ closed_ids v
+-- what is marked for a profile is what is closed for it
+marked_is : (v : Version) (given : Network) (marks : List ProfileSet) (number : ℕ) → IsNetworkOf v.features v.settings given → closed_by marks (closables v.features) ≡ v.closed
+    → marked given marks number ≡ closed_for v number
 unfolding marked
-marked_is v given marks net e = ap (chosen is_set marks) net.closables_are ∙ e
+marked_is v given marks number net e =
+    ap (chosen (has number) marks) net.closables_are ∙ chosen_for number marks (closables v.features)
+    ∙ ap (λ (closed : List Closing). map feature_of (filter (λ (it : Closing). has number it.profiles) closed)) e
 
 -- an answer over the graph is one at the version
-pub version_answer : PassesUsable → (v : Version) (given : Network) (marks : List Bool) (number : ℕ) (profile : Profile) (a b : ℕ) (found : Found)
-    → IsNetworkOf v.features v.settings given → chosen is_set marks (closables v.features) ≡ closed_ids v
-    → IsAnswer (IsPassable given (marked given marks) profile) a b found → IsAnswer (Usable v number profile) a b found
-version_answer law v given marks number profile a b found net chosen_is =
-    let same = marked_is v given marks net chosen_is in
-    answer_over (IsPassable given (marked given marks) profile) (Usable v number profile)
+pub version_answer : PassesUsable → (v : Version) (given : Network) (marks : List ProfileSet) (number : ℕ) (profile : Profile) (a b : ℕ) (found : Found)
+    → IsNetworkOf v.features v.settings given → closed_by marks (closables v.features) ≡ v.closed
+    → IsAnswer (IsPassable given (marked given marks number) profile) a b found → IsAnswer (Usable v number profile) a b found
+version_answer law v given marks number profile a b found net closed_is =
+    let same = marked_is v given marks number net closed_is in
+    answer_over (IsPassable given (marked given marks number) profile) (Usable v number profile)
     (λ link p.
     let u = (law v.features v.settings given (closed_for v number) profile link net).0 (subst (λ (closed : List FeatureId). IsPassable given closed profile link) same p) in
     record { there = u.there; allowed = u.allowed; free = u.free })

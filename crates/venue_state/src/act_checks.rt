@@ -37,13 +37,23 @@ fn judge_feature(board: &Board, act: &Act) -> Result<(), Unready>
         }
         Act::Closed(it) => match board.state(it.feature) {
             None => Err(Unready::NoFeature),
-            Some(true) => Err(Unready::Unchanged),
-            Some(false) => Ok(()),
+            Some(set) => {
+                if set.has_all_of(it.profiles) {
+                    Err(Unready::Unchanged)
+                } else {
+                    Ok(())
+                }
+            }
         },
         Act::Reopened(it) => match board.state(it.feature) {
             None => Err(Unready::NoFeature),
-            Some(true) => Ok(()),
-            Some(false) => Err(Unready::Unchanged),
+            Some(set) => {
+                if set.has_any_of(it.profiles) {
+                    Ok(())
+                } else {
+                    Err(Unready::Unchanged)
+                }
+            }
         },
     }
 }

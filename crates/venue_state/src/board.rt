@@ -4,19 +4,19 @@ ghost use Rattle.std.specs.Prelude.{◌≡◌, ◌+◌, ◌≤◌, length, IfOk,
 ghost use Rattle.std.specs.Arc.{arc_value};
 ghost use Rattle.route_search.specs.Nodes.{closables};
 ghost use Rattle.route_search.specs.Graphs.{network};
-ghost use Rattle.route_search.specs.Marking.{chosen, is_set};
 ghost use Rattle.route_search.specs.Networks.{IsNetworkOf};
-ghost use Rattle.venue_history.specs.Closed.{closed_ids, closed_count};
-ghost use Rattle.venue_history.specs.Versions.{opening};
-ghost use Rattle.venue_state.specs.Boards.{IsStand, version_of};
+ghost use Rattle.venue_history.specs.Closed.{closed_count, everybody};
+ghost use Rattle.venue_history.specs.Versions.{AreProfiles, opening};
+ghost use Rattle.venue_state.specs.Boards.{IsStand, closed_by, version_of};
 
+use crate::profile_names::everybody;
 use crate::stand::Stand;
 use route_search::{Graph, Marks};
 use std::alloc::Global;
 use std::marker::Model;
 use std::sync::Arc;
-use venue_history::Venue;
-use venue_types::{OutOfMemory, Settings};
+use venue_history::{Closing, Venue};
+use venue_types::{FeatureId, OutOfMemory, Settings};
 
 /// One version of a venue, to be asked. It is one handle to what it keeps, which several boards may share.
 #[derive(Drop)]
@@ -97,7 +97,18 @@ impl Board {
         }
     }
 
-    /// How many features are closed.
+    /// The closing of a feature for all profiles of the settings.
+    pub fn closing(&self, id: FeatureId) -> Closing
+        ensures is { result ≡ record { feature = id; profiles = everybody self.now.settings } }
+        ensures profiles { AreProfiles self.now.settings result.profiles }
+    {
+        Closing {
+            feature: id,
+            profiles: everybody(self.settings()),
+        }
+    }
+
+    /// How many features are closed for anybody.
     #[tactic(auto, unfolding(crate::specs::Boards::version_of))]
     pub(crate) fn closed_count(&self) -> u32
         ensures { result ≡ closed_count self.now }
@@ -138,11 +149,11 @@ impl Board {
         &self.stand.settings
     }
 
-    /// Which features are closed, by the numbers of the graph.
+    /// For whom each feature is closed, by the numbers of the graph.
     #[tactic(auto, unfolding(crate::specs::Boards::version_of))]
     pub(crate) fn marks(&self) -> &Marks
         ensures whole { length result.now ≡ length (closables self.now.features) }
-        ensures closed { chosen is_set result.now (closables self.now.features) ≡ closed_ids self.now }
+        ensures closed { closed_by result.now (closables self.now.features) ≡ self.now.closed }
     {
         &self.stand.marks
     }

@@ -1,12 +1,11 @@
 //! The board after an act.
 
-ghost use Rattle.std.specs.Prelude.{◌≡◌, ◌+◌, ◌≤◌, IfOk, [], filter};
+ghost use Rattle.std.specs.Prelude.{◌≡◌, ◌+◌, ◌≤◌, IfOk, []};
 ghost use Rattle.std.specs.Arc.{arc_value};
 ghost use Rattle.route_search.specs.Nodes.{closables};
-ghost use Rattle.route_search.specs.Marking.{chosen, is_set};
 ghost use Rattle.venue_history.specs.Changes.{dropped_ids};
-ghost use Rattle.venue_history.specs.Closed.{is_one_of, closed_ids};
 ghost use Rattle.venue_history.specs.Versions.{after, still_closed};
+ghost use Rattle.venue_state.specs.Boards.{closed_by};
 ghost use Rattle.venue_state.specs.Preparing.{HasSettings, dropped_by};
 ghost use Rattle.venue_state.specs.Tallies.{IsTally, remarked};
 
@@ -17,7 +16,7 @@ use crate::tally::{Tally, mark};
 use std::alloc::Global;
 use std::sync::Arc;
 use venue_history::{Act, Venue};
-use venue_types::{FeatureId, List, OutOfMemory};
+use venue_types::{FeatureId, List, OutOfMemory, ProfileSet};
 
 /// The board after an act, and the closed features that the act drops.
 #[derive(Drop)]
@@ -41,12 +40,18 @@ pub(crate) fn following(
 {
     match act {
         Act::Published(venue) => published(alloc, board, number, venue),
-        Act::Closed(it) => changed(alloc, board, number, it.feature, true),
-        Act::Reopened(it) => changed(alloc, board, number, it.feature, false),
+        Act::Closed(it) => {
+            let closed = board.closed_set(it.feature).joined(it.profiles);
+            changed(alloc, board, number, it.feature, closed)
+        }
+        Act::Reopened(it) => {
+            let left = board.closed_set(it.feature).without(it.profiles);
+            changed(alloc, board, number, it.feature, left)
+        }
     }
 }
 
-// After a publication: what is closed and can be closed still stays so.
+// After a publication: what is closed and can be closed still stays so, for the same profiles.
 fn published(
     alloc: Global,
     board: &Board,
@@ -59,29 +64,28 @@ fn published(
     ensures next { IfOk result (λ a. a.board ≡ record board.now { number = board.now.number + 1; features = (arc_value venue.now).features; closed = still_closed board.now (arc_value venue.now).features }) }
     ensures dropped { IfOk result (λ a. a.dropped ≡ dropped_ids board.now (arc_value venue.now).features) }
 {
-    let closed = board.closed_ids(alloc)?;
+    board.order_law();
+    let closed = board.closed_list(alloc)?;
     let Carried { tally, dropped } = carry_over(alloc, venue.graph(), closed.as_slice())?;
     let board = next_board(alloc, board, number, venue, tally)?;
     Ok(After { board, dropped })
 }
 
-// After a feature is closed or reopened.
+// After a feature is closed for these profiles alone, or for none.
 fn changed(
     alloc: Global,
     board: &Board,
     number: u32,
     id: FeatureId,
-    closed: bool,
+    profiles: ProfileSet,
 ) -> Result<After, OutOfMemory>
     requires next { number ≡ board.now.number + 1 }
     requires room { number ≤ board.now.settings.last_version }
-    ensures next { IfOk result (λ a. a.board ≡ record board.now { number = board.now.number + 1; closed = remarked (closables board.now.features) (closed_ids board.now) id closed }) }
-    ensures order { closed_ids board.now ≡ filter (is_one_of (closed_ids board.now)) (closables board.now.features) }
+    ensures next { IfOk result (λ a. a.board ≡ record board.now { number = board.now.number + 1; closed = remarked (closables board.now.features) board.now.closed id profiles }) }
     ensures dropped { IfOk result (λ a. a.dropped ≡ []) }
 {
-    board.order_law();
     let mut tally = board.tally(alloc)?;
-    let _can = mark(&mut tally, board.graph(), id, closed);
+    let _can = mark(&mut tally, board.graph(), id, profiles);
     let board = next_board(alloc, board, number, board.venue_handle(), tally)?;
     Ok(After {
         board,
@@ -101,7 +105,7 @@ fn next_board(
     requires room { number ≤ board.now.settings.last_version }
     requires settings { (arc_value venue.now).settings ≡ board.now.settings }
     requires tallied { IsTally (closables (arc_value venue.now).features) tally }
-    ensures { IfOk result (λ next. next ≡ record board.now { number = board.now.number + 1; features = (arc_value venue.now).features; closed = chosen is_set tally.marks (closables (arc_value venue.now).features) }) }
+    ensures { IfOk result (λ next. next ≡ record board.now { number = board.now.number + 1; features = (arc_value venue.now).features; closed = closed_by tally.marks (closables (arc_value venue.now).features) }) }
 {
     let venue = Arc::try_clone(venue)?;
     let settings = Arc::try_clone(board.settings())?;

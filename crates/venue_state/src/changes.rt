@@ -1,25 +1,30 @@
 //! Changes, made ready at a board. Nothing here knows where the history is kept.
 
-ghost use Rattle.std.specs.Prelude.{◌≡◌, ℕ, ◌+◌, ◌<◌, ◌≤◌, List as AList, Option as AnOption, IfOk, IfErr, OnOk, All, Contains, length};
+ghost use Rattle.std.specs.Prelude.{◌≡◌, ℕ, ◌+◌, ◌<◌, ◌≤◌, List as AList, Option as AnOption, Some, IsTrue, IfOk, IfErr, OnOk, All, Contains, length};
 ghost use Rattle.std.specs.Arc.{arc_value};
 ghost use Rattle.venue_types.specs.declared.query.Change.TheVariants.{Closure as AskedClosure, Publish};
+ghost use Rattle.venue_types.specs.ProfileSets.{is_within};
 ghost use Rattle.route_search.specs.Nodes.{closables};
 ghost use Rattle.venue_history.specs.Built.{IsVenueOf};
 ghost use Rattle.venue_history.specs.Shelves.{Shelf};
 ghost use Rattle.venue_history.specs.Changes.{AreRead};
 ghost use Rattle.venue_history.specs.Closed.{closed_ids};
+ghost use Rattle.venue_history.specs.Named.{named_set, repeated};
+ghost use Rattle.venue_state.specs.Preparing.{IsReady, IsUnready};
 ghost use Rattle.venue_state.specs.Making.{shelf_of, closure_act, IsOutcome, CountsOutcome, IsUnread, IsUnmade};
 
 use crate::base_folders::BaseFolders;
 use crate::board::Board;
 use crate::prepared::NextBoard;
+use crate::profile_names::{named_set, repeated};
 use crate::unready::Unready;
 use std::alloc::Global;
 use std::sync::Arc;
-use venue_history::{Act, Built, Closing, Venue, build, closed_law};
+use venue_history::{Act, Built, Closing, Venue, build};
 use venue_ports::{Folders, ReadFault};
 use venue_types::{
-    Change, Closure, ClosureDone, FeatureId, Files, List, OutOfMemory, Reply, Settings, Text,
+    Change, Closure, ClosureDone, FeatureId, Files, List, OutOfMemory, ProfileSet, Reply, Settings,
+    Text,
 };
 
 /// What becomes of a change.
@@ -40,12 +45,13 @@ fn next_number(board: &Board, settings: &Settings) -> u32
     board.number() + 1
 }
 
-// What closes a feature, or opens it again.
-fn closure_act(asked: Closure) -> Act
-    ensures { result ≡ closure_act asked }
+// What closes a feature for these profiles, or opens it again.
+fn closure_act(asked: &Closure, profiles: ProfileSet) -> Act
+    ensures { result ≡ closure_act asked.now profiles }
 {
     let closing = Closing {
         feature: asked.feature,
+        profiles,
     };
     if asked.closed {
         Act::Closed(closing)
@@ -54,24 +60,51 @@ fn closure_act(asked: Closure) -> Act
     }
 }
 
-// A feature closed, or opened again.
-fn ready_closure(
+// A closure for these profiles made ready. For nobody it changes nothing.
+fn ready_for(
+    alloc: Global,
+    board: &Board,
+    worker: u8,
+    asked: &Closure,
+    profiles: ProfileSet,
+) -> Result<NextBoard, Unready>
+    requires some { 1 ≤ worker }
+    requires range { worker ≤ 16 }
+    requires known { IsTrue (is_within (length board.now.settings.profiles) profiles) }
+    ensures ready { IfOk result (λ ready. IsReady board.now (closure_act asked.now profiles) worker ready) }
+    ensures unready { IfErr result (λ unready. IsUnready board.now (closure_act asked.now profiles) unready) }
+{
+    if profiles.is_empty() {
+        match board.state(asked.feature) {
+            Some(_) => Err(Unready::Unchanged),
+            None => Err(Unready::NoFeature),
+        }
+    } else {
+        board.ready(alloc, closure_act(asked, profiles), worker)
+    }
+}
+
+// A feature closed for these profiles, or opened again, and the names that the reply repeats of them.
+fn closed_for(
     alloc: Global,
     board: &Board,
     settings: &Settings,
     worker: u8,
-    asked: Closure,
+    asked: &Closure,
+    profiles: ProfileSet,
+    names: Option<List<Text>>,
 ) -> Outcome
     requires some { 1 ≤ worker }
     requires range { worker ≤ 16 }
     requires settings { settings.now ≡ board.now.settings }
     requires closable { All (Contains (closables board.now.features)) (closed_ids board.now) }
-    ensures outcome { (shelf : AnOption Shelf) → IsOutcome shelf board.now worker (AskedClosure asked) result }
+    requires set { named_set board.now.settings asked.now.profiles ≡ Some profiles }
+    requires known { IsTrue (is_within (length board.now.settings.profiles) profiles) }
+    requires names { names ≡ repeated board.now.settings asked.now.profiles profiles }
+    ensures outcome { (shelf : AnOption Shelf) → IsOutcome shelf board.now worker (AskedClosure asked.now) result }
     ensures counts { (n : ℕ) → CountsOutcome n n result }
 {
-    closed_law();
-    let act = closure_act(asked);
-    match board.ready(alloc, act, worker) {
+    match ready_for(alloc, board, worker, asked, profiles) {
         Ok(ready) => {
             let number = next_number(board, settings);
             let done = ClosureDone {
@@ -79,6 +112,7 @@ fn ready_closure(
                 feature: asked.feature,
                 closed: asked.closed,
                 changed: true,
+                profiles: names,
             };
             Outcome::Made(ready, Reply::ClosureDone(done), None)
         }
@@ -88,11 +122,36 @@ fn ready_closure(
             feature: asked.feature,
             closed: asked.closed,
             changed: false,
+            profiles: names,
         })),
         Err(Unready::Full) => Outcome::Stays(Reply::HistoryFull {
             number: board.number(),
         }),
         Err(Unready::OutOfMemory) => Outcome::Stays(Reply::OutOfMemory),
+    }
+}
+
+// A feature closed, or opened again.
+fn ready_closure(
+    alloc: Global,
+    board: &Board,
+    settings: &Settings,
+    worker: u8,
+    asked: &Closure,
+) -> Outcome
+    requires some { 1 ≤ worker }
+    requires range { worker ≤ 16 }
+    requires settings { settings.now ≡ board.now.settings }
+    requires closable { All (Contains (closables board.now.features)) (closed_ids board.now) }
+    ensures outcome { (shelf : AnOption Shelf) → IsOutcome shelf board.now worker (AskedClosure asked.now) result }
+    ensures counts { (n : ℕ) → CountsOutcome n n result }
+{
+    match named_set(settings, &asked.profiles) {
+        Some(profiles) => match repeated(alloc, settings, &asked.profiles, profiles) {
+            Ok(names) => closed_for(alloc, board, settings, worker, asked, profiles, names),
+            Err(OutOfMemory) => Outcome::Stays(Reply::OutOfMemory),
+        },
+        None => Outcome::Stays(Reply::NoProfile),
     }
 }
 
@@ -240,7 +299,7 @@ pub fn ready_change<F: Folders>(
     ensures base { reader.new.base ≡ reader.old.base }
 {
     match change {
-        Change::Closure(asked) => ready_closure(alloc, board, settings, worker, *asked),
+        Change::Closure(asked) => ready_closure(alloc, board, settings, worker, asked),
         Change::Publish { folder } => ready_folder(alloc, board, settings, worker, reader, folder),
     }
 }

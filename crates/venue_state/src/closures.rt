@@ -1,60 +1,76 @@
-//! What is closed at a board's version.
+//! What is closed at a board's version, and for whom.
 
-ghost use Rattle.std.specs.Prelude.{◌≡◌, ◌≢◌, IfOk, IfSome, IfNone, AllPairs, Contains, filter, map};
+ghost use Rattle.std.specs.Prelude.{◌≡◌, ◌≢◌, IfOk, IfSome, IfNone, AllPairs, Contains, map};
 ghost use Rattle.route_search.specs.Graphs.{network};
-ghost use Rattle.route_search.specs.Marking.{AreMarksOf, chosen, is_set};
+ghost use Rattle.route_search.specs.Marking.{AreMarksOf};
 ghost use Rattle.route_search.specs.Nodes.{closables};
-ghost use Rattle.venue_history.specs.Closed.{is_closed, is_one_of, closed_ids, closed_row, closed_rows};
+ghost use Rattle.venue_history.specs.Closed.{feature_of, set_in, closed_ids, closed_set, closed_row, closed_rows};
+ghost use Rattle.venue_history.specs.Versions.{closings};
+ghost use Rattle.venue_state.specs.Boards.{closed_by};
 ghost use Rattle.venue_state.specs.Tallies.{IsTally, gone_from};
 
 use crate::board::Board;
+use crate::profile_names::named;
 use crate::tally::{Tally, mark};
 use route_search::{Graph, Marks};
 use std::alloc::Global;
-use venue_types::{ClosedRow, FeatureId, List, OutOfMemory};
+use venue_history::Closing;
+use venue_types::{ClosedRow, FeatureId, List, OutOfMemory, ProfileSet, Settings};
 
 impl Board {
-    /// Whether a feature is closed, if it can be closed.
-    pub(crate) fn state(&self, id: FeatureId) -> Option<bool>
+    /// For whom a feature is closed, if it can be closed.
+    pub(crate) fn state(&self, id: FeatureId) -> Option<ProfileSet>
         ensures none { IfNone result (¬ Contains (closables self.now.features) id) }
-        ensures some { IfSome result (λ closed. Contains (closables self.now.features) id × (closed ≡ is_closed self.now id)) }
+        ensures some { IfSome result (λ set. Contains (closables self.now.features) id × (set ≡ closed_set self.now id)) }
     {
         self.order_law();
         match self.graph().closable(id) {
-            Some(k) => Some(self.marks().is_marked(k)),
+            Some(k) => Some(self.marks().profiles(k)),
             None => None,
         }
     }
 
-    /// What can be closed stands once, and what is closed in the order of it.
+    /// For whom a feature is closed: what can't be closed is so for nobody.
+    pub(crate) fn closed_set(&self, id: FeatureId) -> ProfileSet
+        ensures { result ≡ closed_set self.now id }
+    {
+        self.order_law();
+        match self.state(id) {
+            Some(set) => set,
+            None => ProfileSet::nobody(),
+        }
+    }
+
+    /// What can be closed stands once, and so does what is closed, in the order of it.
     pub(crate) fn order_law(&self)
         ensures once { AllPairs (λ a b. a ≢ b) (closables self.now.features) }
-        ensures order { closed_ids self.now ≡ filter (is_one_of (closed_ids self.now)) (closables self.now.features) }
+        ensures order { self.now.closed ≡ closings (closed_set self.now) (closables self.now.features) }
+        ensures closed_once { AllPairs (λ a b. a ≢ b) (closed_ids self.now) }
     {
         self.graph().range_law();
         let _marks = self.marks();
     }
 
-    /// The features that are closed, in their order.
-    pub(crate) fn closed_ids(&self, alloc: Global) -> Result<List<FeatureId>, OutOfMemory>
-        ensures { IfOk result (λ ids. ids ≡ closed_ids self.now) }
+    /// What is closed and for whom, in order.
+    pub(crate) fn closed_list(&self, alloc: Global) -> Result<List<Closing>, OutOfMemory>
+        ensures { IfOk result (λ closed. closed ≡ self.now.closed) }
     {
         let marks = self.marks();
-        marked_ids(alloc, self.graph(), marks)
+        marked_list(alloc, self.graph(), marks)
     }
 
-    /// The features that are closed, as a reply lists them.
+    /// What is closed, as a reply lists it.
     pub(crate) fn closed_rows(&self, alloc: Global) -> Result<List<ClosedRow>, OutOfMemory>
         ensures { IfOk result (λ rows. rows ≡ closed_rows self.now) }
     {
-        let ids = self.closed_ids(alloc)?;
-        rows_of(alloc, ids.as_slice())
+        let closed = self.closed_list(alloc)?;
+        rows_of(alloc, self.settings(), closed.as_slice())
     }
 
     /// A copy of the marks, with their count.
     pub(crate) fn tally(&self, alloc: Global) -> Result<Tally, OutOfMemory>
         ensures tallied { IfOk result (IsTally (closables self.now.features)) }
-        ensures same { IfOk result (λ tally. chosen is_set tally.marks (closables self.now.features) ≡ closed_ids self.now) }
+        ensures same { IfOk result (λ tally. closed_by tally.marks (closables self.now.features) ≡ self.now.closed) }
     {
         let marks = self.marks().copy(alloc)?;
         Ok(Tally {
@@ -64,29 +80,39 @@ impl Board {
     }
 }
 
-// Closed features as a reply lists them.
-fn rows_of(alloc: Global, ids: &[FeatureId]) -> Result<List<ClosedRow>, OutOfMemory>
-    ensures { IfOk result (λ rows. rows ≡ map closed_row ids.now) }
+// What is closed as a reply lists it.
+fn rows_of(
+    alloc: Global,
+    settings: &Settings,
+    closed: &[Closing],
+) -> Result<List<ClosedRow>, OutOfMemory>
+    ensures { IfOk result (λ rows. rows ≡ map (closed_row settings.now) closed.now) }
 {
-    let mut rows = Vec::with_capacity(alloc, ids.len())?;
-    for id in ids {
-        rows.push(ClosedRow { id: *id })?;
+    let mut rows = Vec::with_capacity(alloc, closed.len())?;
+    for it in closed {
+        let profiles = named(alloc, settings, it.profiles)?;
+        rows.push(ClosedRow {
+            id: it.feature,
+            profiles,
+        })?;
     }
     Ok(List::from_vec(rows))
 }
 
-// The features that are marked, in their order.
-fn marked_ids(alloc: Global, graph: &Graph, marks: &Marks) -> Result<List<FeatureId>, OutOfMemory>
+// What is marked for anybody, in order.
+fn marked_list(alloc: Global, graph: &Graph, marks: &Marks) -> Result<List<Closing>, OutOfMemory>
     requires { AreMarksOf (network graph.now) marks.now }
-    ensures { IfOk result (λ ids. ids ≡ chosen is_set marks.now (network graph.now).closables) }
+    ensures { IfOk result (λ closed. closed ≡ closed_by marks.now (network graph.now).closables) }
 {
-    let mut ids = List::new(alloc);
+    let mut closed = List::new(alloc);
     for k in 0..graph.closables() {
-        if marks.is_marked(k) {
-            ids.push(graph.closable_id(k))?;
+        let profiles = marks.profiles(k);
+        if !profiles.is_empty() {
+            let feature = graph.closable_id(k);
+            closed.push(Closing { feature, profiles })?;
         }
     }
-    Ok(ids)
+    Ok(closed)
 }
 
 /// What is closed, carried over to the numbers of another graph, and what can't be closed there.
@@ -96,24 +122,25 @@ pub(crate) struct Carried {
     pub dropped: List<FeatureId>,
 }
 
-/// Carries these closed features over to a graph.
+/// Carries what is closed over to a graph, each feature with those for whom it is.
 pub(crate) fn carry_over(
     alloc: Global,
     graph: &Graph,
-    closed: &[FeatureId],
+    closed: &[Closing],
 ) -> Result<Carried, OutOfMemory>
+    requires { AllPairs (λ a b. a ≢ b) (map feature_of closed.now) }
     ensures tallied { IfOk result (λ c. IsTally (network graph.now).closables c.tally) }
-    ensures marked { IfOk result (λ c. chosen is_set c.tally.marks (network graph.now).closables ≡ filter (is_one_of closed.now) (network graph.now).closables) }
-    ensures dropped { IfOk result (λ c. c.dropped ≡ gone_from (network graph.now).closables closed.now) }
+    ensures marked { IfOk result (λ c. closed_by c.tally.marks (network graph.now).closables ≡ closings (set_in closed.now) (network graph.now).closables) }
+    ensures dropped { IfOk result (λ c. c.dropped ≡ gone_from (network graph.now).closables (map feature_of closed.now)) }
 {
     let mut tally = Tally {
         marks: Marks::none(alloc, graph)?,
         closed: 0,
     };
     let mut dropped = List::new(alloc);
-    for id in closed {
-        if !mark(&mut tally, graph, *id, true) {
-            dropped.push(*id)?;
+    for it in closed {
+        if !mark(&mut tally, graph, it.feature, it.profiles) {
+            dropped.push(it.feature)?;
         }
     }
     Ok(Carried { tally, dropped })

@@ -11,7 +11,7 @@ ghost use Rattle.venue_state.specs.Preparing.{HasSettings, IsUnready};
 ghost use Rattle.venue_state.specs.declared.unready.Unready.{Unready as AnUnready};
 ghost use Rattle.venue_state.specs.declared.unready.Unready.TheVariants as unready;
 
-use venue_history::{closed_law, version_law};
+use venue_history::version_law;
 
 /// A legal history has an entry, and the first is a publication by worker 0 of a venue whose rows every phase accepts.
 pub fn first_law()
@@ -30,6 +30,5 @@ pub fn following_law()
     ensures settings { (h k : List AnEntry) (e : AnEntry) (v : Version) → Replays h v → IsLegal (h ++ e ∷ k) → HasSettings v e.act }
     ensures unready { (h k : List AnEntry) (e : AnEntry) (v : Version) (why : AnUnready) → Replays h v → IsLegal (h ++ e ∷ k) → IsUnready v e.act why → why ≡ unready.OutOfMemory }
 {
-    closed_law();
     version_law();
 }

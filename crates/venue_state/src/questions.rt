@@ -4,13 +4,14 @@ ghost use Rattle.std.specs.Prelude.{◌≡◌, ◌<◌, IfOk, IfSome, IfNone, So
 ghost use Rattle.venue_types.specs.declared.query.Ask.TheVariants as ask;
 ghost use Rattle.venue_history.specs.Places.{places};
 ghost use Rattle.venue_history.specs.Answers.{Answers, AnswersAsk, IsTooEarly};
-ghost use Rattle.venue_history.specs.Closed.{is_closed};
+ghost use Rattle.venue_history.specs.Closed.{is_closed_for_all, shut_out};
 
 use crate::board::Board;
+use crate::profile_names::{is_everybody, named};
 use std::alloc::Global;
 use venue_history::{Venue, every_name};
 use venue_types::{
-    Ask, ClosuresTold, FeatureId, List, OutOfMemory, PlaceRow, PlaceTold, Query, Reply, Which,
+    Ask, ClosuresTold, FeatureId, List, OutOfMemory, PlaceRow, PlaceTold, Query, Reply, Text, Which,
 };
 
 impl Board {
@@ -86,24 +87,35 @@ impl Board {
         match venue.place_of(id) {
             Some(n) => {
                 let row = venue.place(alloc, n)?;
+                let profiles = self.shut_out(alloc, id)?;
                 Ok(Reply::Place(PlaceTold {
                     number: self.number(),
                     row,
-                    closed: self.is_closed(id),
+                    closed: self.is_closed_for_all(id),
+                    profiles,
                 }))
             }
             None => Ok(Reply::NoPlace(Which::Id)),
         }
     }
 
-    // Whether a feature is closed; what can't be closed never is.
-    fn is_closed(&self, id: FeatureId) -> bool
-        ensures { result ≡ is_closed self.now id }
+    // Whether a feature is closed for everybody; what can't be closed never is.
+    fn is_closed_for_all(&self, id: FeatureId) -> bool
+        ensures { result ≡ is_closed_for_all self.now id }
     {
-        self.order_law();
-        match self.state(id) {
-            Some(closed) => closed,
-            None => false,
+        let set = self.closed_set(id);
+        is_everybody(self.settings(), set) && !set.is_empty()
+    }
+
+    // The names of the profiles for which a feature is closed, where there are some and not all.
+    fn shut_out(&self, alloc: Global, id: FeatureId) -> Result<Option<List<Text>>, OutOfMemory>
+        ensures { IfOk result (λ names. names ≡ shut_out self.now id) }
+    {
+        let set = self.closed_set(id);
+        if set.is_empty() {
+            Ok(None)
+        } else {
+            named(alloc, self.settings(), set)
         }
     }
 }

@@ -5,14 +5,14 @@ use std::sync::Arc;
 use venue_history::Venue;
 use venue_types::Settings;
 
-/// A version, with marks for what is closed by the numbers of the venue's graph.
+/// A version, with marks for whom what is closed, by the numbers of the venue's graph.
 #[derive(Drop)]
 pub(crate) struct Stand {
     /// The number of the version.
     pub number: u32,
     pub venue: Arc<Venue>,
     pub marks: Marks,
-    /// How many are marked.
+    /// How many are marked for anybody.
     pub closed: u32,
     pub settings: Arc<Settings>,
 }

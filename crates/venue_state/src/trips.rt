@@ -10,6 +10,7 @@ ghost use Rattle.venue_history.specs.Answers.{AnswersAsk, IfAsked, IsTrip};
 ghost use Rattle.venue_history.specs.Ways.{Usable, profile_number, profile_of, name_of, mark_of};
 
 use crate::board::Board;
+use crate::profile_names::profile_number;
 use route_search::{Found, least, passable_law};
 use std::alloc::Global;
 use std::marker::Brand;
@@ -28,33 +29,25 @@ struct Trip {
 // A profile of the settings, and its number there.
 #[derive(Clone, Copy)]
 struct Numbered<'a> {
-    number: usize,
+    number: u8,
     profile: &'a Profile,
 }
 
 impl Board {
-    // The number of the profile of a name, the first if there are several.
-    #[tactic(auto, unfolding(venue_history::specs::Ways::profile_number))]
-    fn profile_number(&self, name: &Text) -> Option<usize>
-        ensures { result ≡ profile_number self.now.settings name.now }
-    {
-        let name = name.as_str();
-        self.settings()
-            .profiles
-            .iter()
-            .position(|profile| profile.name.as_str() == name)
-    }
-
     // The profile of a name with its number, the first if there are several.
     #[tactic(auto, unfolding(venue_history::specs::Ways::profile_of))]
     fn profile(&self, name: &Text) -> Option<Numbered<'_>>
         ensures number { IfSome result (λ it. profile_number self.now.settings name.now ≡ Some it.number) }
         ensures profile { IfSome result (λ it. profile_of self.now.settings name.now ≡ Some it.profile.now) }
+        ensures few { IfSome result (λ it. it.number < 16) }
         ensures none { IfNone result (profile_of self.now.settings name.now ≡ None) }
     {
-        let number = self.profile_number(name)?;
+        let number = profile_number(self.settings(), name)?;
         let profile = self.settings().profiles.get(number)?;
-        Some(Numbered { number, profile })
+        Some(Numbered {
+            number: number as u8,
+            profile,
+        })
     }
 
     // The node at which a place is.
@@ -106,6 +99,7 @@ impl Board {
     ) -> Result<Found, OutOfMemory>
         requires a_node { a < length (nodes self.now.features) }
         requires b_node { b < length (nodes self.now.features) }
+        requires number { traveller.now.number < 16 }
         ensures answer { IfOk result (IsAnswer (Usable self.now traveller.now.number traveller.now.profile.now) a b) }
         ensures small { IfOk result (IsSmall (length (nodes self.now.features))) }
     {
@@ -199,6 +193,7 @@ fn searched<L: Ledger>(
     requires some { 0 < L.parts }
     requires a_node { a < length (nodes board.now.features) }
     requires b_node { b < length (nodes board.now.features) }
+    requires number { traveller.now.number < 16 }
     ensures answer { IfOk result (IsAnswer (Usable board.now traveller.now.number traveller.now.profile.now) a b) }
     ensures small { IfOk result (IsSmall (length (nodes board.now.features))) }
 {
@@ -209,6 +204,7 @@ fn searched<L: Ledger>(
         board.graph(),
         board.marks(),
         traveller.profile,
+        traveller.number,
         a,
         b,
         &mut steps,

@@ -46,9 +46,9 @@ named_in (Some value) = None
 abbrev pub closure_in : Data → Option Change
 closure_in value =
     option_and_then (λ feature.
-        option_and_then (λ closed.
-            option_map (λ profiles. Closure (record { feature = feature; closed = closed; profiles = profiles })) (named_in (get (codes "profiles") value)))
-        (option_and_then as_bool (get (codes "closed") value)))
+    option_and_then (λ closed.
+    option_map (λ profiles. Closure (record { feature = feature; closed = closed; profiles = profiles })) (named_in (get (codes "profiles") value)))
+    (option_and_then as_bool (get (codes "closed") value)))
     (option_and_then identifier_read (text_in (codes "feature") value))
 
 -- the folder to be published

@@ -21,7 +21,7 @@ returns-clause-for_profile c v number id once = (
 )
 
 pub returns-clause-for_nobody : goal.returns-clause-for_nobody
-returns-clause-for_nobody c v id once some = (
+returns-clause-for_nobody c v id some = (
   λ empty there. listed_some v.closed id some (one_of_there (closed_ids v) id there) empty,
   λ other. ap is_empty (unlisted_nobody v.closed id (false_from_ne_true (is_one_of (closed_ids v) id) (λ there. other (there_one_of (closed_ids v) id there)))) ∙ nobody_empty,
 )

@@ -14,4 +14,4 @@ pub returns-clause-settings : goal.returns-clause-settings
 returns-clause-settings c = next_settings
 
 pub returns-clause-unready : goal.returns-clause-unready
-returns-clause-unready c = λ h k e v why stands legal is. next_unready c.closed_law.ensures.ids h k e v why (c.version_law.ensures.closable h v stands) stands legal is
+returns-clause-unready c = λ h k e v why stands legal is. next_unready h k e v why (c.version_law.ensures.closable h v stands) stands legal is

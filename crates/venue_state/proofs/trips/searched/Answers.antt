@@ -14,6 +14,6 @@ returns-clause-answer g c =
     let marks = c.marks.result.now in
     let number = c.args.traveller.now.number in
     let profile = c.args.traveller.now.profile.now in
-    IfOk-weaker c.least.result (IsAnswer (IsPassable given (marked given marks) profile) c.args.a c.args.b) (IsAnswer (Usable c.args.board.now number profile) c.args.a c.args.b)
+    IfOk-weaker c.least.result (IsAnswer (IsPassable given (marked given marks number) profile) c.args.a c.args.b) (IsAnswer (Usable c.args.board.now number profile) c.args.a c.args.b)
     (λ found. version_answer c.passable_law.ensures c.args.board.now given marks number profile c.args.a c.args.b found c.graph.ensures c.marks.ensures.closed)
     c.least.ensures.answer

@@ -1,21 +1,15 @@
--- The marks of a new graph mark nothing, and they are those of the venue.
-use Rattle.std.proofs.Common.{◌≡◌, ◌∙◌, length, List, [], ap, sym, subst, Bool}
+-- The marks of a new graph mark nothing for anybody, and they are those of the venue.
+use Rattle.std.proofs.Common.{◌∙◌, length, ap, sym}
 use Rattle.std.specs.Arc.{arc_value}
-use Rattle.venue_types.specs.declared.feature_id.FeatureId.{FeatureId}
 use Rattle.route_search.specs.Nodes.{closables}
-use Rattle.route_search.specs.Marking.{chosen, is_set, marked}
-use Rattle.route_search.specs.Networks.{Network}
 use Rattle.venue_state.specs.Boards.{version_of}
+use Rattle.venue_state.proofs.Marking.{none_closed}
 use Rattle.venue_state.proofs.board.Board.first.Goals as goal
-
-none_chosen : (given : Network) (marks : List Bool) (ids : List FeatureId) → given.closables ≡ ids → marked given marks ≡ [] → chosen is_set marks ids ≡ []
-unfolding marked
-none_chosen given marks ids same none = subst (λ (xs : List FeatureId). chosen is_set marks xs ≡ []) same none
 
 pub of-requires : goal.of-requires
 of-requires c =
     let same = c.graph.ensures.closables_are ∙ ap (λ v. closables v.features) c.deref.ensures in
-    let none = none_chosen _ _ _ same c.in_ok-marks.ensures.none in
+    let none = none_closed c.in_ok-marks.marks (closables (arc_value c.args.venue).features) c.in_ok-marks.ensures.nobody in
     record {
       marks_are = c.in_ok-marks.ensures.marks ∙ ap length same;
       count_is = sym (ap length none);
@@ -26,6 +20,5 @@ of-requires c =
 pub returns : goal.returns
 unfolding version_of
 returns c =
-    let same = c.graph.ensures.closables_are ∙ ap (λ v. closables v.features) c.deref.ensures in
-    let none = none_chosen _ _ _ same c.in_ok-marks.ensures.none in
+    let none = none_closed c.in_ok-marks.marks (closables (arc_value c.args.venue).features) c.in_ok-marks.ensures.nobody in
     rw none at c.of.ensures

@@ -1,17 +1,26 @@
--- What marks choose is chosen again by what it has.
-use Rattle.std.proofs.Common.{◌≡◌, List, subst, filter}
-use Rattle.venue_types.specs.declared.feature_id.FeatureId.{FeatureId}
+-- What marks close is closed again by its own sets.
+use Rattle.std.proofs.Common.{◌≡◌, List, subst}
 use Rattle.route_search.specs.Nodes.{closables}
-use Rattle.route_search.specs.Marking.{is_set}
-use Rattle.venue_history.specs.Closed.{is_one_of}
-use Rattle.venue_state.proofs.Marking.{AreApart, chosen_again}
+use Rattle.venue_history.specs.declared.entry.Closing.{Closing}
+use Rattle.venue_history.specs.Closed.{set_in, closed_set}
+use Rattle.venue_history.specs.Versions.{closings}
+use Rattle.venue_state.proofs.Marking.{AreApart, closed_again}
+use Rattle.venue_state.proofs.Replying.{closed_apart}
 use Rattle.venue_state.proofs.board.Board.order_law.Goals as goal
 
-pub returns : goal.returns
-returns c =
-    let apart : AreApart (closables c.args.self.now.features) = subst AreApart c.graph.ensures.closables_are c.range_law.ensures.once in
-    record {
-      once = apart;
-      order = subst (λ (closed : List FeatureId). closed ≡ filter (is_one_of closed) (closables c.args.self.now.features)) c.marks-marks.ensures.closed
-          (chosen_again is_set _ _ c.marks-marks.ensures.whole apart);
-    }
+apart : (c : goal.After-marks-marks) → AreApart (closables c.args.self.now.features)
+apart c = subst AreApart c.graph.ensures.closables_are c.range_law.ensures.once
+
+in_order : (c : goal.After-marks-marks) → c.args.self.now.closed ≡ closings (closed_set c.args.self.now) (closables c.args.self.now.features)
+in_order c =
+    let ids = closables c.args.self.now.features in
+    subst (λ (closed : List Closing). closed ≡ closings (set_in closed) ids) c.marks-marks.ensures.closed (closed_again c.marks-marks.result.now ids c.marks-marks.ensures.whole (apart c))
+
+pub returns-clause-once : goal.returns-clause-once
+returns-clause-once c = apart c
+
+pub returns-clause-order : goal.returns-clause-order
+returns-clause-order c = in_order c
+
+pub returns-clause-closed_once : goal.returns-clause-closed_once
+returns-clause-closed_once c = closed_apart (closed_set c.args.self.now) (closables c.args.self.now.features) c.args.self.now.closed (apart c) (in_order c)

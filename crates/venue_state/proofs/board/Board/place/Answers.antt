@@ -9,14 +9,15 @@ use Rattle.venue_state.proofs.board.Board.place.Goals as goal
 pub place-requires : goal.place-requires
 place-requires c = place_short c.venue-venue.result.now.features c.args.id _ (sym c.in-Some.ensures)
 
-pub returns-in_ok-row-in-Some : goal.returns-in_ok-row-in-Some
-returns-in_ok-row-in-Some c =
+pub returns-in_ok-profiles-in-Some : goal.returns-in_ok-profiles-in-Some
+returns-in_ok-profiles-in-Some c =
     let features = c.venue-venue.result.now.features in
     let same = c.venue-venue.ensures.features in (
       subst (λ (f : Features). (n : ℕ) × (place_of f c.args.id ≡ Some n)) same (placed features c.args.id _ c.every_name.ensures.occupants (sym c.in-Some.ensures)),
       c.number.ensures,
       subst (λ (f : Features). place_row f c.args.id ≡ Some c.in_ok-row-in-Some.row) same (row_there features c.args.id _ _ (sym c.in-Some.ensures) c.in_ok-row-in-Some.ensures),
-      c.is_closed.ensures,
+      c.is_closed_for_all.ensures,
+      c.in_ok-profiles-in-Some.ensures,
     )
 
 pub returns-in-None : goal.returns-in-None
