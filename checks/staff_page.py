@@ -1,11 +1,12 @@
 #!/usr/bin/python3
 """Opens the staff's page of examples/web in a browser, with a phone and at a desk, over a copy of the example station that `venue serve` serves
-behind nginx: closing and opening by taps and by keyboard alone, what it would mean beside what the printed tables say, publications and their
-findings, versions that go by, replies that are lost, late, or refusals, a server that begins anew, and no network. A visitor's page beside it is
-led round a lift that is closed. Of all requests none goes to another origin, and the key stands in no address, log or storage.
+behind nginx: closing and opening, for everyone and for some, by taps and by keyboard alone, what it would mean beside what the printed tables say,
+publications and their findings, versions that go by, replies that are lost, late, or refusals, a server that begins anew, and no network. A visitor's
+page beside it is led round a lift that is closed for who asks there. Of all requests none goes to another origin, and the key stands in no address,
+log or storage.
 
 usage: staff_page.py [PROGRAM [LOOK ..]]   (without PROGRAM the launcher ./venue, which builds the program if need be)
-With names of looks, as is_keyed, it takes these alone, and prints how long each took. Without, no look begins after three minutes, and the line says
+With names of looks, as is_keyed, it takes these alone, and prints how long each took. Without, no look begins after four minutes, and the line says
 which were left out. It prints one line, and ends with status 1 at a difference. Pictures of the page go to out/pages. Where chromium, its
 driver, nginx or Debian's python3-selenium is missing it says so, and ends with status 0.
 """
@@ -24,8 +25,10 @@ import web_page
 from web_page import EXAMPLES, ID, LIFT, RAMP, SIZES, WHEELCHAIR, By, Keys, apart, ask, boxes, read
 
 KEY, RIDE, STAIRS = "desk-key-1", ID.format(21), ID.format(22)
+CART = '[[profile]]\nname = "delivery_cart"\nelevator = true\nramp = true\n'
 WEB = os.path.join(EXAMPLES, "web")
-LONGEST, MOST_BYTES = 180, 60_000
+LONGEST, MOST_BYTES = 240, 60_000
+WALK = WHEELCHAIR.replace("wheelchair", "walk")
 CROWDED = 15  # seconds in which a visitor is led round on a machine with more than twice as many processes to run as it has processors
 FOLDERS = ("station", "tall", "nolift")
 
@@ -43,6 +46,8 @@ class StaffSite(web_page.Site):
 
     def copy_station(self):
         super().copy_station()
+        with open(os.path.join(self.base, "venue.toml"), "a", encoding="utf-8") as file:
+            file.write(CART)
         for name in FOLDERS[1:]:
             with contextlib.suppress(FileExistsError):
                 os.symlink(os.path.join(EXAMPLES, name), os.path.join(self.base, name))
@@ -55,8 +60,13 @@ class StaffSite(web_page.Site):
         self.start_server()
         self.served.insert(0, self.served.pop())
 
+    def close(self, feature, closed=True, profiles=None):
+        self.post("/v1/closures", {"feature": feature, "closed": closed} | ({"profiles": profiles} if profiles else {}))
+
     def closures(self):
-        return json.loads(ask(self.server, "/v1/closures")[1])
+        """For whom each feature is closed, None for all."""
+        rows = json.loads(ask(self.server, "/v1/closures")[1])["closures"]
+        return dict((row, None) if isinstance(row, str) else (row["feature"], row["profiles"]) for row in rows)
 
     def sent(self):
         """The changes that came since this was asked last, without those that only try a key."""
@@ -97,15 +107,42 @@ class StaffPage(web_page.Page):
         time.sleep(0.7)
         self.click(identifier)
 
-    def close_lift(self):
+    def change_lift(self, *profiles):
+        """Closes the lift, or opens it, for these or for everyone."""
         self.choose("Lift")
+        self.choose_whom(*profiles or ["Everyone"])
         self.click("act")
         self.sure()
+
+    def focused(self):
+        return self.script("const it = document.activeElement; return it.id || it.labels?.[0]?.textContent || it.textContent")
+
+    def another(self, feature, closed=True, profiles=None):
+        """Another one closes a feature, or opens it, and the page asks at once."""
+        self.site.close(feature, closed, profiles)
+        self.nudge()
+
+    def chosen(self):
+        return [it.text for it in self.driver.find_elements(By.CSS_SELECTOR, "#whom :checked + span")]
+
+    def choose_whom(self, *titles):
+        """Taps what isn't chosen as it is to be, and waits for what the change would mean then."""
+        def taps():
+            for it in self.driver.find_elements(By.CSS_SELECTOR, "#whom label"):
+                if (it.text in titles) != (it.text in self.chosen()):
+                    it.find_element(By.TAG_NAME, "input").click()
+            return self.chosen() == list(titles)
+
+        self.until(f"{titles} are chosen", taps)
+        self.says("meaning", "Not proved.")
+
+    def buttons(self):
+        return [it.text for it in self.driver.find_elements(By.CSS_SELECTOR, "#card button") if it.is_displayed()]
 
     def reset(self):
         """Opens all again, without the page."""
         self.site.between.post = self.site.between.change = None
-        for feature in self.site.closures()["closures"]:
+        for feature in self.site.closures():
             self.site.close(feature, False)
         self.site.sent()
 
@@ -134,7 +171,7 @@ def is_keyed(page):
     page.check("what was chosen stays", page.text("picked") == "Lift, level 0 to 1" and page.focused() == "sure")
     page.check("the field is empty and away", page.value("key") == "" and not page.driver.find_element(By.ID, "key").is_displayed())
     page.click("sure")
-    page.says("told", "Lift, level 0 to 1 is closed, as of version")
+    page.says("told", "Lift, level 0 to 1 is closed for everyone, as of version")
     page.click("key-forget")
     page.says("key-told", "It stays in this page until the page is closed")
     page.check("a forgotten key is asked for anew", page.driver.find_element(By.ID, "key").is_displayed())
@@ -143,10 +180,7 @@ def is_keyed(page):
 
 def closes_in_three_taps(page):
     """A lift is closed by three taps, a double tap sends nothing twice, and a visitor's page beside is led round within two seconds."""
-    visitor = web_page.Page("desk")
-    visitor.site = page.site
-    try:
-        visitor.open(WHEELCHAIR)
+    with visitors(page, WHEELCHAIR) as (visitor,):
         visitor.says("answer", "60 m", "Take the lift up to level 1")
         page.open()
         page.choose("Lift", "Without steps every place keeps its way")
@@ -162,30 +196,133 @@ def closes_in_three_taps(page):
         visitor.until("the visitor is led round", lambda: "Checked: no shorter way without steps" in visitor.text("answer") and "120 m" in visitor.text("answer"))
         took = time.monotonic() - begun
         visitor.check(f"within two seconds, of a machine that isn't crowded: {took:.1f}", took < (2 if os.getloadavg()[0] < 2 * os.cpu_count() else CROWDED))
-        page.says("told", "Lift, level 0 to 1 is closed, as of version")
+        page.says("told", "Lift, level 0 to 1 is closed for everyone, as of version")
         page.check("a double tap does nothing twice", page.site.sent() == [{"feature": RIDE, "closed": True}])
         page.says("closures", "Lift, level 0 to 1", "for everyone")
         page.says("history", "Closed: Lift, level 0 to 1. From this page.")
         page.until("it is marked on the map", lambda: page.drawn("closed") == 1)
         page.picture("staff-closed")
         visitor.picture("staff-visitor")
-        page.choose("Ramp", "Tickets and Platform would have no step-free way to and from the entrances.", "On foot nothing would be cut off.")
+        page.choose("Ramp", "Tickets and Platform would have no step-free way to and from the entrances.", "For people on foot nothing would be cut off.")
         page.script("document.querySelector('[data-ordinal=\"1\"]').click()")
         page.until("what would be cut off is shaded", lambda: page.drawn("level") == 1 and page.drawn("reached") >= 1)
         page.picture("staff-cut")
         page.push("#closures button")
         page.says("meaning", "No place would get a step-free way by it.")
         page.sure()
-        page.says("told", "Lift, level 0 to 1 is open again, as of version")
+        page.says("told", "Lift, level 0 to 1 is open for everyone, as of version")
         page.check("it was sent once", page.site.sent() == [{"feature": RIDE, "closed": False}])
         visitor.says("answer", "60 m", seconds=5)
         page.says("closures", "Nothing is closed.")
-    finally:
-        visitor.quit()
-        page.checks += visitor.checks
-        page.differences += visitor.differences
-        page.reset()
+    page.reset()
     return [f"a visitor's page led round {took:.1f} s after the third tap"]
+
+
+@contextlib.contextmanager
+def visitors(page, *fragments):
+    """Visitors' pages beside the staff's, each for a way."""
+    found = [web_page.Page("desk") for _ in fragments]
+    try:
+        for visitor, fragment in zip(found, fragments):
+            visitor.site = page.site
+            visitor.open(fragment)
+        yield found
+    finally:
+        for visitor in found:
+            visitor.quit()
+            page.checks += visitor.checks
+            page.differences += visitor.differences
+
+
+def closes_for_some(page):
+    """A lift is closed for wheelchairs alone: a wheelchair is led round, and who walks isn't. Then for the others too, and opened for some and for all."""
+    site, title = page.site, "Lift, level 0 to 1"
+    site.close(STAIRS, profiles=["walk"])
+    with visitors(page, WHEELCHAIR, WALK) as (chair, walker):
+        for visitor in (chair, walker):
+            visitor.says("answer", "60 m", "Take the lift up to level 1", "Checked: no shorter way")
+        page.open()
+        page.says("closures", "Stairs, level 0 to 1", "for people on foot")
+        page.until("it is marked on the map", lambda: page.drawn("closed") == 1)
+        page.choose("Lift", "Without steps every place keeps its way", "For people on foot nothing would be cut off.", "For delivery cart nothing would be cut off.")
+        page.check(f"everyone is chosen: {page.chosen()}", page.chosen() == ["Everyone"] and page.buttons() == ["Close for everyone …"])
+        page.choose_whom("Wheelchairs", "Delivery cart")
+        page.check("what it means is computed for those alone", "people on foot" not in page.text("meaning") and "For delivery cart nothing would be cut off." in page.text("meaning"))
+        page.check(f"the button says for whom: {page.buttons()}", page.buttons() == ["Close for wheelchairs and delivery cart …"])
+        page.choose_whom("Everyone")
+        page.choose_whom("Wheelchairs")
+        page.check(f"one alone: {page.buttons()}", page.buttons() == ["Close for wheelchairs …"] and "Without steps every place keeps its way" in page.text("meaning") and "For " not in page.text("meaning"))
+        page.picture("staff-some")
+        page.click("act")
+        page.check(f"the last tap says for whom: {page.buttons()}", page.buttons() == ["Close now for wheelchairs", "Don't"])
+        page.picture("staff-some-sure")
+        site.sent()
+        page.sure()
+        page.says("told", f"{title} is closed for wheelchairs, as of version")
+        page.check("it was sent once", site.sent() == [{"feature": RIDE, "closed": True, "profiles": ["wheelchair"]}])
+        chair.says("answer", "120 m", "Checked: no shorter way without steps")
+        version = json.loads(ask(site.server, "/v1/version")[1])["version"]
+        walker.nudge()
+        walker.until("who walks has an answer of this version", lambda: f"Version {version}," in walker.script("return document.querySelector('#answer details').textContent"))
+        walker.check("and isn't led round", all(text in walker.text("answer") for text in ("60 m", "Take the lift up to level 1", "Checked: no shorter way")))
+        page.says("closures", f"{title}\nfor wheelchairs\nOpen", "Stairs, level 0 to 1\nfor people on foot\nOpen")
+        page.says("history", f"Closed: {title} for wheelchairs. From this page.")
+        page.check(f"it can be opened for the same: {page.buttons()}", page.text("stands") == "Closed for wheelchairs" and page.buttons() == ["Open for wheelchairs …"])
+        page.picture("staff-some-closed")
+        page.choose_whom("Everyone")
+        page.check(f"for everyone it can be closed and opened: {page.buttons()}", page.buttons() == ["Close for everyone …", "Open for everyone …"])
+        page.check("what closing it means is computed for the others alone", "steps" not in page.text("meaning") and "For people on foot nothing would be cut off." in page.text("meaning"))
+        page.picture("staff-either")
+        page.click("act")
+        page.sure()
+        page.says("told", f"{title} is closed for everyone, as of version")
+        page.check("for everyone nobody is named", site.sent() == [{"feature": RIDE, "closed": True}])
+        page.says("history", f"Closed: {title} for people on foot and delivery cart. From this page.")
+        page.says("closures", f"{title}\nfor everyone")
+        walker.nudge()
+        walker.until("who walks is led round now", lambda: "lift" not in walker.text("answer") and "Checked: no shorter way" in walker.text("answer"))
+        page.choose_whom("People on foot", "Delivery cart")
+        page.check(f"closed for all, it can only be opened: {page.buttons()}", page.buttons() == ["Open for people on foot and delivery cart …"])
+        page.click("act")
+        page.sure()
+        page.says("told", f"{title} is open for people on foot and delivery cart, as of version")
+        page.says("history", f"Opened, or gone by a publication: {title} for people on foot and delivery cart. From this page.")
+        page.check(f"the rest stands: {page.text('stands')}", page.text("stands") == "Closed for wheelchairs" and site.closures() == {STAIRS: ["walk"], RIDE: ["wheelchair"]})
+        walker.says("answer", "60 m", "Take the lift up to level 1")
+        page.choose_whom("People on foot", "Wheelchairs")
+        page.click("other")
+        page.says("meaning", "No place would get a step-free way by it.")
+        page.check(f"the other button asks too: {page.buttons()}", page.buttons() == ["Open now for people on foot and wheelchairs", "Don't"])
+        site.sent()
+        page.sure()
+        page.says("told", f"{title} is open for people on foot and wheelchairs, as of version")
+        page.check("it was sent once", site.sent() == [{"feature": RIDE, "closed": False, "profiles": ["walk", "wheelchair"]}] and site.closures() == {STAIRS: ["walk"]})
+        chair.says("answer", "60 m", "Checked: no shorter way without steps")
+    page.push("#closures button")
+    page.says("picked", "Stairs, level 0 to 1")
+    page.until("the list opens it for the same", lambda: page.chosen() == ["People on foot"] and page.buttons() == ["Open now for people on foot", "Don't"])
+    page.sure()
+    page.says("closures", "Nothing is closed.")
+    stands_so(page)
+    page.reset()
+
+
+def stands_so(page):
+    """What another one did just before is told as standing so already; a choice that can't be made any more turns into the other one."""
+    def after_another(path, passes):
+        page.site.close(RIDE, profiles=["walk", "wheelchair"])
+        return passes()
+
+    page.site.between.post = after_another
+    page.change_lift("Wheelchairs")
+    page.says("told", "Lift, level 0 to 1 was closed for wheelchairs already, at version")
+    page.says("stands", "Closed for people on foot and wheelchairs")
+    page.site.between.post = None
+    page.choose_whom("People on foot")
+    page.click("act")
+    page.check(f"it is to be opened: {page.buttons()}", page.buttons() == ["Open now for people on foot", "Don't"])
+    page.another(RIDE, False, ["walk"])
+    page.until("another one has opened it", lambda: page.buttons() == ["Close for people on foot …"])
 
 
 def is_closed_by_keyboard(page):
@@ -197,7 +334,7 @@ def is_closed_by_keyboard(page):
     page.check("the search has the focus", page.focused() == "what")
     page.press("bakery", Keys.ENTER)
     page.until("the room is chosen", lambda: "Bakery" in page.text("picked"))
-    page.says("meaning", "Bakery would have no step-free way to and from the entrances.", "On foot Bakery would be cut off too.")
+    page.says("meaning", "Bakery would have no step-free way to and from the entrances.", "For people on foot Bakery would be cut off.")
     tab_to(page, "choice")
     page.press(Keys.ARROW_DOWN)
     page.until("its door is chosen", lambda: "Door: walkway" in page.text("picked"))
@@ -207,7 +344,7 @@ def is_closed_by_keyboard(page):
     page.check("the focus is on what follows", page.focused() == "sure")
     time.sleep(0.7)
     page.press(Keys.ENTER)
-    page.says("told", "is closed, as of version")
+    page.says("told", "is closed for everyone, as of version")
     page.check("it was sent once", page.site.sent() == [{"feature": ID.format(105), "closed": True}])
     page.until("the focus stays at the card", lambda: page.focused() == "act")
     tab_to(page, "Open")
@@ -215,7 +352,29 @@ def is_closed_by_keyboard(page):
     page.until("the list's button leads to the card", lambda: page.focused() == "sure")
     time.sleep(0.7)
     page.press(Keys.ENTER)
-    page.says("told", "is open again")
+    page.says("told", "is open for everyone")
+    page.site.sent()
+    tab_to(page, "Wheelchairs")
+    page.press(Keys.SPACE)
+    page.until("wheelchairs are chosen alone", lambda: page.chosen() == ["Wheelchairs"])
+    page.says("meaning", "Not proved.")
+    page.check("the focus stays at the choice", page.focused() == "Wheelchairs")
+    tab_to(page, "act")
+    page.press(Keys.ENTER)
+    time.sleep(0.7)
+    page.press(Keys.ENTER)
+    page.says("told", "is closed for wheelchairs, as of version")
+    page.check("it was sent once, for wheelchairs", page.site.sent() == [{"feature": ID.format(105), "closed": True, "profiles": ["wheelchair"]}])
+    tab_to(page, "Everyone")
+    page.press(Keys.SPACE)
+    page.until("everyone is chosen", lambda: page.chosen() == ["Everyone"])
+    page.says("meaning", "Not proved.")
+    tab_to(page, "other")
+    page.press(Keys.ENTER)
+    page.until("the other button leads to the last one", lambda: page.focused() == "sure" and page.text("sure").startswith("Open now for everyone"))
+    time.sleep(0.7)
+    page.press(Keys.ENTER)
+    page.says("told", "is open for everyone")
     tab_to(page, "folder")
     page.press("tall")
     tab_to(page, "publish-act")
@@ -228,7 +387,7 @@ def is_closed_by_keyboard(page):
 
 
 def tab_to(page, name):
-    for _ in range(30):
+    for _ in range(60):
         page.press(Keys.TAB)
         if page.focused() == name:
             break
@@ -247,7 +406,7 @@ def publishes(page):
     page.until("it shows that it goes on", lambda: page.driver.find_element(By.ID, "judging").is_displayed() and re.search(r"[1-9] s", page.text("elapsed")))
     page.check("its button tells that it is sent", page.text("publish-sure") == "Sent …")
     page.picture("staff-judging")
-    page.says("publish-told", "tall is rejected: it breaks rules, which stand below.", "nothing was changed")
+    page.says("publish-told", "tall is rejected: it breaks the rules below. Nothing was changed.")
     page.says("findings", "1 finding", "K1: Each vertex of a unit lies on its level.", "unit.geojson, feature 7", "What to do about K1")
     page.check("what was chosen stays", page.value("folder") == "tall")
     page.until("the picture is there", lambda: page.script("return document.querySelector('#findings img').naturalWidth") == 1000)
@@ -286,17 +445,18 @@ def publishes(page):
 def is_refused(page):
     """Each refusal has its sentence, and what was chosen stays; 500 findings of 30,000 are told without a stop."""
     refusals = [
-        ((404, b'{"error":"no_such_feature"}'), "The server's venue doesn't have this any more, so nothing was changed."),
-        ((409, b'{"error":"history_full"}'), "The server's history is full (last_version), so nothing was changed."),
-        ((503, b'{"error":"want_of_memory"}'), "The server is short of memory, and nothing was changed. Send it again."),
-        ((400, b'{"error":"bad_body"}'), "The server can't read what this page sends, so nothing was changed."),
+        ((404, b'{"error":"no_such_profile"}'), "Nothing was changed. The server doesn't know one of these profiles"),
+        ((404, b'{"error":"no_such_feature"}'), "Nothing was changed. The server's venue doesn't have this any more"),
+        ((409, b'{"error":"history_full"}'), "Nothing was changed. The server's history is full (last_version)."),
+        ((503, b'{"error":"want_of_memory"}'), "Nothing was changed. The server is short of memory. Send it again."),
+        ((400, b'{"error":"bad_body"}'), "Nothing was changed. The server can't read what this page sends."),
         ((403, b"<html>"), "From this network nothing may be changed, and nothing was."),
         ((429, b"<html>"), "Too much was sent from here, so this wasn't passed on."),
         ((413, b"<html>"), "The server refuses to answer, with status 413."),
-        ((502, b"<html>"), "No reply came, and at version"),
-        ((503, b"<html>"), "No reply came, and at version"),
-        ((504, b"<html>"), "No reply came, and at version"),
-        ((200, b"[]"), "No reply came, and at version"),
+        ((502, b"<html>"), "No reply came. At version"),
+        ((503, b"<html>"), "No reply came. At version"),
+        ((504, b"<html>"), "No reply came. At version"),
+        ((200, b"[]"), "No reply came. At version"),
     ]
     page.open()
     page.choose("Lift")
@@ -306,7 +466,7 @@ def is_refused(page):
         page.site.between.post = lambda path, passes: reply
         page.click("sure")
         page.says("told", sentence)
-        page.until(f"{sentence}: what was chosen stays, to be sent again", lambda: page.text("sure") == "Close now" and page.text("picked") == "Lift, level 0 to 1")
+        page.until(f"{sentence}: what was chosen stays, to be sent again", lambda: page.text("sure") == "Close now for everyone" and page.text("picked") == "Lift, level 0 to 1")
     page.check("each was sent once", len(page.site.sent()) == len(refusals))
     page.site.between.post = lambda path, passes: (403, b'{"error":"not_staff"}')
     page.click("sure")
@@ -317,10 +477,10 @@ def is_refused(page):
     page.type_key(KEY)
     page.says("key-told", "The key is right.")
     page.click("sure")
-    page.says("told", "is closed, as of version")
+    page.says("told", "is closed for everyone, as of version")
     page.site.between.post = lambda path, passes: (502, b'{"error":"folder_fault"}')
     page.publish("station")
-    page.says("publish-told", "A file of the folder couldn't be read, so nothing was changed.")
+    page.says("publish-told", "Nothing was changed. A file of the folder couldn't be read.")
     found = [{"file": "unit.geojson", "index": k, "member": 0, "rule": "K1" if k % 2 else "G3"} for k in range(500)]
     page.site.between.post = lambda path, passes: (422, json.dumps({"error": "rejected", "findings": found, "total": 30_000}).encode())
     page.sure("publish-sure")
@@ -336,23 +496,24 @@ def loses_replies(page):
     page.open()
     page.site.sent()
     page.site.between.post = lambda path, passes: passes() and None
-    page.close_lift()
-    page.says("told", "No reply came, but it stands: at version", "Lift, level 0 to 1 is closed.")
+    page.change_lift()
+    page.says("told", "No reply came. It stands all the same. At version", "Lift, level 0 to 1 is closed for everyone.")
     page.check("it was sent once", page.site.sent() == [{"feature": RIDE, "closed": True}])
     page.picture("staff-lost")
     page.site.between.post = lambda path, passes: None
     page.click("act")
     page.sure()
-    page.says("told", "No reply came, and at version", "is closed as before. If it is still to be, send it again.")
+    page.says("told", "No reply came. At version", "is closed for everyone. If it is still to be done, send it again.")
     page.check("it was sent once again", page.site.sent() == [{"feature": RIDE, "closed": False}])
     page.site.between.post = lambda path, passes: time.sleep(11) or passes()
     page.click("sure")
-    page.says("told", "and no reply yet. It isn't sent again; the reply is waited for.", seconds=8)
+    page.says("told", "No reply yet. It isn't sent again; the reply is waited for.", seconds=8)
     page.check("its button tells that it is sent", page.text("sure") == "Sent …")
     page.picture("staff-slow")
     page.click("sure")
-    page.says("told", "is open again, as of version", seconds=20)
+    page.says("told", "is open for everyone, as of version", seconds=20)
     page.check("it was sent once, however often it was tapped", page.site.sent() == [{"feature": RIDE, "closed": False}])
+    loses_replies_for_some(page)
     silent = []
 
     def vanish(path, passes):
@@ -361,20 +522,44 @@ def loses_replies(page):
         page.site.between.change = lambda path, body: None
 
     page.site.between.post = vanish
-    page.close_lift()
+    page.change_lift()
     page.says("told", "No reply came. It isn't sent again: the server is asked what stands")
     page.says("trouble", "The server doesn't answer.")
     page.check("nothing further is sent meanwhile", page.text("sure") == "Sent …")
     page.site.between.change = page.site.between.post = None
-    page.says("told", "No reply came, but it stands", seconds=8)
+    page.says("told", "No reply came. It stands all the same.", seconds=8)
     page.until("the server is heard again", lambda: not page.text("trouble"))
     page.site.between.post = lambda path, passes: passes() and None
     page.publish("station")
     page.says("publish-told", "No reply came. Version", "the history tells what changed")
     page.site.between.post = lambda path, passes: None
     page.publish("station")
-    page.says("publish-told", "No reply came, and version", "stands as before.")
+    page.says("publish-told", "No reply came. Version", "stands as before.")
     page.reset()
+
+
+def loses_replies_for_some(page):
+    """It tells what stands for whom, also where another one closed it for others meanwhile."""
+    page.site.between.post = lambda path, passes: passes() and None
+    page.change_lift("Wheelchairs")
+    page.says("told", "No reply came. It stands all the same. At version", "Lift, level 0 to 1 is closed for wheelchairs.")
+    page.check("it was sent once", page.site.sent() == [{"feature": RIDE, "closed": True, "profiles": ["wheelchair"]}])
+    page.site.between.post = lambda path, passes: None
+    page.click("act")
+    page.sure()
+    page.says("told", "No reply came. At version", "Lift, level 0 to 1 is closed for wheelchairs. If it is still to be done, send it again.")
+    page.until("it is to be sent again for the same", lambda: page.buttons() == ["Open now for wheelchairs", "Don't"])
+    page.check("it was sent once for the same", page.site.sent() == [{"feature": RIDE, "closed": False, "profiles": ["wheelchair"]}])
+    page.site.between.post = lambda path, passes: page.site.close(RIDE, profiles=["walk"])
+    page.click("sure")
+    page.says("told", "Lift, level 0 to 1 is closed for people on foot and wheelchairs. If it is still to be done, send it again.")
+    page.site.between.post = lambda path, passes: passes() and None
+    page.click("sure")
+    page.says("told", "It stands all the same. At version", "Lift, level 0 to 1 is closed for people on foot.")
+    page.site.between.post = None
+    page.another(RIDE, False)
+    page.says("stands", "Open")
+    page.site.sent()
 
 
 def has_no_network(page):
@@ -393,7 +578,7 @@ def has_no_network(page):
     page.until("the network is back", lambda: not page.text("trouble"))
     page.check("nothing was sent, and what was chosen stays", page.site.sent() == [] and page.text("picked") == "Lift, level 0 to 1")
     page.click("sure")
-    page.says("told", "is closed, as of version")
+    page.says("told", "is closed for everyone, as of version")
     page.reset()
 
 
@@ -401,14 +586,25 @@ def tells_versions(page):
     """What others change goes by, and a server that begins anew is told with what was closed before."""
     page.open()
     page.says("history", "The page was opened, with 0 closed.")
-    page.site.close(LIFT)
+    page.another(LIFT)
     page.says("history", "Closed: Lift, level 0.")
-    page.site.close(RAMP)
+    page.another(RAMP)
     page.says("history", "Closed: Ramp, level 0 to 1.")
-    page.site.close(LIFT, False)
-    page.says("history", "Opened, or gone by a publication: Lift, level 0.")
+    page.another(LIFT, False, ["wheelchair"])
+    page.says("history", "Opened, or gone by a publication: Lift, level 0 for wheelchairs.")
+    page.another(LIFT, False)
+    page.says("history", "Opened, or gone by a publication: Lift, level 0 for people on foot and delivery cart.")
+    page.another(LIFT, profiles=["wheelchair", "walk"])
+    page.says("history", "Closed: Lift, level 0 for people on foot and wheelchairs.")
+    page.another(LIFT, profiles=["delivery_cart"])
+    page.says("history", "Closed: Lift, level 0 for delivery cart.")
+    page.says("closures", "Lift, level 0\nfor everyone")
+    page.another(LIFT, False, ["delivery_cart"])
+    page.says("closures", "Lift, level 0\nfor people on foot and wheelchairs")
     with held(page):
         page.site.close(LIFT)
+        page.site.close(LIFT, False)
+        page.site.close(LIFT, profiles=["wheelchair"])
         page.site.close(STAIRS)
     page.says("history", "More may have changed in between.")
     page.site.post("/v1/publish", {"folder": "station"})
@@ -416,15 +612,24 @@ def tells_versions(page):
     page.site.begin_anew()
     page.says("history", "The server began anew.", seconds=20)
     page.says("closures", "Nothing is closed.")
-    page.says("gone", "Lift, level 0 was closed before the server began anew, and is open now.", "Ramp", "Stairs")
+    page.says("gone", "Lift, level 0 was closed for wheelchairs before the server began anew, and isn't now.", "Ramp, level 0 to 1 was closed for everyone before", "Stairs")
     page.picture("staff-anew")
-    page.push("#gone button")
-    page.says("meaning", "Not proved.")
-    page.sure()
-    page.says("told", "is closed, as of version 2.")
-    page.until("what is closed again is gone from the list", lambda: page.count("#gone li") == 2)
-    for _ in range(2):
-        page.push("#gone li button:last-child")
+    page.another(LIFT, profiles=["walk"])
+    page.says("closures", "Lift, level 0\nfor people on foot")
+    page.check("closed for others it is told all the same", page.count("#gone li") == 3)
+    page.site.sent()
+    again = {"Lift, level 0": {"feature": LIFT, "closed": True, "profiles": ["wheelchair"]}, "Ramp, level 0 to 1": {"feature": RAMP, "closed": True}}
+    for title, body in again.items():
+        count = page.count("#gone li")
+        page.push(f"#gone [aria-label='Close {title} again']")
+        page.says("meaning", "Not proved.")
+        page.check(f"{title} is chosen for the same: {page.chosen()}", page.chosen() == (["Wheelchairs"] if "profiles" in body else ["Everyone"]))
+        page.sure()
+        page.says("told", f"{title} is closed for {'wheelchairs' if 'profiles' in body else 'everyone'}, as of version")
+        page.check(f"{title} is closed again for the same", page.site.sent() == [body])
+        page.until("what is closed again is gone from the list", lambda: page.count("#gone li") == count - 1)
+    page.check("nobody else is let in or kept out", page.site.closures() == {LIFT: ["walk", "wheelchair"], RAMP: None})
+    page.push("#gone li button:last-child")
     page.until("what stays open is gone too", lambda: not page.driver.find_element(By.ID, "gone").is_displayed())
     page.reset()
 
@@ -439,6 +644,27 @@ def held(page):
     time.sleep(0.1)
 
 
+def is_told_apart(page):
+    """For whom something is closed, as the page's rows, words and comparisons have it, beside sets of profiles."""
+    page.open()
+    everyone, some = ["walk", "wheelchair", "delivery_cart"], [["walk"], ["wheelchair", "delivery_cart"], ["walk", "wheelchair", "delivery_cart"]]
+    cases = [(these, those) for these in [None, "*", *some] for those in ["*", *some]]
+    rows = [LIFT, {"feature": RAMP, "profiles": ["walk"]}]
+    found = page.driver.execute_async_script("""const [cases, rows, done] = arguments; import('./staff/whom.js').then((whom) => done([[...whom.closedBy(rows)],
+        cases.map(([these, those]) => [whom.isSo(these ?? undefined, true, those), whom.isSo(these ?? undefined, false, those), whom.less(those, these ?? undefined)])]), String);""", cases, rows)
+    page.check(f"both forms of rows: {found[0]}", found[0] == [[LIFT, "*"], [RAMP, ["walk"]]])
+    beyond = "a profile that the page doesn't know"  # So closed for all is more than closed for those that it knows.
+    set_of = lambda its: set() if its is None else {*everyone, beyond} if its == "*" else set(its)
+    for (these, those), (closed, opened, rest) in zip(cases, found[1]):
+        one, other = set_of(these), set_of(those)
+        page.check(f"{these} {those}: {closed} {opened}", closed == (other <= one) and opened == (not other & one))
+        left = [it for it in everyone if it in other - one]
+        page.check(f"{those} less {these}: {rest}", rest == ("*" if other - one in (set_of("*"), {beyond}) else left))
+    wrong = page.driver.execute_async_script("const done = arguments[0]; import('./staff/whom.js').then(({ closedBy }) => { try { done(closedBy([{ feature: 'x' }])); } catch (wrong) { done('refused'); } });")
+    page.check(f"a row of another form is none: {wrong}", wrong == "refused")
+    return [f"{len(cases)} sets of profiles told apart alike"]
+
+
 def is_computed_alike(page):
     """Which places a closing cuts off, as the page's worker says, beside what the printed tables say."""
     page.open()
@@ -446,7 +672,7 @@ def is_computed_alike(page):
     features = [ID.format(it) for it in (21, 22, 23, 24, 101, 105, 108, 110, 203, 300, 301, 304, 305, 400, 404)]
     cases = [(profile, closed, feature, closes) for profile in ("wheelchair", "walk") for closed in ([], [RIDE], [RIDE, RAMP], [ID.format(k) for k in range(107, 112)])
              for feature in features for closes in ([True] if feature not in closed else [False])]
-    rows = [{"number": k, "data": f"http://127.0.0.1:{page.site.port}/data/{told['mark']}/", "profile": profile, "entrances": told["entrances"], "closed": closed, "feature": feature, "closes": closes}
+    rows = [{"number": k, "data": f"http://127.0.0.1:{page.site.port}/data/{told['mark']}/", "profile": profile, "entrances": told["entrances"], "before": closed, "after": list(set(closed) ^ {feature}), "feature": feature}
             for k, (profile, closed, feature, closes) in enumerate(cases)]
     found = page.driver.execute_async_script("""const [rows, done] = arguments, worker = new Worker('staff/reach.js', { type: 'module' }), found = [];
         worker.onmessage = ({ data }) => { found[data.number] = data; if (found.filter(Boolean).length === rows.length) done(found); };
@@ -508,7 +734,7 @@ def is_withheld(page):
         page.tap("Lift")
         page.says("meaning", "What it would mean can't be computed: nobody told this page which doors are entrances.")
         page.click("act")
-        page.check("it can be closed all the same", page.text("sure") == "Close now")
+        page.check("it can be closed all the same", page.text("sure") == "Close now for everyone")
     with site.broken(os.path.join(site.data, "links", "wheelchair", "0.txt")):
         page.open()
         page.tap("Lift")
@@ -542,10 +768,12 @@ def has_all_sentences(page):
     """Each sentence of the page is there in both languages, and said; what is typed and what the page weighs."""
     page.open()
     names = re.findall('"([a-z_]+)"', re.search(r"NAMES = new Set\(\[(.*?)\]", read(os.path.join(WEB, "staff", "change.js")))[1])
-    built = {f"why.{name}" for name in names if name not in ("not_staff", "rejected")} | {f"{verb}.{how}" for verb in ("open", "close") for how in ("sure", "blind")}
-    built |= {f"{kind}.{profile}{end}" for kind in ("lost", "gained") for profile in ("wheelchair", "walk") for end in ("", ".none")}
+    built = {f"why.{name}" for name in names if name not in ("not_staff", "rejected")}
+    built |= {f"{kind}.{profile}{end}" for kind in ("lost", "gained") for profile in ("wheelchair", "other") for end in ("", ".none")} | {"who.walk", "who.wheelchair"}
     texts = {name: read(os.path.join(WEB, name)) for folder in ("", "staff") for name in sorted(os.path.join(folder, it) for it in os.listdir(os.path.join(WEB, folder)))
              if name.endswith((".js", ".html")) and name not in ("en.js", "de.js", "staff/words.js")}
+    # Several sentences that are told one after the other stand in one text.
+    built |= {"unchanged"} | {key for line in texts["staff/page.js"].splitlines() if "tell(" in line or "change(" in line for keys in re.findall('"([a-z_.]+(?: [a-z_.]+)+)"', line) for key in keys.split()}
     web_page.compare_sentences(page, texts, web_page.tables_of(page), built)
     own = sum(os.path.getsize(os.path.join(WEB, "staff", name)) for name in os.listdir(os.path.join(WEB, "staff"))) + os.path.getsize(os.path.join(WEB, "staff.html"))
     page.choose("Lift")
@@ -585,8 +813,10 @@ def is_read(page):
             page.check(f"contrast before it is sent: {wrong}", not wrong)
         page.picture("staff-" + ("-".join(look.values()) or "light"))
         named = [(node["role"]["value"], node.get("name", {}).get("value")) for node in page.tell("Accessibility.getFullAXTree")["nodes"] if not node.get("ignored") and "role" in node]
-        controls = [(role, name) for role, name in named if role in ("button", "textbox", "combobox", "listbox", "link", "progressbar", "image", "img", "form", "group", "region", "radio", "search")]
+        controls = [(role, name) for role, name in named if role in ("button", "textbox", "combobox", "listbox", "link", "progressbar", "image", "img", "form", "group", "region", "checkbox", "search")]
         page.check(f"each control has a name: {[it for it in controls if not it[1]]}", len(controls) > 15 and all(name for _, name in controls))
+        choices = [name for role, name in controls if role == "checkbox"]
+        page.check(f"the choice for whom is a group with a name: {choices}", ("group", "For whom") in controls and choices == ["Everyone", "People on foot", "Wheelchairs", "Delivery cart"])
     page.look()
     for width, height in ((1440, 900), (720, 450), (390, 844), (320, 640), (320, 225)):
         page.resize(width, height)
@@ -605,8 +835,8 @@ def is_kept_secret(page):
     """No request goes to another origin, and the key stands in no address, body, log, storage or part of the page."""
     page.driver.get_log("performance")
     page.open()
-    page.close_lift()
-    page.says("told", "is closed, as of version")
+    page.change_lift()
+    page.says("told", "is closed for everyone, as of version")
     page.publish("tall")
     page.says("findings", "K1")
     requests = [json.loads(row["message"])["message"] for row in page.driver.get_log("performance")]
@@ -633,8 +863,8 @@ def is_kept_secret(page):
 
 
 # What is looked at with a phone and at a desk, what says most first.
-PATHS = [closes_in_three_taps, is_closed_by_keyboard, publishes, is_keyed, loses_replies, is_read, is_refused, tells_versions, has_no_network]
-LOOKS = {"phone": PATHS, "desk": [is_kept_secret, is_computed_alike, has_all_sentences, *PATHS, is_withheld, speaks_german]}
+PATHS = [closes_in_three_taps, closes_for_some, is_closed_by_keyboard, publishes, is_keyed, loses_replies, is_read, is_refused, tells_versions, has_no_network]
+LOOKS = {"phone": PATHS, "desk": [is_kept_secret, is_computed_alike, is_told_apart, has_all_sentences, *PATHS, is_withheld, speaks_german]}
 
 if __name__ == "__main__":
     sys.exit(web_page.take_looks("staff_page", sys.argv[1:], LOOKS, StaffPage, StaffSite, LONGEST))

@@ -4,9 +4,9 @@ import de from "./de.js";
 
 const TABLES = { en, de };
 export const LANGUAGES = Object.fromEntries(Object.entries(TABLES).map(([tag, { sentences }]) => [tag, sentences.language]));
-/** Adds the sentences of a further page, by language. */
-export function learn(sentences) {
-  for (const [tag, its] of Object.entries(sentences)) Object.assign(TABLES[tag].sentences, its);
+/** Adds the sentences of a further page, each in all languages in the order of their tables. */
+export function learn(further) {
+  for (const [k, { sentences }] of Object.values(TABLES).entries()) for (const [key, its] of Object.entries(further)) sentences[key] = its[k];
 }
 
 const base = (tag) => tag.toLowerCase().split("-")[0];

@@ -1,5 +1,5 @@
 // A change of what stands at the server. It is sent once, with the staff's key, and whatever comes back is told as what it is.
-const NAMES = new Set(["not_staff", "bad_body", "no_such_feature", "history_full", "folder_fault", "rejected", "want_of_memory"]);
+const NAMES = new Set(["not_staff", "bad_body", "no_such_profile", "no_such_feature", "history_full", "folder_fault", "rejected", "want_of_memory"]);
 
 /** Whether a text can be a key: 8 to 128 bytes from 0x21 to 0x7E. */
 export const isKey = (text) => /^[!-~]{8,128}$/.test(text);
@@ -16,19 +16,9 @@ export async function send(path, body, key, patience) {
   } catch {
     return { is: "lost" };
   }
-  const told = parsed(text), { status } = reply;
+  const told = await Promise.resolve(text).then(JSON.parse).catch(() => null), { status } = reply;
   if (status === 200 && Number.isSafeInteger(told?.version)) return { is: "done", told };
   if (status >= 400 && NAMES.has(told?.error)) return { is: "refused", name: told.error, told };
-  if (status === 403) return { is: "kept", why: "network.wrong" };
-  if (status === 429) return { is: "kept", why: "too.many" };
-  if (status < 400 || status >= 500) return { is: "lost", status };
-  return { is: "kept", why: "refused", status };
-}
-
-function parsed(text) {
-  try {
-    return JSON.parse(text);
-  } catch {
-    return null;
-  }
+  if (status < 400 || status >= 500) return { is: "lost" };
+  return { is: "kept", why: { 403: "network.wrong", 429: "too.many" }[status] ?? "refused", status };
 }

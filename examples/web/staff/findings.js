@@ -2,7 +2,7 @@
 import { icon, make } from "../frame.js";
 import { number, say } from "../words.js";
 
-const OPEN = 20, WIDE = 320; // findings of a rule that are shown at once; how much of the picture is shown round one, in its own pixels
+const OPEN = 20, WIDE = 320; // findings of a rule at once; how much of the picture round one, in its own pixels
 
 const nameOf = ({ rule, file, index, member }) => `${rule} ${file} ${index} ${member}`;
 
@@ -38,7 +38,7 @@ const placeOf = (places, it) => places.get(nameOf(it)) ?? places.get(`${it.rule}
 /** Shows what a refusal tells of a folder. `rules` has what each rule asks. The focus stays where it is. */
 export async function showFindings(box, folder, { findings, total }, rules) {
   const address = `folders/${folder}.svg`, reply = await fetch(address, { cache: "no-cache" }).catch(() => null), places = reply?.ok ? placesIn(await reply.text()) : null;
-  const image = places && make("img", { src: address, alt: say("picture", { folder }) }), lens = image && make("div", { class: "lens whole" }, image);
+  const image = make("img", { src: places && address }), lens = make("div", { class: "lens" }, image);
   const look = (it, [x, y]) => {
     const zoom = lens.clientWidth / WIDE;
     lens.classList.remove("whole");
@@ -52,8 +52,8 @@ export async function showFindings(box, folder, { findings, total }, rules) {
     image.alt = say("picture", { folder });
   };
   const rowOf = (it) => {
-    const at = places && placeOf(places, it), words = say("finding", { file: it.file, index: number(it.index), member: it.member ? say("finding.member", { n: number(it.member) }) : "" });
-    return make("li", {}, make("span", {}, words), at ? make("button", { type: "button", "aria-label": `${say("show")}: ${words}`, click: () => look(it, at) }, icon("place"), say("show")) : null);
+    const at = placeOf(places ?? new Map(), it), words = say("finding", { file: it.file, index: number(it.index), member: it.member ? say("finding.member", { n: number(it.member) }) : "" });
+    return make("li", {}, make("span", {}, words), at ? make("button", { "aria-label": `${say("show")}: ${words}`, click: () => look(it, at) }, icon("place"), say("show")) : null);
   };
   const ruleOf = ([rule, its]) => make("section", {}, make("h4", {}, `${rule}: `, make("span", { lang: "en" }, rules[rule] ?? say("rule.unknown"))),
     make("p", {}, make("a", { href: `folders/rules.html#${rule}`, target: "_blank", rel: "noopener" }, say("rule.page", { rule }))),
@@ -61,6 +61,7 @@ export async function showFindings(box, folder, { findings, total }, rules) {
     its.length > OPEN ? make("details", {}, make("summary", {}, say("findings.more", { n: its.length - OPEN })), make("ul", {}, ...its.slice(OPEN).map(rowOf))) : null);
   const byRule = new Map();
   for (const it of findings) byRule.set(it.rule, [...(byRule.get(it.rule) ?? []), it]);
-  box.replaceChildren(make("h3", {}, say("findings", { n: number(total) })), ...(findings.length < total ? [make("p", {}, say("findings.first", { n: number(findings.length) }))] : []),
-    ...(image ? [make("figure", {}, lens, make("figcaption", {}, say("picture.told", { folder }))), make("button", { type: "button", click: lookAtAll }, say("picture.whole"))] : [make("p", { class: "hint" }, say("picture.none", { folder }))]), ...[...byRule].map(ruleOf));
+  lookAtAll();
+  box.replaceChildren(make("h3", {}, say("findings", { n: number(total) })), findings.length < total ? make("p", {}, say("findings.first", { n: number(findings.length) })) : "",
+    ...(places ? [make("figure", {}, lens, make("figcaption", {}, say("picture.told", { folder }))), make("button", { click: lookAtAll }, say("picture.whole"))] : [make("p", { class: "hint" }, say("picture.none", { folder }))]), ...[...byRule].map(ruleOf));
 }

@@ -1,4 +1,4 @@
-// The page of staff: it closes and opens features and publishes folders, each change sent once, and tells what it would mean, what came of it and what stands.
+// The page of staff: it closes and opens features and publishes folders, each change sent once, and tells what it would mean and what stands.
 import { chosenOf, clock, label, list, say, spoken, upper } from "../words.js";
 import "./words.js";
 import { drawLanguages, icon, make, remembered, tellElements } from "../frame.js";
@@ -8,28 +8,28 @@ import { readIcons } from "../draw.js";
 import { drawAnew, drawLevels, drawNews, fit, listenToMap, ordinals, showLevel, shown } from "../map.js";
 import { indexPlaces, listenToField, placeAt, search, titleAt, titleOfPlace } from "../search.js";
 import { isKey, send } from "./change.js";
+import { ALL, closedBy, howOf, inWords, isSo, less, nameOf } from "./whom.js";
 import { showFindings } from "./findings.js";
 
 const EVERY = 2_000, SOON = 3_000, RARELY = 60_000, SLOW = 4_000, TAP_AGAIN = 600, MOST_TOLD = 6, MOST_DOORS = 12, MOST_VERSIONS = 200, MOST_COMPARED = 5_000;
 const PATIENCE = { key: 15_000, closures: 60_000, publish: 600_000 };
-const PROFILES = ["wheelchair", "walk"];
 const $ = (id) => document.getElementById(id);
 
-// What is chosen, what is on its way, and what is known. The key stands here alone.
-const state = { key: "", picked: null, choices: [], place: null, isAsked: false, armed: 0, sending: null, meaning: null, turn: 0, folders: [], entrances: null, rules: {}, isPublishAsked: false,
-  versions: [], own: new Set(), gone: [], isOther: false, compared: 0, silent: null, faults: [], told: {} };
+// What is chosen and for whom, what is on its way, and what is known. The key stands here alone.
+const state = { key: "", choices: [], whom: ALL, closes: true, armed: 0, turn: 0, closed: new Map(), gone: [], titles: new Map(), folders: [], rules: {}, versions: [], own: new Set(), isOther: false, compared: 0, faults: new Set(), told: {} };
 
-const isClosed = (id) => server.closures.closures.includes(id);
+const closedFor = (id) => state.closed.get(id);
 const write = (id, text) => { if ($(id).textContent !== text) $(id).textContent = text; };
-/** Tells a sentence at a place of the page, in the language of then, and again in another one. */
-const tell = (id, key = null, values = {}) => { state.told[id] = key && [key, values]; write(id, key ? say(key, values) : ""); };
+/** Tells sentences at a place of the page, in the language of then, and again in another one. */
+function tell(id, keys = "", values = {}) {
+  state.told[id] = [keys, values];
+  write(id, keys && keys.split(" ").map((key) => say(key, { ...values, how: values.how?.() })).join(" "));
+}
 
 // ---- The key
 
 function drawKey() {
-  const has = Boolean(state.key);
-  for (const it of [$("key"), $("key-use"), $("key-form").querySelector("label")]) it.hidden = has;
-  $("key-forget").hidden = !has;
+  for (const it of $("key-form").querySelectorAll(":not(p)")) it.hidden = (it.id === "key-forget") !== Boolean(state.key);
 }
 
 function forgetKey(why = "key.hint") {
@@ -39,7 +39,7 @@ function forgetKey(why = "key.hint") {
   $("key").focus();
 }
 
-/** Tries a key by a change that asks for nothing: the server answers 400 where it knows the key, and 403 where not. */
+/** Tries a key by a change that asks for nothing, which is answered 400 where the server knows the key, and 403 where not. */
 async function takeKey() {
   const typed = $("key").value.trim();
   if (state.isTrying) return;
@@ -62,15 +62,12 @@ async function takeKey() {
 
 // ---- What is chosen
 
-const unitOf = (it) => (["unit", "opening"].includes(it.type) ? it : it.unit ?? it.anchor?.unit);
-
-/** What can be closed where something was tapped or found, the likeliest first: of a lift or stairs the way between the levels, then the place, then its doors. */
+/** What can be closed where something was tapped or found: of a lift or stairs first the way between the levels, then the place, then its doors. */
 function choicesOf(tapped) {
-  const it = tapped && unitOf(tapped);
+  const it = ["unit", "opening"].includes(tapped?.type) ? tapped : tapped?.unit ?? tapped?.anchor?.unit;
   if (!it || SOLID.has(it.category)) return [];
-  const ends = new Set([it.id, ...(isPassage(it) ? it.doors ?? [] : []).map(({ id }) => id)]), doors = it.type === "unit" && !ALONG.has(it.category) ? (it.doors ?? []).slice(0, MOST_DOORS) : [];
-  const rides = [...features.values()].filter(({ type, ends: its }) => type === "relationship" && its.some((id) => ends.has(id)));
-  return [...(isPassage(it) ? [...rides, it] : [it, ...rides]), ...doors].map(({ id }) => id);
+  const doors = it.doors ?? [], parts = new Set([it, ...(isPassage(it) ? doors : [])].map(({ id }) => id)), rides = [...features.values()].filter(({ ends }) => ends?.some((id) => parts.has(id)));
+  return [...(isPassage(it) ? [...rides, it] : [it, ...rides]), ...(ALONG.has(it.category) ? [] : doors.slice(0, MOST_DOORS))].map(({ id }) => id);
 }
 
 async function pickAt(tapped) {
@@ -79,10 +76,9 @@ async function pickAt(tapped) {
   if (state.sending) return;
   state.place = tapped && placeAt(tapped.id) ? tapped.id : null;
   $("what").value = titleAt(state.place);
-  pick(choices[0] ?? null, choices);
+  pick(choices[0], choices);
 }
 
-/** Takes a place that was searched for. */
 async function choose(id) {
   if (!id) { state.place = null; return; }
   const { level, ordinal } = placeAt(id);
@@ -93,93 +89,141 @@ async function choose(id) {
   if (at) fit([at[0] - 2_500, at[1] - 2_500, at[0] + 2_500, at[1] + 2_500]);
 }
 
-function pick(id, choices, isAsked = false) {
-  Object.assign(state, { picked: id, choices, isAsked, armed: performance.now() + TAP_AGAIN });
-  tell("told");
+function pick(id, choices, more = {}) {
+  Object.assign(state, { picked: id, choices, whom: ALL, closes: true, isAsked: false, armed: performance.now() + TAP_AGAIN }, more);
   tell("news");
+  drawPicked();
+  $("card").scrollIntoView({ block: "nearest" });
+}
+
+function drawPicked() {
+  tell("told");
   askMeaning();
   drawCard();
   drawNews();
-  $("card").scrollIntoView({ block: "nearest" });
 }
 
 const choiceTitle = (id) => {
   const it = features.get(id), title = titleWithLevel(id);
-  return it?.type === "relationship" ? say("the.ride", { title }) : it && isPassage(it) ? say("only.place", { title }) : title;
+  return it?.ends ? say("the.ride", { title }) : isPassage(it) ? say("only.place", { title }) : title;
 };
 
-/** The card of what is chosen: what it is, how it stands, what a change would mean, and the buttons of the change. */
+/** Of closing and opening takes the one that changes something for those who are chosen. */
+function settle() {
+  const { picked, whom, closes, sending } = state;
+  if (!sending && isSo(closedFor(picked), closes, whom)) Object.assign(state, { closes: !closes, isAsked: false });
+}
+
+/** The card of what is chosen. */
 function drawCard() {
-  const id = state.picked, isShut = isClosed(id), isSent = Boolean(state.sending), focused = document.activeElement?.id;
+  const { picked: id, whom, closes } = state, its = closedFor(id), isSent = Boolean(state.sending);
   $("card").hidden = !id;
   if (!id) return;
   write("picked", titleWithLevel(id));
-  write("stands", say(isShut ? "stands.closed" : "stands"));
-  $("stands").className = isShut ? "shut" : "";
+  write("stands", upper(howOf(its)));
+  $("stands").className = its ? "shut" : "";
   $("choices").hidden = state.choices.length < 2;
   $("choice").replaceChildren(...state.choices.map((it) => make("option", { value: it }, choiceTitle(it))));
   $("choice").value = id;
-  $("choice").disabled = isSent;
-  const verb = isShut ? "open" : "close";
-  write("act", say(verb));
-  write("sure", isSent ? say("sent") : say(state.meaning?.text ? `${verb}.sure` : `${verb}.blind`));
-  $("act").hidden = state.isAsked;
-  $("sure").hidden = $("dont").hidden = !state.isAsked;
-  $("sure").setAttribute("aria-disabled", String(isSent));
-  $("dont").disabled = isSent;
-  if (["act", "sure", "dont"].includes(focused) && ($(focused).hidden || $(focused).disabled)) (state.isAsked ? $("sure") : $("act")).focus();
+  $("choice").disabled = $("whom").disabled = isSent;
+  drawWhom(its);
+  const words = (key, isClosing) => upper(say(key, { verb: say(isClosing ? "close" : "open"), who: inWords(whom) }));
+  write("act", words("change.ask", closes));
+  write("other", words("change.ask", !closes));
+  write("sure", isSent ? say("sent") : words(state.meaning?.text ? "change.now" : "change.blind", closes));
+  drawButtons("", state.isAsked);
+  $("other").hidden ||= isSo(its, !closes, whom);
+}
+
+/** The buttons of a change. A focus on one of them stays with them. */
+function drawButtons(of, isAsked) {
+  const [act, other, sure, dont] = ["act", "other", "sure", "dont"].map((it) => $(of + it)), isSent = Boolean(state.sending), focused = document.activeElement;
+  for (const it of [act, other]) if (it) it.hidden = isAsked;
+  sure.hidden = dont.hidden = !isAsked;
+  sure.setAttribute("aria-disabled", String(isSent));
+  dont.disabled = isSent;
+  if ([act, other, sure, dont].includes(focused) && (focused.hidden || focused.disabled)) (isAsked ? sure : act).focus();
+}
+
+/** The choice for whom: everyone, or some of the profiles of the page and the server. */
+function drawWhom(its) {
+  const { whom } = state, profiles = [...new Set([site.profiles, whom, its].filter(Array.isArray).flat())], titles = [say("everyone"), ...profiles.map(nameOf)].map(upper);
+  if ($("whom").textContent !== [say("whom"), ...titles].join("")) {
+    for (const it of $("whom").querySelectorAll("label")) it.remove();
+    $("whom").append(...titles.map((title, k) => make("label", {}, make("input", { type: "checkbox", value: profiles[k - 1], change: takeWhom }), make("span", {}, title))));
+  }
+  for (const [k, it] of $("whom").querySelectorAll("input").entries()) it.checked = k ? whom.includes(it.value) : whom === ALL;
+}
+
+/** Everyone is chosen alone, and where nobody else is. */
+function takeWhom({ target }) {
+  const [all, ...rest] = $("whom").querySelectorAll("input"), chosen = rest.filter((it) => it.checked).map((it) => it.value);
+  Object.assign(state, { whom: target === all || !chosen.length ? ALL : chosen, closes: true, isAsked: false });
+  drawPicked();
 }
 
 // ---- What it would mean
 
 let worker = null;
 
+/** Has the worker compute it for those for whom it isn't so already, wheelchairs first. */
 function askMeaning() {
-  const closes = !isClosed(state.picked), { version, closures } = server.closures;
-  const why = state.isOther ? "meaning.other" : !state.entrances ? "meaning.unknown" : null;
-  state.meaning = state.picked ? { number: (state.turn += 1), version, closes, rows: {}, why, text: why } : null;
-  if (state.picked && !why) {
+  settle();
+  const { picked, whom, closes, entrances } = state, isShut = (id, profile) => isSo(closedFor(id), true, [profile]);
+  const profiles = (whom === ALL ? site.profiles : whom).filter((it) => isShut(picked, it) !== closes).sort((one, other) => (other === "wheelchair") - (one === "wheelchair"));
+  const why = state.isOther ? "meaning.other" : !entrances ? "meaning.unknown" : profiles.length ? null : "meaning.failed", number = (state.turn += 1);
+  state.meaning = picked ? { number, version: server.closures.version, closes, profiles, rows: {}, why, text: why } : null;
+  if (picked && !why) {
     worker ??= listenToWorker(new Worker(new URL("reach.js", import.meta.url), { type: "module" }));
     const data = new URL(`data/${site.mark}/`, document.baseURI).href;
-    for (const profile of PROFILES) worker.postMessage({ number: state.meaning.number, data, profile, entrances: state.entrances, closed: closures, feature: state.picked, closes });
+    for (const profile of profiles) {
+      const before = [...state.closed.keys()].filter((it) => isShut(it, profile)), after = closes ? [...before, picked] : before.filter((it) => it !== picked);
+      worker.postMessage({ number, data, profile, entrances, before, after, feature: picked });
+    }
   }
   drawMeaning();
 }
 
 function listenToWorker(made) {
-  const fail = () => { if (state.meaning) Object.assign(state.meaning, { why: "meaning.failed", text: "meaning.failed" }); drawMeaning(); drawCard(); };
+  const fail = () => { if (state.meaning) state.meaning.why = state.meaning.text = "meaning.failed"; drawMeaning(); drawCard(); };
   made.addEventListener("message", async ({ data }) => {
     await state.names;
-    if (data.number !== state.meaning?.number) return;
+    const { meaning } = state;
+    if (data.number !== meaning?.number) return;
     if (data.wrong) return fail();
-    state.meaning.rows[data.profile] = data;
-    if (PROFILES.every((profile) => profile in state.meaning.rows)) state.meaning.text = "meaning.of";
+    meaning.rows[data.profile] = data;
+    if (meaning.profiles.every((it) => it in meaning.rows)) meaning.text = "meaning.of";
     drawMeaning();
     drawCard();
     drawNews();
-    if (state.meaning.text === "meaning.of") $("card").scrollIntoView({ block: "nearest" });
+    if (meaning.text === "meaning.of") $("card").scrollIntoView({ block: "nearest" });
   });
   made.addEventListener("error", fail);
   return made;
 }
 
-/** The names of these nodes' places, the likeliest to be asked for first. */
+/** The names of the places at these nodes. */
 function namesOf(nodes) {
   const its = new Set(nodes), counts = new Map();
   for (const it of search("")) if (its.has(it.node) && it.type !== "opening" && !isPassage(it)) counts.set(titleOfPlace(it), (counts.get(titleOfPlace(it)) ?? 0) + 1);
-  const told = [...counts].slice(0, MOST_TOLD).map(([name, n]) => (n > 1 ? `${name} (${n})` : name)), rest = [...counts].slice(MOST_TOLD).reduce((sum, [, n]) => sum + n, 0);
-  return counts.size ? list([...told, ...(rest ? [say("and.more", { n: rest })] : [])]) : say("doors.alone", { n: nodes.length });
+  const told = [...counts], rest = told.splice(MOST_TOLD).reduce((sum, [, n]) => sum + n, 0), names = told.map(([name, n]) => (n > 1 ? `${name} (${n})` : name));
+  return counts.size ? list([...names, ...(rest ? [say("and.more", { n: rest })] : [])]) : say("doors.alone", { n: nodes.length });
 }
+
+/** What a closing would cut off for any profile. */
+const cutOff = ({ closes, profiles, rows }) => (closes ? profiles.flatMap((it) => rows[it]?.lost ?? []) : []);
 
 function drawMeaning() {
   const { meaning } = state;
   if (!meaning) return $("meaning").replaceChildren();
+  const { closes, profiles, rows, why, text, version } = meaning, kind = closes ? "lost" : "gained";
   const lineOf = (profile) => {
-    const { isWithout, lost, gained } = meaning.rows[profile], its = meaning.closes ? lost : gained, key = `${meaning.closes ? "lost" : "gained"}.${profile}`;
-    return isWithout ? say("meaning.without") : its.length ? upper(say(key, { names: namesOf(its) })) : say(`${key}.none`);
+    const { isWithout, [kind]: its } = rows[profile], key = `${kind}.${profile === "wheelchair" ? profile : "other"}`, who = nameOf(profile);
+    const line = isWithout ? say("meaning.without", { who }) : its.length ? say(key, { names: namesOf(its), who }) : say(`${key}.none`, { who });
+    return make("p", { class: closes && its?.length ? "cut" : null }, upper(line));
   };
-  const lines = meaning.text === "meaning.of" ? PROFILES.map(lineOf) : [], end = say(meaning.text ?? "meaning", { version: meaning.version });
-  $("meaning").replaceChildren(...lines.map((line, k) => make("p", { class: meaning.rows[PROFILES[k]].lost?.length && meaning.closes ? "cut" : null }, line)), make("p", { class: "note" }, end));
+  const isOf = text === "meaning.of", end = why ? say("meaning.not", { why: say(why) }) : say(text ?? "meaning", { version });
+  $("meaning").replaceChildren(...(isOf ? profiles.map(lineOf) : []), make("p", { class: "note" }, isOf && cutOff(meaning).length ? `${say("shades")} ${end}` : end));
 }
 
 // ---- The map
@@ -190,57 +234,53 @@ const show = async (ordinal) => {
 };
 
 function newsOf(ordinal) {
-  const here = (ids) => ids.map((id) => features.get(id)).filter((it) => it && it.ordinal === ordinal && it.point), endsOf = (id) => features.get(id)?.ends ?? [id];
-  const closed = here(server.closures.closures.flatMap(endsOf)), { meaning } = state;
-  const reached = here((meaning?.closes && meaning.rows.wheelchair?.lost) || []).filter((it) => it.rings);
-  const mark = (picture, look, text) => (it) => ({ it, point: it.point, picture, text: text ?? titleOf(it), rank: 0, look });
-  const its = state.picked && features.get(state.picked);
-  return { closed, reached, lines: [], marks: [...here(its ? endsOf(state.picked) : []).map(mark("place", "from", its && titleOf(its))), ...closed.map(mark("closed", "shut", say("closed")))] };
+  const here = (ids) => ids.map((id) => features.get(id)).filter((it) => it?.ordinal === ordinal && it.point), endsOf = (id) => features.get(id)?.ends ?? [id], { closed, picked, meaning } = state;
+  const marksOf = (id, picture, look, text) => here(endsOf(id)).map((it) => ({ it, point: it.point, picture, text, rank: Number(look === "shut"), look })), its = features.get(picked);
+  const shut = [...closed].flatMap(([id, whom]) => marksOf(id, "closed", "shut", whom === ALL ? say("closed") : upper(howOf(whom))));
+  const reached = here(meaning ? [...new Set(cutOff(meaning))] : []).filter((it) => it.rings);
+  return { closed: here([...closed.keys()].flatMap(endsOf)), reached, lines: [], marks: [...(its ? marksOf(picked, "place", "from", titleOf(its)) : []), ...shut] };
 }
 
 // ---- Changes
 
-/** Sends a change once. Where no reply comes the server is asked what stands, until it answers. While one is on its way no other is sent. */
+/** Sends a change once, and none beside it. Where no reply comes the server is asked what stands, until it answers. */
 async function change(path, body, place, told, wait) {
-  if (state.sending) return null;
+  if (state.sending) return;
   if (!state.key) {
     tell(place, "key.needed");
-    $("key").focus();
-    return null;
+    return $("key").focus();
   }
-  const sent = { time: clockOf(Date.now()), version: server.closures.version };
+  const sent = { time: clock(Date.now(), true), version: server.closures.version };
   state.sending = sent;
   tell(place, told, { ...body, ...sent });
   drawAll();
-  const slow = setTimeout(() => { if (told === "sent.at") tell(place, "slow", sent); }, SLOW), came = await send(path, body, state.key, wait);
+  const slow = setTimeout(() => told.endsWith("waiting") && tell(place, "sent.at slow", sent), SLOW), came = await send(path, body, state.key, wait);
   clearTimeout(slow);
   if (came.is === "lost") {
-    tell(place, "lost.asking");
+    tell(place, "lost lost.asking");
     while (!(await pollNow().then(() => true, hear))) await new Promise((next) => setTimeout(next, SOON));
   }
-  if (came.is === "done") state.own.add(came.told.version);
-  // What is told is of what stands then, if the server still answers.
-  if (came.is === "done") await pollNow().catch(hear);
+  if (came.is === "done") {
+    state.own.add(came.told.version);
+    await pollNow().catch(hear);
+  }
   state.sending = null;
   if (came.name === "not_staff") forgetKey("key.wrong");
-  if (came.is === "refused" && came.name !== "rejected") tell(place, came.name === "not_staff" ? "key.wrong" : `why.${came.name}`);
+  if (came.is === "refused" && came.name !== "rejected") tell(place, came.name === "not_staff" ? "key.wrong" : `unchanged why.${came.name}`);
   if (came.is === "kept") tell(place, came.why, came);
-  return { ...came, sent };
+  return came;
 }
 
-const clockOf = (time) => clock(time, true);
-
 async function closeOrOpen() {
-  const id = state.picked, closed = !isClosed(id), title = $("picked").textContent, how = say(closed ? "is.closed" : "is.open");
-  if (performance.now() < state.armed || state.sending) return;
-  const came = await change("/v1/closures", { feature: id, closed }, "told", "sent.at", PATIENCE.closures);
+  const { picked: id, whom, closes } = state, title = $("picked").textContent;
+  if (performance.now() < state.armed) return;
+  const came = await change("/v1/closures", { feature: id, closed: closes, profiles: whom === ALL ? undefined : whom }, "told", "sent.at waiting", PATIENCE.closures);
   if (!came) return;
-  const { version } = came.told ?? server.closures, stands = isClosed(id) === closed;
-  if (came.is === "done") tell("told", (came.told.changed ? ["open.done", "closed.done"] : ["open.was", "closed.was"])[Number(closed)], { title, version });
-  if (came.is === "lost") tell("told", stands ? "lost.stands" : "lost.not", { title, version: server.closures.version, how: stands ? how : say(closed ? "is.open" : "is.closed") });
-  if (came.is === "done" || (came.is === "lost" && stands)) {
+  const { version } = came.told ?? server.closures, its = closedFor(id), stands = isSo(its, closes, whom);
+  if (came.is === "done") tell("told", came.told.changed ? "change.done" : "change.was", { title, version, how: () => howOf(whom, closes) });
+  if (came.is === "lost") tell("told", stands ? "lost lost.stands lost.is" : "lost lost.is still", { title, version, how: () => howOf(its) });
+  if (came.is === "done" || stands) {
     state.isAsked = false;
-    state.gone = state.gone.filter(([it]) => it !== id);
     askMeaning();
   }
   drawAll();
@@ -248,106 +288,108 @@ async function closeOrOpen() {
 
 // ---- What is closed
 
-/** The list of what is closed, each with a button that opens it, and of what a restart has opened. */
+/** What is closed, each with a button that opens it for the same, and what a restart has opened. */
 async function drawClosures() {
-  const ids = server.closures.closures;
-  await featuresOf([...ids, ...state.gone.map(([id]) => id)]).catch(note);
-  if (ids !== server.closures.closures) return;
-  const lists = JSON.stringify([ids.map(titleWithLevel), state.gone, spoken()]);
+  const { closed } = state;
+  await featuresOf([...closed.keys(), ...state.gone.map(([id]) => id)]).catch(note);
+  if (closed !== state.closed) return;
+  const rows = [...closed].map(([id, whom]) => [id, titleWithLevel(id), whom]), lists = JSON.stringify([rows, state.gone, spoken()]);
   if (lists === state.listed) return;
   state.listed = lists;
   const focused = [...$("closures").querySelectorAll("button")].indexOf(document.activeElement);
-  const button = (key, name, click) => make("button", { type: "button", "aria-label": say(key, { name }), click }, say(key, { name: "" }).trim());
-  const go = (id) => async () => { if (!state.sending) { const it = features.get(id); await show(it?.ordinal ?? site.levels[it?.levels?.[0]]?.ordinal ?? shown.ordinal); pick(id, [id], true); $("sure").focus(); } };
-  $("closures").replaceChildren(...(ids.length ? ids.map((id) => make("li", {}, make("span", {}, titleWithLevel(id)), make("small", {}, say("for.all")), button("open.it", titleWithLevel(id), go(id)))) : [make("li", { class: "hint" }, say("none.closed"))]));
+  const button = (key, name, click) => make("button", { "aria-label": say(key, { name }), click }, upper(say(key, { name: "" }).trim()));
+  const go = (id, whom, closes) => async () => {
+    if (state.sending) return;
+    const it = features.get(id);
+    await show(it?.ordinal ?? site.levels[it?.levels?.[0]]?.ordinal ?? shown.ordinal);
+    pick(id, [id], { whom, closes, isAsked: true });
+    $("sure").focus();
+  };
+  const leave = (id) => () => { state.gone = state.gone.filter(([it]) => it !== id); drawClosures(); };
+  const none = rows.length ? [] : [make("li", { class: "hint" }, say("none.closed"))];
+  $("closures").replaceChildren(...none, ...rows.map(([id, name, whom]) => make("li", {}, make("span", {}, name), make("small", {}, inWords(whom)), button("open.it", name, go(id, whom, false)))));
   $("gone").hidden = !state.gone.length;
-  $("gone").replaceChildren(...state.gone.map(([id, name]) => make("li", {}, make("span", {}, say("gone", { name })), button("close.again", name, go(id)),
-    make("button", { type: "button", "aria-label": `${say("leave")}: ${name}`, click: () => { state.gone = state.gone.filter(([it]) => it !== id); drawClosures(); } }, say("leave")))));
-  if (focused >= 0) ($("closures").querySelectorAll("button")[Math.min(focused, ids.length - 1)] ?? $("closures-title")).focus();
+  $("gone").replaceChildren(...state.gone.map(([id, name, whom]) => make("li", {}, make("span", {}, say("gone", { name, who: inWords(whom) })), button("close.again", name, go(id, whom, true)), button("leave.it", name, leave(id)))));
+  if (focused >= 0) ($("closures").querySelectorAll("button")[Math.min(focused, rows.length - 1)] ?? $("closures-title")).focus();
   drawNews();
 }
 
 // ---- Publications
 
 function drawPublish() {
-  const isSent = Boolean(state.sending), focused = document.activeElement?.id;
-  $("publish-form").hidden = !state.folders.length;
-  if (!state.folders.length) tell("publish-told", "folders.none");
-  else if (state.told["publish-told"]?.[0] === "folders.none") tell("publish-told");
-  const chosen = $("folder").value;
-  if ($("folder").options.length !== state.folders.length || state.folders.some((it, k) => $("folder").options[k].value !== it)) $("folder").replaceChildren(...state.folders.map((it) => make("option", { value: it }, it)));
-  if (state.folders.includes(chosen)) $("folder").value = chosen;
-  $("folder").disabled = isSent;
-  $("publish-act").hidden = state.isPublishAsked;
-  $("publish-sure").hidden = $("publish-dont").hidden = !state.isPublishAsked;
-  write("publish-sure", say(isSent ? "sent" : "publish.sure"));
-  $("publish-sure").setAttribute("aria-disabled", String(isSent));
-  $("publish-dont").disabled = isSent;
-  if (focused?.startsWith("publish-") && ($(focused).hidden || $(focused).disabled)) (state.isPublishAsked ? $("publish-sure") : $("publish-act")).focus();
+  const { folders } = state, chosen = $("folder").value, isNone = !folders.length;
+  $("publish-form").hidden = isNone;
+  if (isNone || state.told["publish-told"]?.[0] === "folders.none") tell("publish-told", isNone ? "folders.none" : "");
+  if (String([...$("folder").options].map((it) => it.value)) !== String(folders)) $("folder").replaceChildren(...folders.map((it) => make("option", { value: it }, it)));
+  if (folders.includes(chosen)) $("folder").value = chosen;
+  $("folder").disabled = Boolean(state.sending);
+  write("publish-sure", say(state.sending ? "sent" : "publish.sure"));
+  drawButtons("publish-", state.isPublishAsked);
 }
 
 async function publish() {
   const folder = $("folder").value;
   if (performance.now() < state.armed || state.sending || !folder) return;
-  const began = Date.now(), ticks = setInterval(() => { $("judging").hidden = !state.sending; write("elapsed", state.sending ? say("elapsed", { n: Math.round((Date.now() - began) / 1000) }) : ""); }, 500);
+  const began = Date.now(), before = server.closures.version, ticks = setInterval(() => { $("judging").hidden = false; write("elapsed", `${Math.round((Date.now() - began) / 1000)} s`); }, 500);
   $("findings").replaceChildren();
-  const came = await change("/v1/publish", { folder }, "publish-told", "judging.at", PATIENCE.publish);
+  const came = await change("/v1/publish", { folder }, "publish-told", "sent.at judging.at", PATIENCE.publish);
   clearInterval(ticks);
   $("judging").hidden = true;
   write("elapsed", "");
   if (!came) return;
-  const { version } = server.closures, values = { folder, version: came.told?.version ?? version, before: came.sent.version };
+  const version = came.told?.version ?? server.closures.version, isMoved = came.is === "lost" && version !== before, values = { folder, version, before };
   if (came.is === "done") {
     const dropped = came.told.dropped ?? [];
     tell("publish-told", "published", values);
-    if (dropped.length) $("findings").replaceChildren(make("p", {}, say("dropped", { names: list(dropped.map((id) => state.titles?.get(id) ?? id)) })));
+    if (dropped.length) $("findings").replaceChildren(make("p", {}, say("dropped", { names: list(dropped.map((id) => state.titles.get(id) ?? id)) })));
   }
-  if (came.is === "lost") tell("publish-told", version === came.sent.version ? "publish.same" : "publish.moved", { ...values, version });
+  if (came.is === "lost") tell("publish-told", isMoved ? "lost publish.moved" : "lost publish.same still", values);
   if (came.name === "rejected") {
-    tell("publish-told", "rejected", values);
+    tell("publish-told", "rejected unchanged", values);
     await showFindings($("findings"), folder, came.told, state.rules);
   }
-  if (came.is === "done" || came.name === "rejected" || (came.is === "lost" && version !== came.sent.version)) state.isPublishAsked = false;
+  if (came.is === "done" || came.name === "rejected" || isMoved) state.isPublishAsked = false;
   drawAll();
 }
 
 // ---- Versions
 
-/** Takes what the server says is closed, and notes which version it is and what has changed since the last. A version that isn't above the last one is that of
-    a server that began anew. */
+/** Takes what the server says is closed, and notes what changed. A version that isn't above the last is of a server that began anew. */
 async function take(told) {
-  const { version, closures } = server.closures, lost = closures.filter((id) => !told.closures.includes(id)), found = told.closures.filter((id) => !closures.includes(id));
-  if (told.version === version && !lost.length && !found.length) return false;
-  await featuresOf([...lost, ...found]).catch(note);
-  const titles = (ids) => ids.map((id) => titleWithLevel(id)), isAnew = told.version <= version;
-  state.titles = new Map([...(state.titles ?? []), ...[...lost, ...found].map((id) => [id, titleWithLevel(id)])]);
+  const { version } = server.closures, before = state.closed, now = closedBy(told.closures), ids = [...new Set([...before.keys(), ...now.keys()])];
+  const changesOf = (one, other) => ids.map((id) => [id, less(one.get(id), other.get(id))]).filter(([, whom]) => whom.length), opened = changesOf(before, now), closed = changesOf(now, before);
+  if (told.version === version && !opened.length && !closed.length) return false;
+  await featuresOf(ids).catch(note);
+  for (const id of ids) if (features.has(id)) state.titles.set(id, titleWithLevel(id));
+  const titled = (its) => its.map(([id, whom]) => [titleWithLevel(id), whom]), isAnew = told.version <= version;
   if (isAnew) {
     state.own.clear();
-    state.gone = lost.map((id) => [id, titleWithLevel(id)]);
+    state.gone = opened.map(([id]) => [id, titleWithLevel(id), before.get(id)]);
   }
-  state.gone = state.gone.filter(([id]) => !told.closures.includes(id));
-  state.versions.unshift({ version: told.version, from: version && !isAnew ? version + 1 : told.version, time: Date.now(), isFirst: !version, isAnew, closed: titles(found), opened: titles(lost), count: told.closures.length, isOwn: state.own.has(told.version) });
-  state.versions.length = Math.min(state.versions.length, MOST_VERSIONS);
-  server.closures = told;
+  state.gone = state.gone.filter(([id, , whom]) => !isSo(now.get(id), true, whom));
+  state.versions.unshift({ version: told.version, from: version && !isAnew ? version + 1 : told.version, time: Date.now(), isFirst: !version, isAnew, closed: titled(closed), opened: titled(opened), count: now.size, isOwn: state.own.has(told.version) });
+  state.versions.splice(MOST_VERSIONS);
+  [server.closures, state.closed] = [told, now];
   return true;
 }
 
 function versionInWords({ version, from, isFirst, isAnew, closed, opened, count, isOwn }) {
   if (isFirst) return say("was.opened", { n: count });
   if (isAnew) return say("was.restarted");
-  const changes = [...(closed.length ? [say("was.closed", { names: list(closed) })] : []), ...(opened.length ? [say("was.open", { names: list(opened) })] : [])];
-  return [...(changes.length ? changes : from === version ? [say("was.published")] : []), ...(from < version ? [say("was.between")] : []), ...(isOwn ? [say("was.own")] : [])].join(" ");
+  const titlesOf = (its) => list(its.map(([title, whom]) => (whom === ALL ? title : `${title} ${inWords(whom)}`))), isMore = from < version;
+  const told = { "was.closed": closed.length, "was.open": opened.length, "was.published": !closed.length && !opened.length && !isMore, "was.between": isMore, "was.own": isOwn };
+  return Object.keys(told).filter((key) => told[key]).map((key) => say(key, { names: titlesOf(key === "was.closed" ? closed : opened) })).join(" ");
 }
 
 function drawHistory() {
-  $("history").replaceChildren(...state.versions.map((it) => make("li", {}, make("b", {}, say("version", { version: it.from < it.version ? `${it.from}–${it.version}` : it.version })), ` · ${clockOf(it.time)} · ${versionInWords(it)}`)));
+  $("history").replaceChildren(...state.versions.map((it) => make("li", {}, make("b", {}, say("version", { version: it.from < it.version ? `${it.from}–${it.version}` : it.version })), ` · ${clock(it.time, true)} · ${versionInWords(it)}`)));
 }
 
 // ---- Live
 
 function note(trouble) {
   if (trouble.key === "silent") hear(trouble);
-  else if (!state.faults.includes(sentence(trouble))) state.faults.push(sentence(trouble));
+  else state.faults.add(sentence(trouble));
   tellLive();
 }
 
@@ -361,20 +403,17 @@ function tellLive() {
   const seen = silent && server.heard ? ` ${say("seen", { time: clock(server.heard), version })}` : "";
   write("trouble", [...faults, isOff ? say("offline.now") : silent ? `${sentence(silent)}${seen}` : "", isOther && !silent ? say("other.map") : ""].join(" ").trim());
   $("trouble").hidden = !$("trouble").textContent;
-  write("live", !site.mark ? say("loading") : silent || isOff ? say("no.answer") : version ? say("live.version", { version }) : say("live"));
-  $("live").className = !site.mark ? "busy" : silent || isOff ? "off" : "on";
+  const [key, look] = !site.mark ? ["loading", "busy"] : silent || isOff ? ["no.answer", "off"] : [version ? "live.version" : "live", "on"];
+  write("live", say(key, { version }));
+  $("live").className = look;
 }
 
-/** What is closed now. The server of a history that began anew isn't as far as this page has seen the one before, and says so. */
-async function askClosures() {
-  try {
-    return await ask("/v1/closures", {}, "closures");
-  } catch (trouble) {
-    if (trouble.key !== "version_ahead") throw trouble;
-    server.version = server.ahead = 0;
-    return ask("/v1/closures", {}, "closures");
-  }
-}
+/** What is closed now. A server that began anew isn't as far as this page has seen the one before, and says so. */
+const askClosures = () => ask("/v1/closures", {}, "closures").catch((trouble) => {
+  if (trouble.key !== "version_ahead") throw trouble;
+  server.version = server.ahead = 0;
+  return ask("/v1/closures", {}, "closures");
+});
 
 async function poll() {
   const told = await askClosures(), isNew = await take(told), isDue = isNew || state.isOther || Date.now() - state.compared > RARELY;
@@ -397,19 +436,18 @@ async function compare() {
   if (was !== state.isOther && state.picked) askMeaning();
 }
 
-/** Shows another map, and keeps what was typed and chosen where it has that too. */
+/** Shows another map, and keeps what was chosen where it has that too. */
 async function renew(told) {
   takeSite(told);
   Object.assign(shown, { ordinal: null, levels: [] });
-  state.faults = [];
+  state.faults.clear();
   await readFolders();
   await begin();
-  const isThere = state.picked && (await featuresOf([state.picked]).catch(note), features.has(state.picked));
-  if (state.picked && !isThere) {
-    pick(null, []);
-    tell("news", "gone.picked");
-  }
-  if (isThere) askMeaning();
+  if (!state.picked) return;
+  await featuresOf([state.picked]).catch(note);
+  if (features.has(state.picked)) return askMeaning();
+  pick(null, []);
+  tell("news", "gone.picked");
 }
 
 let running = null;
@@ -417,7 +455,6 @@ const pollOnce = () => (running ??= poll().finally(() => { running = null; }));
 /** Asks anew, after what is being asked. */
 const pollNow = async () => { await running?.catch(() => null); return pollOnce(); };
 
-/** Asks now, and again after a while. */
 async function listen() {
   clearTimeout(state.next);
   await (site.mark ? pollOnce() : start()).catch(hear);
@@ -435,9 +472,9 @@ function drawAll() {
 
 function tellPage(language) {
   tellElements(language);
-  const name = (site.name && label(site.name, site.language)?.text) || (site.folder ? upper(site.folder) : "");
+  const name = label(site.name, site.language)?.text || upper(site.folder ?? "");
   $("venue").textContent = document.title = name ? say("staff.of", { name }) : say("staff");
-  for (const [id, it] of Object.entries(state.told)) if (it) write(id, say(...it));
+  for (const [id, it] of Object.entries(state.told)) tell(id, ...it);
   if (site.mark) drawLevels(make, icon, show);
 }
 
@@ -452,10 +489,10 @@ async function tellAnew(language) {
   tellLive();
 }
 
-/** What the operator says of folders, and of the entrances of the folder that is served: a moment after the map, where both are new. */
+/** What the operator says of folders, and of the entrances of the one that is served: a moment after the map, where both are new. */
 async function readFolders() {
   state.readAt = Date.now();
-  const reply = await fetch("folders/folders.json", { cache: "no-cache" }).catch(() => null), told = reply?.ok ? await reply.json().catch(() => null) : null;
+  const told = await fetch("folders/folders.json", { cache: "no-cache" }).then((reply) => (reply.ok ? reply.json() : null)).catch(() => null);
   state.folders = Array.isArray(told?.folders) ? told.folders.filter((it) => /^[a-z0-9_-]{1,64}$/.test(it)) : [];
   state.rules = told?.rules ?? {};
   state.entrances = Array.isArray(told?.entrances) && told.mark === site.mark ? told.entrances : null;
@@ -463,7 +500,6 @@ async function readFolders() {
   if (state.entrances && state.meaning?.why === "meaning.unknown") askMeaning();
 }
 
-/** Draws the site as it is now. */
 async function begin() {
   tellPage(spoken());
   fit();
@@ -475,31 +511,34 @@ async function begin() {
 
 async function start() {
   takeSite(await readSite());
-  state.faults = [];
+  state.faults.clear();
   await Promise.all([readIcons(), readFolders()]);
   await begin();
   await pollOnce();
 }
 
-/** The first of the two taps that a change takes; a second one that follows at once isn't meant for what then stands there. */
-const askFirst = (place) => (event) => {
-  event.preventDefault();
+/** The first of the two taps that a change takes, or that it isn't to be; a tap that follows at once isn't meant for what then stands there. */
+const setAsked = (place, isAsked) => () => {
   if (state.sending) return;
-  state[place] = true;
-  state.armed = performance.now() + TAP_AGAIN;
+  Object.assign(state, { [place]: isAsked, armed: performance.now() + TAP_AGAIN });
   drawCard();
   drawPublish();
 };
-$("key-form").addEventListener("submit", (event) => { event.preventDefault(); takeKey(); });
-$("key-forget").addEventListener("click", () => forgetKey());
-$("form").addEventListener("submit", (event) => event.preventDefault());
-$("choice").addEventListener("change", ({ target }) => pick(target.value, state.choices));
-$("act").addEventListener("click", askFirst("isAsked"));
-$("sure").addEventListener("click", closeOrOpen);
-$("dont").addEventListener("click", () => { state.isAsked = false; drawCard(); });
-$("publish-form").addEventListener("submit", askFirst("isPublishAsked"));
-$("publish-sure").addEventListener("click", publish);
-$("publish-dont").addEventListener("click", () => { state.isPublishAsked = false; drawPublish(); });
+const listenTo = (id, act, event = "click") => $(id).addEventListener(event, act);
+listenTo("key-form", (event) => { event.preventDefault(); takeKey(); }, "submit");
+listenTo("key-forget", () => forgetKey());
+listenTo("choice", ({ target }) => pick(target.value, state.choices, { whom: state.whom }), "change");
+listenTo("act", setAsked("isAsked", true));
+listenTo("other", () => {
+  state.closes = !state.closes;
+  askMeaning();
+  setAsked("isAsked", true)();
+});
+listenTo("sure", closeOrOpen);
+listenTo("dont", setAsked("isAsked", false));
+listenTo("publish-act", setAsked("isPublishAsked", true));
+listenTo("publish-sure", publish);
+listenTo("publish-dont", setAsked("isPublishAsked", false));
 listenToField("what", { make, icon, chosen: () => state.place, choose });
 for (const name of ["online", "offline"]) addEventListener(name, () => { tellLive(); listen(); });
 document.addEventListener("visibilitychange", () => document.hidden || listen());

@@ -2,7 +2,7 @@
 // profile less what is closed. It proves nothing.
 import { readNodes, readPart } from "../check.js";
 
-const tables = new Map(); // by the address of the profile's folder, of the publication that was asked for last
+const tables = new Map(); // by the address of the profile's folder, of the last publication
 
 async function read(address) {
   const reply = await fetch(address);
@@ -64,12 +64,12 @@ function joined(table, entrances, closed) {
   return from.map((is, node) => is & to[node]);
 }
 
-async function judge({ data, profile, entrances, closed, feature, closes }) {
-  const table = await tableOf(data, profile), before = new Set(closed), after = new Set(closed), { numbers, nodes, roomsOf, out, into } = table;
-  closes ? after.add(feature) : after.delete(feature);
-  const isOf = (id) => { const node = numbers.get(id); return node !== undefined && (roomsOf[node].length || out[node].length || into[node].length); };
+/** What a change of this feature takes and gives for a profile, of what is closed for it before and after. */
+async function judge({ data, profile, entrances, before, after, feature }) {
+  const table = await tableOf(data, profile), { numbers, nodes, roomsOf, out, into } = table;
+  const isOf = (id) => [roomsOf, out, into].some((its) => its[numbers.get(id)]?.length);
   if (!entrances.some(isOf)) return { isWithout: true };
-  const [was, is] = [before, after].map((its) => joined(table, entrances, its));
+  const [was, is] = [before, after].map((closed) => joined(table, entrances, new Set(closed)));
   const differ = (one, other) => nodes.filter((id, node) => one[node] && !other[node] && id !== feature);
   return { lost: differ(was, is), gained: differ(is, was) };
 }
