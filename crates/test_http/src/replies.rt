@@ -32,6 +32,15 @@ fn text(alloc: Global, text: &str) -> Result<Text, AllocError> {
     Ok(Text::from_string(String::from_str(alloc, text)?))
 }
 
+// Names of profiles.
+fn names(alloc: Global, names: &[&str]) -> Result<List<Text>, AllocError> {
+    let mut texts = Vec::new(alloc);
+    for name in names {
+        texts.push(text(alloc, name)?)?;
+    }
+    Ok(List::from_vec(texts))
+}
+
 fn label(alloc: Global, tag: &str, name: &str) -> Result<Label, AllocError> {
     let tag = text(alloc, tag)?;
     let text = text(alloc, name)?;
@@ -152,36 +161,71 @@ fn reads(
     sees(rt, alloc, &reply, false, told, body)
 }
 
-fn sees_changes(rt: &impl Abort, alloc: Global) -> Result<(), AllocError> {
-    let reply = Reply::ClosureDone(ClosureDone {
-        number: 2,
+// The lift, closed or opened again for these profiles, or for all.
+fn lift(number: u32, closed: bool, changed: bool, profiles: Option<List<Text>>) -> Reply {
+    Reply::ClosureDone(ClosureDone {
+        number,
         feature: id(0x301),
-        closed: true,
-        changed: true,
-    });
+        closed,
+        changed,
+        profiles,
+    })
+}
+
+fn sees_changes(rt: &impl Abort, alloc: Global) -> Result<(), AllocError> {
     let body = r#"{"changed":true,"closed":true,"feature":"@0301","version":2}"#;
-    reads(rt, alloc, reply, 91, body)?;
+    reads(rt, alloc, lift(2, true, true, None), 91, body)?;
+    let reply = lift(2, true, true, Some(names(alloc, &["wheelchair"])?));
+    let body =
+        r#"{"changed":true,"closed":true,"feature":"@0301","profiles":["wheelchair"],"version":2}"#;
+    reads(rt, alloc, reply, 117, body)?;
+    let reply = lift(4, true, false, Some(names(alloc, &["walk", "wheelchair"])?));
+    let body =
+        r#"{"changed":false,"closed":true,"feature":"@0301","profiles":["walk","wheelchair"],"version":4}"#;
+    reads(rt, alloc, reply, 125, body)?;
+    let reply = lift(5, false, false, Some(names(alloc, &["walk"])?));
+    let body =
+        r#"{"changed":false,"closed":false,"feature":"@0301","profiles":["walk"],"version":5}"#;
+    reads(rt, alloc, reply, 113, body)?;
     let dropped = List::from_vec(vec![in alloc; id(0x301)]?);
     let reply = Reply::Published { number: 3, dropped };
     let body = r#"{"dropped":["@0301"],"version":3}"#;
     reads(rt, alloc, reply, 64, body)
 }
 
-fn closed_row(last: u16) -> ClosedRow {
-    ClosedRow {
-        id: id(last),
-        profiles: None,
-    }
+fn closed_row(last: u16, profiles: Option<List<Text>>) -> ClosedRow {
+    let id = id(last);
+    ClosedRow { id, profiles }
+}
+
+fn closures(number: u32, closed: Vec<ClosedRow>) -> Reply {
+    let closed = List::from_vec(closed);
+    Reply::Closures(ClosuresTold { number, closed })
 }
 
 fn sees_closures(rt: &impl Abort, alloc: Global) -> Result<(), AllocError> {
-    let closed = List::new(alloc);
-    let reply = Reply::Closures(ClosuresTold { number: 3, closed });
+    let reply = closures(3, Vec::new(alloc));
     reads(rt, alloc, reply, 27, r#"{"closures":[],"version":3}"#)?;
-    let closed = List::from_vec(vec![in alloc; closed_row(0x24), closed_row(0x301)]?);
-    let reply = Reply::Closures(ClosuresTold { number: 4, closed });
+    let rows = vec![in alloc; closed_row(0x24, None), closed_row(0x301, None)]?;
     let body = r#"{"closures":["@0024","@0301"],"version":4}"#;
-    reads(rt, alloc, reply, 104, body)
+    reads(rt, alloc, closures(4, rows), 104, body)
+}
+
+// What is closed for some stands among what is closed for all.
+fn sees_closures_for_some(rt: &impl Abort, alloc: Global) -> Result<(), AllocError> {
+    let rows = vec![in alloc;
+        closed_row(0x22, Some(names(alloc, &["walk"])?)),
+        closed_row(0x301, Some(names(alloc, &["wheelchair"])?)),
+    ]?;
+    let body =
+        r#"{"closures":[{"feature":"@0022","profiles":["walk"]},{"feature":"@0301","profiles":["wheelchair"]}],"version":3}"#;
+    reads(rt, alloc, closures(3, rows), 174, body)?;
+    let rows = vec![in alloc;
+        closed_row(0x22, Some(names(alloc, &["walk"])?)),
+        closed_row(0x301, None),
+    ]?;
+    let body = r#"{"closures":[{"feature":"@0022","profiles":["walk"]},"@0301"],"version":4}"#;
+    reads(rt, alloc, closures(4, rows), 136, body)
 }
 
 fn sees_walks(rt: &impl Abort, alloc: Global) -> Result<(), AllocError> {
@@ -215,6 +259,19 @@ fn sees_a_place(rt: &impl Abort, alloc: Global) -> Result<(), AllocError> {
     let body =
         r#"{"closed":false,"id":"@0052","kind":"occupant","name":{"en":"Tickets"},"ordinal":1,"version":1}"#;
     reads(rt, alloc, reply, 126, body)
+}
+
+// A place that is closed for some.
+fn sees_a_place_for_some(rt: &impl Abort, alloc: Global) -> Result<(), AllocError> {
+    let reply = Reply::Place(PlaceTold {
+        number: 3,
+        row: place(0x301, Class::Unit, 0, Vec::new(alloc)),
+        closed: false,
+        profiles: Some(names(alloc, &["wheelchair"])?),
+    });
+    let body =
+        r#"{"closed":false,"id":"@0301","kind":"unit","name":null,"ordinal":0,"profiles":["wheelchair"],"version":3}"#;
+    reads(rt, alloc, reply, 136, body)
 }
 
 // One tag comes twice, and the texts have what is escaped.
@@ -436,9 +493,11 @@ fn answers_have_their_bytes(rt: HostRuntime) -> Result<(), Fail> {
     }
     sees_changes(&rt, alloc)?;
     sees_closures(&rt, alloc)?;
+    sees_closures_for_some(&rt, alloc)?;
     sees_walks(&rt, alloc)?;
     sees_that_none_is(&rt, alloc)?;
     sees_a_place(&rt, alloc)?;
+    sees_a_place_for_some(&rt, alloc)?;
     sees_names(&rt, alloc)?;
     sees_places(&rt, alloc)?;
     sees_findings(&rt, alloc)?;

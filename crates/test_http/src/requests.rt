@@ -3,7 +3,7 @@
 use std::alloc::{AllocError, Global};
 use std::process::Abort;
 use std::test::Fail;
-use venue_types::{Ask, Change, List, Query, Text};
+use venue_types::{Ask, Change, Closure, List, Query, Text};
 use venue_wire::{
     Front, Message, Taken, message_length_law, message_more_law, more_is_short_law,
     one_message_law, path_law, take,
@@ -25,7 +25,8 @@ enum Outcome<'t> {
     More,
     Fault(Refusal),
     Ask(Option<u32>, What<'t>),
-    Closure(u128, bool),
+    /// The feature, how it is to stand, and how many names of profiles stand there, where some do.
+    Closure(u128, bool, Option<usize>),
     Publish(&'t str),
     Refused(Refusal),
     Bare(Refusal),
@@ -51,9 +52,14 @@ fn asked(query: &Query) -> Outcome<'_> {
     Outcome::Ask(query.since, what_of(&query.what))
 }
 
+fn closure(asked: &Closure) -> Outcome<'_> {
+    let count = asked.profiles.as_ref().map(|names| names.len());
+    Outcome::Closure(asked.feature.0, asked.closed, count)
+}
+
 fn changed(change: &Change) -> Outcome<'_> {
     match change {
-        Change::Closure(asked) => Outcome::Closure(asked.feature.0, asked.closed),
+        Change::Closure(asked) => closure(asked),
         Change::Publish { folder } => Outcome::Publish(folder.as_str()),
     }
 }
@@ -124,6 +130,45 @@ fn nested(alloc: Global, times: usize) -> Result<Vec<u8>, AllocError> {
     repeated(alloc, &front, b"]", times, b"}")
 }
 
+/// A closing with a further member.
+fn closing_with(alloc: Global, member: &str) -> Result<Vec<u8>, AllocError> {
+    let front = b"{\"feature\":\"00000000-0000-4000-8000-000000000301\",\"closed\":true,";
+    repeated(alloc, front, member.as_bytes(), 1, b"}")
+}
+
+/// A closing for a profile that is named so many times.
+fn closing_for(alloc: Global, times: usize) -> Result<Vec<u8>, AllocError> {
+    repeated(
+        alloc,
+        b"{\"profiles\":[",
+        b"\"walk\",",
+        times.saturating_sub(1),
+        b"\"walk\"],\"feature\":\"00000000-0000-4000-8000-000000000301\",\"closed\":true}",
+    )
+}
+
+fn are_names(texts: &List<Text>, names: &[&str]) -> bool {
+    texts.len() == names.len()
+        && texts
+            .iter()
+            .zip(names)
+            .all(|(text, name)| text.as_str() == *name)
+}
+
+/// Whether what was taken is a closure for these profiles.
+fn is_for(taken: &Taken, names: &[&str]) -> bool {
+    match taken {
+        Taken::Message {
+            message: Message::Do(Change::Closure(asked)),
+            ..
+        } => match &asked.profiles {
+            Some(texts) => are_names(texts, names),
+            None => false,
+        },
+        _ => false,
+    }
+}
+
 /// The request comes to this, also with another behind it, and isn't there without its last byte.
 fn check(
     rt: &impl Abort,
@@ -163,7 +208,7 @@ const BAD_BODY: Outcome<'static> = Outcome::Refused(Refusal::BadBody);
 
 const BAD_QUERY: Outcome<'static> = Outcome::Refused(Refusal::BadQuery);
 
-const CLOSED: Outcome<'static> = Outcome::Closure(I_0301, true);
+const CLOSED: Outcome<'static> = Outcome::Closure(I_0301, true, None);
 
 const VERSION: Outcome<'static> = Outcome::Ask(None, What::Version);
 
@@ -387,10 +432,84 @@ fn check_bodies(rt: &impl Abort, alloc: Global, front: &Front) -> Result<(), All
         ),
         (
             b"{\"closed\":1,\"feature\":\"x\",\"feature\":\"00000000-0000-4000-8000-000000000301\",\"closed\":false}",
-            Outcome::Closure(I_0301, false),
+            Outcome::Closure(I_0301, false, None),
         ),
     ];
     check_posted(rt, alloc, front, "POST /v1/closures", table)
+}
+
+/// Bodies of closures by their profiles: names as they stand there, and nobody where none are named.
+fn check_profiles(rt: &impl Abort, alloc: Global, front: &Front) -> Result<(), AllocError> {
+    let table: [(&str, Option<&[&str]>); 14] = [
+        ("\"profiles\":null", None),
+        ("\"profile\":[\"walk\"]", None),
+        ("\"Profiles\":[]", None),
+        ("\"profiles\":[\"walk\"],\"profiles\":null", None),
+        ("\"profiles\":[],\"profiles\":null", None),
+        ("\"profiles\":[\"walk\"]", Some(&["walk"])),
+        ("\"profiles\":null,\"profiles\":[\"walk\"]", Some(&["walk"])),
+        (
+            "\"profiles\":[\"bicycle\"],\"profiles\":[\"walk\"]",
+            Some(&["walk"]),
+        ),
+        (
+            "\"profiles\":[\"wheelchair\",\"walk\",\"walk\"]",
+            Some(&["wheelchair", "walk", "walk"]),
+        ),
+        ("\"profiles\":[\"Walk\"]", Some(&["Walk"])),
+        ("\"profiles\":[\"\"]", Some(&[""])),
+        ("\"profiles\":[\"\\u0077alk\"]", Some(&["walk"])),
+        ("\"profil\\u0065s\":[\"walk\"]", Some(&["walk"])),
+        (
+            "\"profiles\" : [ \"a b\" , \"\u{e4}\" ]",
+            Some(&["a b", "\u{e4}"]),
+        ),
+    ];
+    for (row, (member, want)) in table.iter().enumerate() {
+        let body = closing_with(alloc, member)?;
+        let bytes = request(alloc, "POST /v1/closures", KEY, &body)?;
+        let count = want.map(|names| names.len());
+        let outcome = Outcome::Closure(I_0301, true, count);
+        check(rt, alloc, front, &bytes, outcome, row)?;
+        if let Some(names) = want {
+            assert!(rt; is_for(&take(alloc, front, &bytes), names), "row {row}");
+        }
+    }
+    let sixteen = closing_for(alloc, 16)?;
+    let seventeen = closing_for(alloc, 17)?;
+    let table: &[(&[u8], Outcome<'_>)] = &[
+        (&sixteen, Outcome::Closure(I_0301, true, Some(16))),
+        (&seventeen, BAD_BODY),
+    ];
+    check_posted(rt, alloc, front, "POST /v1/closures", table)
+}
+
+/// Bodies of closures whose profiles are neither null nor a list of texts.
+fn check_bad_profiles(rt: &impl Abort, alloc: Global, front: &Front) -> Result<(), AllocError> {
+    let table = [
+        "\"profiles\":[]",
+        "\"profiles\":\"walk\"",
+        "\"profiles\":\"\"",
+        "\"profiles\":[null]",
+        "\"profiles\":[1]",
+        "\"profiles\":[[\"walk\"]]",
+        "\"profiles\":[\"walk\",1]",
+        "\"profiles\":[\"walk\",null]",
+        "\"profiles\":{}",
+        "\"profiles\":{\"0\":\"walk\"}",
+        "\"profiles\":true",
+        "\"profiles\":false",
+        "\"profiles\":0",
+        "\"profiles\":[\"walk\"],\"profiles\":[]",
+        "\"profiles\":null,\"profiles\":0",
+        "\"profiles\":[\"\\ud800\"]",
+    ];
+    for (row, member) in table.iter().enumerate() {
+        let body = closing_with(alloc, member)?;
+        let bytes = request(alloc, "POST /v1/closures", KEY, &body)?;
+        check(rt, alloc, front, &bytes, BAD_BODY, row)?;
+    }
+    Ok(())
 }
 
 /// Bodies at the limits of depth and of a folder's name.
@@ -423,6 +542,8 @@ fn requests(rt: HostRuntime) -> Result<(), Fail> {
     check_routes(&rt, alloc, &front)?;
     check_staff(&rt, alloc, &front)?;
     check_bodies(&rt, alloc, &front)?;
+    check_profiles(&rt, alloc, &front)?;
+    check_bad_profiles(&rt, alloc, &front)?;
     check_limits(&rt, alloc, &front)?;
     let refused = take(alloc, &front, b"GET /v1/version\r\n\r\n");
     assert_eq!(&rt; come_of(&refused), Outcome::Fault(Refusal::BadHead));

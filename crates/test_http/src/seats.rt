@@ -26,6 +26,24 @@ const VERSION: &str = "GET /v1/version HTTP/1.1\r\nhost: a\r\n\r\n";
 const CLOSURE: &str =
     "POST /v1/closures HTTP/1.1\r\nhost: a\r\nx-staff-key: desk-key-1\r\ncontent-length: 64\r\n\r\n{\"feature\":\"00000000-0000-4000-8000-000000000301\",\"closed\":true}";
 
+// The lift closed for wheelchairs alone.
+const CLOSURE_FOR_SOME: &str =
+    "POST /v1/closures HTTP/1.1\r\nhost: a\r\nx-staff-key: desk-key-1\r\ncontent-length: 90\r\n\r\n{\"feature\":\"00000000-0000-4000-8000-000000000301\",\"closed\":true,\"profiles\":[\"wheelchair\"]}";
+
+// It opened again for those who walk.
+const OPENING_FOR_SOME: &str =
+    "POST /v1/closures HTTP/1.1\r\nhost: a\r\nx-staff-key: desk-key-1\r\ncontent-length: 85\r\n\r\n{\"feature\":\"00000000-0000-4000-8000-000000000301\",\"closed\":false,\"profiles\":[\"walk\"]}";
+
+// It closed for a profile that there isn't.
+const UNKNOWN: &str =
+    "POST /v1/closures HTTP/1.1\r\nhost: a\r\nx-staff-key: desk-key-1\r\ncontent-length: 87\r\n\r\n{\"feature\":\"00000000-0000-4000-8000-000000000301\",\"closed\":true,\"profiles\":[\"bicycle\"]}";
+
+// What is closed.
+const CLOSURES: &str = "GET /v1/closures HTTP/1.1\r\nhost: a\r\n\r\n";
+
+// The lift as a place.
+const LIFT: &str = "GET /v1/place/00000000-0000-4000-8000-000000000301 HTTP/1.1\r\nhost: a\r\n\r\n";
+
 // A way for a wheelchair, with its certificate.
 const ROUTE: &str =
     "GET /v1/route?from=00000000-0000-4000-8000-000000000051&to=00000000-0000-4000-8000-000000000052&profile=wheelchair&certificate=yes HTTP/1.1\r\nhost: a\r\n\r\n";
@@ -162,9 +180,19 @@ fn a_seat_says_the_same(rt: HostRuntime) -> Result<(), Fail> {
     let alloc = rt.alloc();
     let settings = station_settings(alloc)?;
     let front = Front::new(alloc, &settings.staff_keys)?;
-    let rows: [&[&'static str]; 3] = [
+    let rows: [&[&'static str]; 5] = [
         &[VERSION, VERSION],
         &[CLOSURE, ROUTE],
+        &[CLOSURE_FOR_SOME, LIFT, UNKNOWN, CLOSURES, ROUTE],
+        &[
+            CLOSURE,
+            CLOSURE_FOR_SOME,
+            OPENING_FOR_SOME,
+            OPENING_FOR_SOME,
+            CLOSURES,
+            LIFT,
+            ROUTE,
+        ],
         &[PUBLICATION, VERSION],
     ];
     for texts in rows {

@@ -40,6 +40,21 @@ const CLOSURE: &str =
 // Its body, 64 bytes: the lift is to be closed.
 const LIFT: &str = "{\"feature\":\"00000000-0000-4000-8000-000000000301\",\"closed\":true}";
 
+// The lift is to be closed for wheelchairs alone.
+const CLOSURE_FOR_SOME: &str =
+    "POST /v1/closures HTTP/1.1\r\nhost: a\r\nx-staff-key: desk-key-1\r\ncontent-length: 90\r\n\r\n{\"feature\":\"00000000-0000-4000-8000-000000000301\",\"closed\":true,\"profiles\":[\"wheelchair\"]}";
+
+// And for a profile that there isn't.
+const CLOSURE_FOR_UNKNOWN: &str =
+    "POST /v1/closures HTTP/1.1\r\nhost: a\r\nx-staff-key: desk-key-1\r\ncontent-length: 87\r\n\r\n{\"feature\":\"00000000-0000-4000-8000-000000000301\",\"closed\":true,\"profiles\":[\"bicycle\"]}";
+
+// What is closed.
+const CLOSURES: &str = "GET /v1/closures HTTP/1.1\r\nhost: a\r\n\r\n";
+
+// The lift as a place.
+const PLACE: &str =
+    "GET /v1/place/00000000-0000-4000-8000-000000000301 HTTP/1.1\r\nhost: a\r\n\r\n";
+
 // Version 1.
 const FIRST: &str =
     "HTTP/1.1 200 OK\r\ncontent-type: application/json\r\ncontent-length: 36\r\n\r\n{\"closed\":0,\"places\":33,\"version\":1}";
@@ -59,6 +74,29 @@ const CLOSED: &str =
 // It stood so.
 const AS_ASKED: &str =
     "HTTP/1.1 200 OK\r\ncontent-type: application/json\r\ncontent-length: 92\r\n\r\n{\"changed\":false,\"closed\":true,\"feature\":\"00000000-0000-4000-8000-000000000301\",\"version\":2}";
+
+// It was closed for wheelchairs.
+const CLOSED_FOR_SOME: &str =
+    "HTTP/1.1 200 OK\r\ncontent-type: application/json\r\ncontent-length: 117\r\n\r\n{\"changed\":true,\"closed\":true,\"feature\":\"00000000-0000-4000-8000-000000000301\",\"profiles\":[\"wheelchair\"],\"version\":2}";
+
+// Closed for wheelchairs it is the only one.
+const ONE_CLOSED: &str =
+    "HTTP/1.1 200 OK\r\ncontent-type: application/json\r\ncontent-length: 103\r\n\r\n{\"closures\":[{\"feature\":\"00000000-0000-4000-8000-000000000301\",\"profiles\":[\"wheelchair\"]}],\"version\":2}";
+
+// It as a place then.
+const PLACE_FOR_SOME: &str =
+    "HTTP/1.1 200 OK\r\ncontent-type: application/json\r\ncontent-length: 136\r\n\r\n{\"closed\":false,\"id\":\"00000000-0000-4000-8000-000000000301\",\"kind\":\"unit\",\"name\":null,\"ordinal\":0,\"profiles\":[\"wheelchair\"],\"version\":2}";
+
+// It was closed for all.
+const CLOSED_FOR_ALL: &str =
+    "HTTP/1.1 200 OK\r\ncontent-type: application/json\r\ncontent-length: 91\r\n\r\n{\"changed\":true,\"closed\":true,\"feature\":\"00000000-0000-4000-8000-000000000301\",\"version\":3}";
+
+// So it stands in the list by its identifier.
+const ALL_CLOSED: &str =
+    "HTTP/1.1 200 OK\r\ncontent-type: application/json\r\ncontent-length: 65\r\n\r\n{\"closures\":[\"00000000-0000-4000-8000-000000000301\"],\"version\":3}";
+
+const NO_PROFILE: &str =
+    "HTTP/1.1 404 Not Found\r\ncontent-type: application/json\r\ncontent-length: 27\r\n\r\n{\"error\":\"no_such_profile\"}";
 
 const AHEAD: &str =
     "HTTP/1.1 409 Conflict\r\ncontent-type: application/json\r\ncontent-length: 47\r\n\r\n{\"error\":\"version_ahead\",\"since\":9,\"version\":1}";
@@ -254,6 +292,27 @@ fn sessions_end(rt: HostRuntime) -> Result<(), Fail> {
             "a closure",
             &[CLOSURE, LIFT, VERSION, CLOSURE, LIFT],
             &[CLOSED, SECOND, AS_ASKED],
+            End::Done,
+        ),
+        telling(
+            "a closure for some",
+            &[
+                CLOSURE_FOR_SOME,
+                CLOSURES,
+                PLACE,
+                CLOSURE_FOR_UNKNOWN,
+                CLOSURE,
+                LIFT,
+                CLOSURES,
+            ],
+            &[
+                CLOSED_FOR_SOME,
+                ONE_CLOSED,
+                PLACE_FOR_SOME,
+                NO_PROFILE,
+                CLOSED_FOR_ALL,
+                ALL_CLOSED,
+            ],
             End::Done,
         ),
         telling("a later version", &[SINCE], &[AHEAD], End::Done),
