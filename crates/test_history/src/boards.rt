@@ -249,7 +249,13 @@ fn judge_question(rt: &impl Abort, alloc: Global, board: &Board, what: Ask, row:
     judge_answer(rt, alloc, board, &Query { since: None, what }, row);
 }
 
-pub(crate) fn way(alloc: Global, from: u128, to: u128, profile: &str, certificate: bool) -> Result<Ask, Fail> {
+pub(crate) fn way(
+    alloc: Global,
+    from: u128,
+    to: u128,
+    profile: &str,
+    certificate: bool,
+) -> Result<Ask, Fail> {
     Ok(Ask::Route {
         from: id(from),
         to: id(to),

@@ -78,7 +78,13 @@ impl Office {
         alloc: Global,
         closed: bool,
     ) -> Result<(), OutOfMemory> {
-        let lift = self.keeper.writer.published().held.board.closing(id(0x0301));
+        let lift = self
+            .keeper
+            .writer
+            .published()
+            .held
+            .board
+            .closing(id(0x0301));
         if closed {
             self.publish(rt, alloc, Act::Closed(lift))
         } else {

@@ -35,7 +35,7 @@ enum Told {
     // Whether the place is closed for all.
     Place(bool),
     Closures,
-    // The cost, and over what the longest step leads.
+    // The cost, and the passage between the levels.
     Route(u64, Option<u128>),
     // How many nodes are reached.
     Cut(usize),
@@ -53,7 +53,7 @@ struct Row {
     closed: &'static [Closed],
 }
 
-fn row(deed: Deed, told: Told) -> Row {
+fn telling(deed: Deed, told: Told) -> Row {
     Row {
         deed,
         told,
@@ -61,11 +61,11 @@ fn row(deed: Deed, told: Told) -> Row {
     }
 }
 
-fn closing_row(deed: Deed, told: Told, closed: &'static [Closed]) -> Row {
+fn listing(deed: Deed, told: Told, closed: &'static [Closed]) -> Row {
     Row { deed, told, closed }
 }
 
-// Over what the longest of the steps over a passage leads, which is the way between the levels.
+// By which passage the way leads from level to level, if it does.
 fn passage(reply: &Reply) -> Option<u128> {
     match reply {
         Reply::Route { steps, .. } => steps
@@ -204,6 +204,7 @@ fn three_profiles(alloc: Global) -> Result<Settings, Fail> {
 }
 
 const WALK: &[&str] = &["walk"];
+
 const WHEELCHAIR: &[&str] = &["wheelchair"];
 
 #[test]
@@ -212,47 +213,62 @@ fn closed_for_some(rt: HostRuntime) -> Result<(), Fail> {
     let wheelchair = Deed::Route(0x0051, 0x0052, "wheelchair");
     let walk = Deed::Route(0x0051, 0x0052, "walk");
     let chain = [
-        row(Deed::Close(0x0301, 2), Told::Changed(2, 0)),
-        row(wheelchair, Told::Route(14_023, Some(0x0024))),
-        row(walk, Told::Route(8_683, Some(0x0022))),
-        closing_row(Deed::Place(0x0301), Told::Place(false), &[(0x0301, WHEELCHAIR)]),
-        row(Deed::Close(0x0022, 1), Told::Changed(3, 0)),
-        row(wheelchair, Told::Route(14_023, Some(0x0024))),
-        row(walk, Told::Route(9_040, Some(0x0021))),
-        row(Deed::Close(0x0301, 3), Told::Changed(4, 0)),
-        closing_row(Deed::Closures, Told::Closures, &[(0x0022, WALK), (0x0301, &[])]),
-        row(wheelchair, Told::Route(14_023, Some(0x0024))),
-        row(walk, Told::Route(9_426, Some(0x0023))),
-        row(Deed::Place(0x0301), Told::Place(true)),
-        row(Deed::Close(0x0301, 2), Told::Unready(Unready::Unchanged)),
-        row(Deed::Open(0x0301, 1), Told::Changed(5, 0)),
-        closing_row(Deed::Closures, Told::Closures, &[(0x0022, WALK), (0x0301, WHEELCHAIR)]),
-        row(Deed::Open(0x0301, 1), Told::Unready(Unready::Unchanged)),
-        row(Deed::Open(0x0301, 3), Told::Changed(6, 0)),
-        closing_row(Deed::Closures, Told::Closures, &[(0x0022, WALK)]),
+        telling(Deed::Close(0x0301, 2), Told::Changed(2, 0)),
+        telling(wheelchair, Told::Route(14_023, Some(0x0024))),
+        telling(walk, Told::Route(8_683, Some(0x0022))),
+        listing(
+            Deed::Place(0x0301),
+            Told::Place(false),
+            &[(0x0301, WHEELCHAIR)],
+        ),
+        telling(Deed::Close(0x0022, 1), Told::Changed(3, 0)),
+        telling(wheelchair, Told::Route(14_023, Some(0x0024))),
+        telling(walk, Told::Route(9_040, Some(0x0021))),
+        telling(Deed::Close(0x0301, 3), Told::Changed(4, 0)),
+        listing(
+            Deed::Closures,
+            Told::Closures,
+            &[(0x0022, WALK), (0x0301, &[])],
+        ),
+        telling(wheelchair, Told::Route(14_023, Some(0x0024))),
+        telling(walk, Told::Route(9_426, Some(0x0023))),
+        telling(Deed::Place(0x0301), Told::Place(true)),
+        telling(Deed::Close(0x0301, 2), Told::Unready(Unready::Unchanged)),
+        telling(Deed::Open(0x0301, 1), Told::Changed(5, 0)),
+        listing(
+            Deed::Closures,
+            Told::Closures,
+            &[(0x0022, WALK), (0x0301, WHEELCHAIR)],
+        ),
+        telling(Deed::Open(0x0301, 1), Told::Unready(Unready::Unchanged)),
+        telling(Deed::Open(0x0301, 3), Told::Changed(6, 0)),
+        listing(Deed::Closures, Told::Closures, &[(0x0022, WALK)]),
     ];
     judge_under(&rt, alloc, settings_until(alloc, u32::MAX)?, &chain)?;
     let cut = [
-        row(Deed::Close(0x0301, 2), Told::Changed(2, 0)),
-        row(Deed::Close(0x0024, 3), Told::Changed(3, 0)),
-        row(wheelchair, Told::Cut(16)),
-        row(walk, Told::Route(8_683, Some(0x0022))),
+        telling(Deed::Close(0x0301, 2), Told::Changed(2, 0)),
+        telling(Deed::Close(0x0024, 3), Told::Changed(3, 0)),
+        telling(wheelchair, Told::Cut(16)),
+        telling(walk, Told::Route(8_683, Some(0x0022))),
     ];
     judge_under(&rt, alloc, settings_until(alloc, u32::MAX)?, &cut)?;
     let published = [
-        row(Deed::Close(0x0301, 2), Told::Changed(2, 0)),
-        row(Deed::Close(0x0022, 1), Told::Changed(3, 0)),
-        row(Deed::Publish(&NO_LIFT), Told::Changed(4, 1)),
-        closing_row(Deed::Closures, Told::Closures, &[(0x0022, WALK)]),
-        row(walk, Told::Route(9_426, Some(0x0023))),
-        row(wheelchair, Told::Route(14_023, Some(0x0024))),
+        telling(Deed::Close(0x0301, 2), Told::Changed(2, 0)),
+        telling(Deed::Close(0x0022, 1), Told::Changed(3, 0)),
+        telling(Deed::Publish(&NO_LIFT), Told::Changed(4, 1)),
+        listing(Deed::Closures, Told::Closures, &[(0x0022, WALK)]),
+        telling(walk, Told::Route(9_426, Some(0x0023))),
+        telling(wheelchair, Told::Route(14_023, Some(0x0024))),
     ];
     judge_under(&rt, alloc, settings_until(alloc, u32::MAX)?, &published)?;
     let room = [
-        row(Deed::Close(0x0305, 2), Told::Changed(2, 0)),
-        row(Deed::Route(0x0051, 0x0051, "wheelchair"), Told::Route(0, None)),
-        row(Deed::Route(0x0051, 0x0105, "wheelchair"), Told::Cut(1)),
-        row(Deed::Route(0x0051, 0x0105, "walk"), Told::Route(633, None)),
+        telling(Deed::Close(0x0305, 2), Told::Changed(2, 0)),
+        telling(
+            Deed::Route(0x0051, 0x0051, "wheelchair"),
+            Told::Route(0, None),
+        ),
+        telling(Deed::Route(0x0051, 0x0105, "wheelchair"), Told::Cut(1)),
+        telling(Deed::Route(0x0051, 0x0105, "walk"), Told::Route(633, None)),
     ];
     judge_under(&rt, alloc, settings_until(alloc, u32::MAX)?, &room)
 }
@@ -261,11 +277,19 @@ fn closed_for_some(rt: HostRuntime) -> Result<(), Fail> {
 fn all_is_by_the_settings(rt: HostRuntime) -> Result<(), Fail> {
     let alloc = rt.alloc();
     let rows = [
-        row(Deed::Close(0x0301, 7), Told::Changed(2, 0)),
-        closing_row(Deed::Closures, Told::Closures, &[(0x0301, &[])]),
-        row(Deed::Open(0x0301, 4), Told::Changed(3, 0)),
-        closing_row(Deed::Closures, Told::Closures, &[(0x0301, &["walk", "wheelchair"])]),
-        closing_row(Deed::Place(0x0301), Told::Place(false), &[(0x0301, &["walk", "wheelchair"])]),
+        telling(Deed::Close(0x0301, 7), Told::Changed(2, 0)),
+        listing(Deed::Closures, Told::Closures, &[(0x0301, &[])]),
+        telling(Deed::Open(0x0301, 4), Told::Changed(3, 0)),
+        listing(
+            Deed::Closures,
+            Told::Closures,
+            &[(0x0301, &["walk", "wheelchair"])],
+        ),
+        listing(
+            Deed::Place(0x0301),
+            Told::Place(false),
+            &[(0x0301, &["walk", "wheelchair"])],
+        ),
     ];
     judge_under(&rt, alloc, three_profiles(alloc)?, &rows)
 }
