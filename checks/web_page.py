@@ -373,6 +373,9 @@ def is_closed_for_some(page):
     page.says("answer", "120 m", "20 m counted for the ramp", "Checked: no shorter way without steps")
     page.until("the sign of the lift for a wheelchair", lambda: page.drawn("closed") == 1 and page.drawn("lines") == 2)
     page.picture("closed-for-wheelchairs")
+    page.script("document.getElementById('closures').scrollIntoView({ block: 'end' })")
+    page.picture("closed-for-wheelchairs-list")
+    page.script("scrollTo(0, 0)")
     page.site.close(LIFT, False, ["wheelchair"])
     page.says("answer", "60 m", "30 m counted for the lift", seconds=15)
     page.site.close(LIFT, profiles=["wheelchair"])
@@ -1038,7 +1041,7 @@ def take_looks(name, words, looks, make_page, make_site, longest):
 # What is looked at with a phone and at a desk, what says most first.
 LOOKS = {
     "phone": [asks_by_keyboard, goes_on_by_itself, is_closed_for_some, is_tapped],
-    "desk": [asks_by_keyboard, is_lied_to, is_closed_for_some, judged_alike, has_all_sentences, tells_turns, refuses_in_words, goes_far, speaks_german, finds_places, hears_nothing, is_renewed, has_no_network,
+    "desk": [asks_by_keyboard, is_lied_to, judged_alike, has_all_sentences, tells_turns, refuses_in_words, goes_far, speaks_german, finds_places, hears_nothing, is_renewed, has_no_network,
              is_printed, reads_broken_files, fits_everywhere, looks_otherwise, tells_states, is_tapped, is_large],
 }
 
