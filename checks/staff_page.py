@@ -6,7 +6,7 @@ page beside it is led round a lift that is closed for who asks there. Of all req
 log or storage.
 
 usage: staff_page.py [PROGRAM [LOOK ..]]   (without PROGRAM the launcher ./venue, which builds the program if need be)
-With names of looks, as is_keyed, it takes these alone, and prints how long each took. Without, no look begins after four minutes, and the line says
+With names of looks, as is_keyed, it takes these alone, and prints how long each took. Without, no look begins after five minutes, and the line says
 which were left out. It prints one line, and ends with status 1 at a difference. Pictures of the page go to out/pages. Where chromium, its
 driver, nginx or Debian's python3-selenium is missing it says so, and ends with status 0.
 """
@@ -27,7 +27,7 @@ from web_page import EXAMPLES, ID, LIFT, RAMP, SIZES, WHEELCHAIR, By, Keys, apar
 KEY, RIDE, STAIRS = "desk-key-1", ID.format(21), ID.format(22)
 CART = '[[profile]]\nname = "delivery_cart"\nelevator = true\nramp = true\n'
 WEB = os.path.join(EXAMPLES, "web")
-LONGEST, MOST_BYTES = 240, 60_000
+LONGEST, MOST_BYTES = 300, 60_000
 WALK = WHEELCHAIR.replace("wheelchair", "walk")
 CROWDED = 15  # seconds in which a visitor is led round on a machine with more than twice as many processes to run as it has processors
 FOLDERS = ("station", "tall", "nolift")
