@@ -60,9 +60,6 @@ class StaffSite(web_page.Site):
         self.start_server()
         self.served.insert(0, self.served.pop())
 
-    def close(self, feature, closed=True, profiles=None):
-        self.post("/v1/closures", {"feature": feature, "closed": closed} | ({"profiles": profiles} if profiles else {}))
-
     def closures(self):
         """For whom each feature is closed, None for all."""
         rows = json.loads(ask(self.server, "/v1/closures")[1])["closures"]
