@@ -193,14 +193,26 @@ fn judge_under(
 // The settings of the station with a third profile, `trolley`, of the same rights as the second.
 fn three_profiles(alloc: Global) -> Result<Settings, Fail> {
     let mut settings = settings_until(alloc, u32::MAX)?;
-    let second = match settings.profiles.get(1) {
-        Some(second) => second.copy(alloc)?,
-        None => return Err(Fail::new("no second profile")),
-    };
-    let name = Text::from_string(String::from_str(alloc, "trolley")?);
-    let third = Profile { name, ..second };
-    settings.profiles.push(third)?;
+    let mut profiles = List::new(alloc);
+    for profile in settings.profiles.as_slice() {
+        profiles.push(profile.copy(alloc)?)?;
+    }
+    profiles.push(trolley(alloc, settings.profiles.as_slice())?)?;
+    if profiles.is_empty() || profiles.len() > 16 {
+        return Err(Fail::new("too many profiles"));
+    }
+    settings.profiles = profiles;
     Ok(settings)
+}
+
+// A profile of that name with the rights of the second.
+fn trolley(alloc: Global, profiles: &[Profile]) -> Result<Profile, Fail> {
+    let Some(second) = profiles.get(1) else {
+        return Err(Fail::new("no second profile"));
+    };
+    let mut third = second.copy(alloc)?;
+    third.name = Text::from_string(String::from_str(alloc, "trolley")?);
+    Ok(third)
 }
 
 const WALK: &[&str] = &["walk"];
