@@ -183,7 +183,9 @@ fn judge_search<L: Ledger>(
     let (from, count) = (node(rt, graph, start), 1 + drawn(state, 5));
     let is_end = FlaggedEnds { flags: &flags };
     let number = number_of(rt, which);
-    let known = reach(alloc, graph, &marks, profile, number, from, &is_end, count, steps)?;
+    let known = reach(
+        alloc, graph, &marks, profile, number, from, &is_end, count, steps,
+    )?;
     let links = usable(alloc, graph, &marks, profile, number)?;
     let costs = rounds(alloc, &links, graph.nodes(), from)?;
     let asked = Asked {

@@ -51,7 +51,9 @@ fn search<L: Ledger>(
     let from = node(rt, graph, 0x0041);
     assert!(rt; from == 1);
     let number = number_of(rt, WHEELCHAIR);
-    Ok(reach(alloc, graph, marks, profile, number, from, &ends, row.count, steps)?)
+    Ok(reach(
+        alloc, graph, marks, profile, number, from, &ends, row.count, steps,
+    )?)
 }
 
 fn judge_walk(rt: &impl Abort, graph: &Graph, walk: &[Link], stops: &[u128], name: &str) {

@@ -84,8 +84,10 @@ fn from_scratch(
     ensures { IfOk result (λ marks. AreMarksOf (network graph.now) marks) }
 {
     let mut marks = Marks::none(alloc, graph)?;
-    for (k, kept) in (0_u32..).zip(table) {
+    let mut k = 0_u32;
+    for kept in table {
         put(rt, graph, &mut marks, k, set_of(kept));
+        k = k.wrapping_add(1);
     }
     Ok(marks)
 }
