@@ -15,15 +15,6 @@ const LISTENER: Token = Token(usize::MAX);
 // How many connections are taken in one turn.
 const MOST_AT_ONCE: usize = 256;
 
-/// How many are let in at once.
-#[derive(Clone, Copy, PartialEq, Eq)]
-pub(crate) enum Most {
-    /// All who came, as far as a turn goes.
-    Many,
-    /// So many that one is ready for a worker, where one comes.
-    UntilReady,
-}
-
 /// What the listener is known to have.
 #[derive(Clone, Copy, PartialEq, Eq)]
 enum Queue {
@@ -107,23 +98,15 @@ impl Door {
         }
     }
 
-    /// Lets in those who came, at this time, all or until one is ready. For one for whom there is no room, the one that has waited longest is closed; who finds no room even
+    /// Lets in those who came, at this time. For one for whom there is no room, the one that has waited longest is closed; who finds no room even
     /// then stays in the system's queue.
-    pub(crate) fn let_in(
-        &mut self,
-        guests: &mut Guests,
-        now: Duration,
-        most: Most,
-    ) -> Result<(), Failed> {
+    pub(crate) fn let_in(&mut self, guests: &mut Guests, now: Duration) -> Result<(), Failed> {
         if self.queue == Queue::Empty {
             return Ok(());
         }
         self.queue = Queue::Open;
         let mut made_room = false;
         for _ in 0..MOST_AT_ONCE {
-            if most == Most::UntilReady && guests.ready_count() > 0 {
-                return Ok(());
-            }
             if !guests.make_room() {
                 self.queue = Queue::Held;
                 return Ok(());

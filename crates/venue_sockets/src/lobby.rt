@@ -38,28 +38,23 @@ impl Lobby {
         Ok(())
     }
 
-    /// The connection that has been ready longest, once there is one, with its options set.
+    /// The connection that has been ready longest, once there is one.
     pub(crate) fn next<R: Clock + Wait>(&self, rt: &R) -> Result<TcpStream, Failed> {
-        for _ in rt.forever() {
-            // Its options are set without the lock, for which others wait meanwhile.
-            match made_ready(self.taken(rt)?) {
-                Ok(stream) => return Ok(stream),
-                Err(_) => self.one_comes(),
-            }
-        }
-        unreachable!()
-    }
-
-    // Takes the connection that has been ready longest out of the lobby, once there is one.
-    fn taken<R: Clock + Wait>(&self, rt: &R) -> Result<mio::net::TcpStream, Failed> {
         let mut pool = self.pool.lock(rt);
         self.one_came();
         for _ in rt.forever() {
-            if let Some(stream) = pool.next_ready() {
-                self.note(pool.ready_count());
-                return Ok(stream);
+            match pool.next_ready() {
+                Some(stream) => {
+                    self.note(pool.ready_count());
+                    if let Ok(stream) = made_ready(stream) {
+                        return Ok(stream);
+                    }
+                }
+                None => {
+                    pool.wait(rt)?;
+                    self.note(pool.ready_count());
+                }
             }
-            pool.wait(rt)?;
         }
         unreachable!()
     }

@@ -1,7 +1,7 @@
 //! What the lock of the lobby keeps: the door and the connections that wait without a worker.
 
 use crate::calls::now;
-use crate::door::{Door, Most};
+use crate::door::Door;
 use crate::guests::Guests;
 use crate::limits::SLICE_MILLIS;
 use mio::Events;
@@ -63,40 +63,24 @@ impl Pool {
         }
     }
 
-    // Whether all that an event could tell of is at the door.
-    fn is_all_at_the_door(&self, door: &Door) -> bool {
-        door.is_open() && self.guests.is_empty()
-    }
-
-    // How long a turn may wait: `None` where there is nothing to wait for.
-    fn turn_to_wait(&self) -> Result<Option<Option<Duration>>, Failed> {
-        match &self.door {
-            Some(door) if self.is_all_at_the_door(door) => Ok(None),
-            Some(door) => Ok(Some(self.longest_turn(door))),
-            None => Err(Failed),
-        }
-    }
-
-    /// Waits until something happens, and looks at it. Of those who came no more are let in once one of them is ready.
+    /// Waits until something happens, and looks at it.
     pub(crate) fn wait(&mut self, clock: &impl Clock) -> Result<(), Failed> {
-        match self.turn_to_wait()? {
-            Some(within) => self.turn(clock, within, Most::UntilReady),
-            None => self.let_in(clock, Most::UntilReady),
+        match &self.door {
+            Some(door) => {
+                let within = self.longest_turn(door);
+                self.turn(clock, within)
+            }
+            None => Err(Failed),
         }
     }
 
     /// Looks once at what has happened, without waiting.
     pub(crate) fn look(&mut self, clock: &impl Clock) -> Result<(), Failed> {
-        self.turn(clock, Some(Duration::ZERO), Most::Many)
+        self.turn(clock, Some(Duration::ZERO))
     }
 
-    // Looks at what happens within this time, and lets in those who came.
-    fn turn(
-        &mut self,
-        clock: &impl Clock,
-        within: Option<Duration>,
-        most: Most,
-    ) -> Result<(), Failed> {
+    // Looks at what happens within this time, lets in those who came, and closes those who are late.
+    fn turn(&mut self, clock: &impl Clock, within: Option<Duration>) -> Result<(), Failed> {
         let Pool {
             door,
             events,
@@ -110,17 +94,9 @@ impl Pool {
         for event in events.iter() {
             door.look(event, guests);
         }
-        self.let_in(clock, most)
-    }
-
-    // Lets in those who came, and closes those who are late.
-    fn let_in(&mut self, clock: &impl Clock, most: Most) -> Result<(), Failed> {
         let now = now(clock)?;
-        let Some(door) = &mut self.door else {
-            return Err(Failed);
-        };
-        door.let_in(&mut self.guests, now, most)?;
-        self.guests.close_late(now);
+        door.let_in(guests, now)?;
+        guests.close_late(now);
         Ok(())
     }
 }
