@@ -21,6 +21,8 @@ lay_out() {
         for part in src specs proofs; do
             [ ! -d "crates/$crate/$part" ] || cp -r "crates/$crate/$part" "$work/crates/$crate"
         done
+        # What was built here of the same sources is taken as it is: its stamp is a sum of them.
+        [ ! -f "crates/$crate/out/rlib/stamp" ] || { mkdir "$work/crates/$crate/out" && cp -r "crates/$crate/out/rlib" "$work/crates/$crate/out"; }
         echo "$line" >>"$work/crates.txt"
     done < <(grep '^[a-z]' crates.txt)
     for crate in "$@"; do

@@ -1,9 +1,11 @@
 #!/usr/bin/env bash
 # `stop_order::best` over a thousand tables of eight stops, beside plain Rust: the same table of sums, one from the front, and all 40,320 orders.
-# Wants the kit (rt) and rustc 1.82 or later. Prints microseconds a table, the least of three times in turns.
+# Prints microseconds a table, the least of three times in turns. Then tours of eight stops over 200 levels, asked of the program, beside nine searches
+# that reach every node. Wants the kit (rt), python3 and rustc 1.82 or later.
 . "$(dirname "$0")/begin.sh"
 . bench/lay_out.sh
-need rt rustc
+need rt python3 rustc
+need_program
 rustc --edition 2021 -O -C codegen-units=1 -o "$work/time_tours" bench/time_tours.rs
 
 # A repository of its own, with a program that times the call.
@@ -30,3 +32,7 @@ told() { # YARDSTICK WORDS WANTED
 told table 'the same table in plain Rust' 'at most 1.5'
 told front 'a table from the front' ''
 told orders 'all orders' ''
+
+python3 bench/levels.py 200 "$work/base"
+echo 'staff_keys = ["desk-key-1"]' >>"$work/base/venue.toml"
+python3 bench/tour_requests.py "$program" "$work/base" 200

@@ -143,13 +143,22 @@ def fits_text(document, schema, text):
     """Whether the text of a parameter is of its schema."""
     if resolve(document, schema).get("type") == "integer":
         return bool(re.fullmatch("0|[1-9][0-9]*", text)) and not faults_of(document, schema, int(text))
-    return not faults_of(document, schema, text)
+    return not faults_of(document, schema, text.split(",") if schema.get("type") == "array" else text)
+
+
+def text_of(example):
+    """How the example of a parameter is sent: a list with commas."""
+    return ",".join(example) if isinstance(example, list) else str(example)
 
 
 def probes(schema, example):
     """Texts of which some are right and some are wrong."""
     if schema.get("type") == "integer":
         return [str(it + by) for it in (schema["minimum"], schema["maximum"]) for by in (-1, 0, 1)] + ["01", "+1", "1.0", "1e0", "x", "", "1 "]
+    if schema.get("type") == "array":
+        one = example.split(",")[0]
+        return [",".join([one] * count) for count in (1, 2, schema["maxItems"], schema["maxItems"] + 1)] + [
+            form.format(it) for it in probes({}, one) for form in ("{}," + one, one + ",{}")] + ["", ",", one + ",", "," + one, one + ",," + one, one + ", " + one, one + ";" + one]
     if "enum" in schema:
         return schema["enum"] + [schema["enum"][0].upper(), "", "1"]
     if re.fullmatch("[0-9a-f-]{36}", example):
@@ -167,19 +176,19 @@ def request(method, target, fields=(), body=""):
 def targets(document, path, parameters):
     """Targets with whether each is of its form: all parameters right, then one of them otherwise."""
     def target(**others):
-        values = {it["name"]: [str(it["example"])] if it["required"] else [] for it in parameters} | others
+        values = {it["name"]: [text_of(it["example"])] if it["required"] else [] for it in parameters} | others
         at = re.sub(r"{(\w+)}", lambda found: values[found[1]][0], path)
         pairs = [f"{it['name']}={quote(value, safe='')}" for it in parameters if it["in"] == "query" for value in values[it["name"]]]
         return at + "?" + "&".join(pairs + ["nobodys=1", "nobodys=2"])
 
     yield target(), True
     for it in parameters:
-        for text in probes(resolve(document, it["schema"]), str(it["example"])):
+        for text in probes(resolve(document, it["schema"]), text_of(it["example"])):
             if it["in"] == "query" or re.fullmatch("[!-~]+", text):
                 yield target(**{it["name"]: [text]}), fits_text(document, it["schema"], text)
         if it["in"] == "query":
             yield target(**{it["name"]: []}), not it["required"]
-            yield target(**{it["name"]: [str(it["example"])] * 2}), False
+            yield target(**{it["name"]: [text_of(it["example"])] * 2}), False
 
 
 def bodies(document, operation):

@@ -3,13 +3,16 @@
 examples/route_reply.py judge each reply, over the table of links and over the same in parts: it is `proved`, and with one number or
 identifier exchanged it isn't. Then 200 closures for profiles that are drawn, each with a route after it: that is `proved` for the profile asked for,
 and where the profiles of the closure's row are changed so that it matters, it `fails`; where there is node, examples/web/check.js judges the same.
+It asks for tours too, with the same closed, and compares each with the least costs that it finds itself over the table, in all orders of the stops.
 
 usage: route_replies.py [PROGRAM]   (without PROGRAM the launcher ./venue, which builds the program if need be)
 It prints one line, and ends with status 1 at a difference.
 """
 import contextlib
 import glob
+import heapq
 import io
+import itertools
 import json
 import os
 import random
@@ -28,6 +31,12 @@ NODE = "00000000-0000-4000-8000-{:012x}"
 PLACES = [0x31, 0x41, 0x42, 0x51, 0x52, 0x101, 0x107, 0x203, 0x204, 0x300, 0x301, 0x305, 0x404]
 CLOSED = [{}, {0x301: None}, {0x301: None, 0x24: None}, {0x305: None}, {0x400: None, 0x102: None}, {0x301: ["wheelchair"], 0x22: ["walk"]}, {0x301: ["walk"], 0x24: None}]
 PAIRS = 4
+# How many tours are drawn where so much is closed, of how many stops at most, and tours of which the costs are known.
+TOURS = 6
+MOST_STOPS = 5
+EIGHT = [0x109, 0x31, 0x102, 0x104, 0x106, 0x110, 0x111, 0x108]
+KNOWN = [("wheelchair", [0x109, 0x31], 18986), ("walk", [0x109, 0x31], 17474), ("wheelchair", [0x31, 0x106], 13233), ("wheelchair", EIGHT[:3], 20237),
+         ("wheelchair", EIGHT, 25245), ("walk", EIGHT, 22662), ("wheelchair", [0x31], 9536), ("wheelchair", [0x31, 0x31], 9536), ("wheelchair", [0x51], 9040)]
 # The profiles of the settings, of which these here add the last three, and how many closures are drawn.
 MORE = {"pram": ["elevator", "ramp", "revolving"], "steps-only": ["stairs"], "night_watch": ["stairs", "elevator", "ramp", "revolving", "turnstile", "restricted"]}
 PROFILES = ["walk", "wheelchair", *MORE]
@@ -244,18 +253,129 @@ def in_node(folder, parts, rows):
     return json.loads(ran.stdout)
 
 
+class Links:
+    """The links of a printed table, less what is closed for the profile, and the least costs over them, which are found once."""
+
+    def __init__(self, table, profile, closures):
+        shut = {it if isinstance(it, str) else it["feature"] for it in closures["closures"] if isinstance(it, str) or profile in it["profiles"]}
+        words = [line.split(" ") for line in table.splitlines()]
+        nodes = [it[1] for it in words if it[0] == "node"]
+        links = [(nodes[int(it[1])], nodes[int(it[2])], int(it[3]), it[4]) for it in words if it[0] == "link"]
+        self.links = {it for it in links if not shut & {it[0], it[1], it[3]}}
+        self.out, self.found = {}, {}
+        for start, end, cost, _ in self.links:
+            self.out.setdefault(start, []).append((end, cost))
+        with open(OCCUPANTS, encoding="utf-8") as file:
+            self.anchors = {it["id"]: it["properties"]["anchor_id"] for it in json.load(file)["features"]}
+
+    def costs_from(self, start):
+        """The least cost of a way from a node to each that it leads to (Dijkstra 1959)."""
+        if start not in self.found:
+            costs, heap = {}, [(0, start)]
+            while heap:
+                cost, node = heapq.heappop(heap)
+                if node not in costs:
+                    costs[node] = cost
+                    for end, more in self.out.get(node, []):
+                        heapq.heappush(heap, (cost + more, end))
+            self.found[start] = costs
+        return self.found[start]
+
+    def node(self, place):
+        return self.anchors.get(place, place)
+
+    def legs(self, places):
+        """The least costs from place to place, or None where one of them leads nowhere."""
+        nodes = [self.node(it) for it in places]
+        costs = [self.costs_from(start).get(end) for start, end in zip(nodes, nodes[1:])]
+        return None if None in costs else costs
+
+    def is_walk(self, start, end, steps):
+        """Whether the steps are open links that lead from node to node."""
+        for step in steps:
+            if (start, step["to"], step["cost"], step["via"]) not in self.links:
+                return False
+            start = step["to"]
+        return start == end
+
+
+def fault_of_tour(links, start, end, stops, reply):
+    """What is wrong with the reply to a question for a tour, or None."""
+    found = [legs for order in set(itertools.permutations(stops)) for legs in [links.legs([start, *order, end])] if legs is not None]
+    if (reply["from"], reply["to"]) != (start, end):
+        return "other ends"
+    if not found:
+        return None if (reply["result"], reply.get("stops")) == ("none", stops) else "no order can be walked"
+    if reply["result"] != "tour":
+        return "an order can be walked"
+    if sorted(reply["order"]) != sorted(stops):
+        return "other stops"
+    places, legs = [start, *reply["order"], end], reply["legs"]
+    if [leg["cost"] for leg in legs] != links.legs(places):
+        return "a leg costs more, or is one too many"
+    for leg, first, last in zip(legs, places, places[1:]):
+        if not links.is_walk(links.node(first), links.node(last), leg["steps"]) or leg["cost"] != sum(step["cost"] for step in leg["steps"]):
+            return "a leg that is no way of its cost"
+    if reply["cost"] != sum(leg["cost"] for leg in legs):
+        return "another cost than the legs"
+    return None if reply["cost"] == min(map(sum, found)) else "another order costs less"
+
+
+def tour(start, end, stops, profile):
+    return question(f"/v1/tour?from={start}&to={end}&stops={','.join(stops)}&profile={profile}")
+
+
+def spoiled_tours(reply):
+    """The tour without its first step, with another cost, and without its last leg."""
+    stepless, dearer, shorter = (json.loads(json.dumps(reply)) for _ in range(3))
+    dearer["cost"] += 1
+    shorter["legs"].pop()
+    steps = next((leg["steps"] for leg in stepless["legs"] if leg["steps"]), None)
+    if steps:
+        steps.pop(0)
+    return ([stepless] if steps is not None else []) + [dearer, shorter]
+
+
+def judge_tours(program, chance):
+    """Tours that are drawn, in sessions with something closed, and those of known costs: how many, and the differences."""
+    judged, walked, wrong = 0, 0, []
+    for profile in ("wheelchair", "walk"):
+        table = table_of(program, EXAMPLES, profile)
+        for closed in CLOSED:
+            asked = [(*(NODE.format(it) for it in chance.choices(PLACES, k=2)), [NODE.format(it) for it in chance.choices(PLACES, k=chance.randint(1, MOST_STOPS))]) for _ in range(TOURS)]
+            asked += [] if closed else [(NODE.format(0x51), NODE.format(0x52), [NODE.format(it) for it in stops]) for name, stops, _ in KNOWN if name == profile]
+            requests = [closing(NODE.format(it), names) for it, names in closed.items()] + [question("/v1/closures")] + [tour(*it, profile) for it in asked]
+            closures, *replies = map(json.loads, bodies(program, EXAMPLES, requests)[len(closed):])
+            links = Links(table, profile, closures)
+            for (start, end, stops), reply in zip(asked, replies):
+                judged, fault = judged + 1, fault_of_tour(links, start, end, stops, reply)
+                if fault:
+                    wrong.append(f"the tour from {start} to {end} by {stops} for {profile}: {fault}: {json.dumps(reply)}")
+                elif reply["result"] == "tour":
+                    walked += 1
+                    wrong += [f"no fault is found in {json.dumps(it)}" for it in spoiled_tours(reply) if not fault_of_tour(links, start, end, stops, it)]
+            if not closed:
+                known = [cost for name, _, cost in KNOWN if name == profile]
+                told = [it.get("cost") for it in replies[-len(known):]]
+                wrong += [] if told == known else [f"for {profile} the known tours cost {told}, and not {known}"]
+    if not walked or walked == judged:
+        wrong.append(f"of {judged} tours {walked} can be walked")
+    return judged, wrong
+
+
 def main():
     program = [sys.argv[1]] if len(sys.argv) > 1 else [os.path.join(HERE, "..", "venue")]
     with tempfile.TemporaryDirectory() as folder:
         judged, wrong = judge_some(program, folder, random.Random(5))
         drawn, changed, has_node, more = judge_drawn(program, folder, random.Random(8))
-    wrong += more
+    tours, others = judge_tours(program, random.Random(13))
+    wrong += more + others
     if drawn != CASES or changed < CASES // 2:
         wrong.append(f"{drawn} closures are drawn, and of {changed} the profiles matter")
     for line in wrong:
         print(line, file=sys.stderr)
     by = "by both checkers" if has_node else "by one checker, since there is no node"
-    print(f"route_replies: {judged} replies, {drawn} closures for some and {changed} with other profiles {by}, {len(wrong)} differences")
+    print(f"route_replies: {judged} replies, {drawn} closures for some and {changed} with other profiles {by}, {tours} tours, {len(wrong)} differences")
     return 1 if wrong else 0
 
 

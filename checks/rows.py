@@ -205,6 +205,8 @@ def run(folder, words, data, piece):
         if not piece:
             ran = subprocess.run([PROGRAM, *words], input=data, timeout=LIMIT, **how)
             return ran.returncode, ran.stdout, ran.stderr
+        # A packet is read by a read of its own, and what that has no room for is lost, as no stream loses it. A session reads up to 4,096 bytes before it has room
+        # for all: pieces of rows that send more divide that.
         ours, theirs = socket.socketpair(socket.AF_UNIX, socket.SOCK_SEQPACKET)
         with theirs:
             program = subprocess.Popen([PROGRAM, *words], stdin=theirs, **how)

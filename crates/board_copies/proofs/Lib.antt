@@ -3,4 +3,5 @@ pub mod Adding
 pub mod Steps
 pub mod Queued
 pub mod Standing
+pub mod Resumes
 pub use Rattle.venue_state.proofs.Entering

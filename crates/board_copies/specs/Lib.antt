@@ -3,6 +3,8 @@ pub mod Stamps
 pub mod Rules
 pub mod Queues
 pub mod Reading
+pub mod Resumes
 pub use Rattle.venue_state.specs.Making
 pub use Rattle.venue_state.specs.Preparing
+pub use Rattle.venue_state.specs.Replaying
 pub use Rattle.venue_state.specs.declared.unready.Unready

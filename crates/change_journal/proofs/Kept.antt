@@ -8,7 +8,7 @@ use Rattle.change_journal.specs.States.{IsBetween}
 use Rattle.change_journal.specs.Appends.{Append, IsAppend, AreAppends, IsJournalWith, records_after, kept_records, loose_records, moments_after}
 
 -- whatever a stop at this moment leaves has P
-abbrev HasAll : (List ℕ → Type 0) → Moment → Type 0
+abbrev pub HasAll : (List ℕ → Type 0) → Moment → Type 0
 HasAll P m = (image : List ℕ) → Leaves m image → P image
 
 each_weaker : (P Q : List ℕ → Type 0) → ((image : List ℕ) → P image → Q image) → (ms : List Moment) → AllLeft P ms → AllLeft Q ms
@@ -28,7 +28,7 @@ now_of : (P : List ℕ → Type 0) (added old : List Moment) → AllLeft P added
 now_of P [] old each all = all
 now_of P (m ∷ ms) old each all = each.0
 
-newest : (P : List ℕ → Type 0) (old new : List Moment) → LeavesOnly P old new → Now (HasAll P) old → Now (HasAll P) new
+pub newest : (P : List ℕ → Type 0) (old new : List Moment) → LeavesOnly P old new → Now (HasAll P) old → Now (HasAll P) new
 newest P old [] only all = tt
 newest P old (now ∷ past) only all = subst (Now (HasAll P)) (sym only.grows) (now_of P only.added old only.each all)
 

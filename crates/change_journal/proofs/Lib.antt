@@ -9,3 +9,7 @@ pub mod ReadBack
 mod Recorded
 mod Unique
 mod Kept
+mod Damage
+mod Looking
+mod Parsing
+mod Numbers

@@ -26,7 +26,7 @@ read_on zero n = omega arith
 read_on (suc k) n = ap (λ (start : ℕ). fold (λ high byte. high * 256 + byte) start (bytes_high_first k n)) (above_byte k n) ∙ read_on k n
 
 -- a number that k bytes hold is read from them
-number_back : (k n : ℕ) → n < 256 ^ k → number_of (bytes_high_first k n) ≡ n
+pub number_back : (k n : ℕ) → n < 256 ^ k → number_of (bytes_high_first k n) ≡ n
 number_back k n small = ap (λ (start : ℕ). fold (λ high byte. high * 256 + byte) start (bytes_high_first k n)) (sym (div-eq_of_lt small)) ∙ read_on k n
 
 -- a slot of so many bytes
@@ -44,7 +44,7 @@ held_back bytes rest within =
     ∙ ap (λ (front : List ℕ). held_as front (drop (length bytes) (bytes ++ rest))) (take_at bytes rest (length bytes) refl)
     ∙ ap (held_as bytes) (drop_at bytes rest (length bytes) refl)
 
-slot_back : (slot : Slot) (rest : List ℕ) → IsWithinLimit slot → read_slot (slot_text slot ++ rest) ≡ record { slot = slot; rest = rest }
+pub slot_back : (slot : Slot) (rest : List ℕ) → IsWithinLimit slot → read_slot (slot_text slot ++ rest) ≡ record { slot = slot; rest = rest }
 slot_back Absent rest within = refl
 slot_back (Held bytes) rest within = held_back bytes rest within
 

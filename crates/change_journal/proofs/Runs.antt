@@ -59,7 +59,7 @@ added_maps : (P R : List ℕ → Type 0) (old new : List Moment) → ((image : L
 added_maps P R old [] f only = tt
 added_maps P R old (n ∷ ns) f only = record { added = only.added; grows = only.grows; each = all_maps P R only.added f only.each }
 
-added_joins : (P Q R : List ℕ → Type 0) (old mid new : List Moment) → ((image : List ℕ) → P image → R image) → ((image : List ℕ) → Q image → R image)
+pub added_joins : (P Q R : List ℕ → Type 0) (old mid new : List Moment) → ((image : List ℕ) → P image → R image) → ((image : List ℕ) → Q image → R image)
     → LeavesOnly P old mid → LeavesOnly Q mid new → (mid ≡ [] → new ≡ []) → LeavesOnly R old new
 added_joins P Q R old mid [] f g one two untold = tt
 added_joins P Q R old [] (n ∷ ns) f g one two untold = let none = untold refl in cc

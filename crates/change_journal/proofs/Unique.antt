@@ -8,15 +8,14 @@ use Rattle.change_journal.specs.Reading.{RecordRead, read_record}
 use Rattle.change_journal.proofs.ReadBack.{record_back}
 
 -- a record first
-opened : (entry : Logged) (records : List Logged) (rest : List ℕ) → journal_text (entry ∷ records) ++ rest ≡ record_text entry ++ (journal_text records ++ rest)
+pub opened : (entry : Logged) (records : List Logged) (rest : List ℕ) → journal_text (entry ∷ records) ++ rest ≡ record_text entry ++ (journal_text records ++ rest)
 opened entry records rest = append_assoc (record_text entry) (journal_text records) rest
 
-head_of : List ℕ → ℕ
+abbrev pub head_of : List ℕ → ℕ
 head_of bytes = get_or bytes 0 0
 
 same_records : (rs qs : List Logged) (x y : ℕ) (a b : List ℕ) → All IsRecord rs → All IsRecord qs → (x ≡ 1 → ⊥) → (y ≡ 1 → ⊥)
     → journal_text rs ++ x ∷ a ≡ journal_text qs ++ y ∷ b → rs ≡ qs
-unfolding head_of
 same_records [] [] x y a b all each nx ny same = refl
 same_records [] (q ∷ qs) x y a b all each nx ny same = absurd (nx (ap head_of (same ∙ opened q qs (y ∷ b))))
 same_records (r ∷ rs) [] x y a b all each nx ny same = absurd (ny (ap head_of (sym same ∙ opened r rs (x ∷ a))))

@@ -6,3 +6,7 @@ pub mod Told
 pub mod Journals
 pub mod Puts
 pub mod Appends
+pub mod Places
+pub mod Readers
+pub mod Looks
+pub mod Forms

@@ -5,6 +5,7 @@ ghost use Rattle.venue_ports.specs.Moments.{Moment, Leaves, LeavesOnly, Now};
 ghost use Rattle.venue_hall.specs.Records.{Logged};
 ghost use Rattle.change_journal.specs.Appends.{Append, IsAppend, AreAppends, IsJournalWith, kept_records, loose_records, moments_after};
 ghost use Rattle.change_journal.specs.Reading.{records_in};
+ghost use Rattle.change_journal.specs.Places.{AreRecordsTo, IsClosedAt, IsDamagedAt, IsRecordAt};
 ghost use Rattle.change_journal.specs.States.{IsNew, IsReady, IsShut};
 ghost use Rattle.change_journal.specs.Texts.{IsClosed, IsJournal, IsRecord, journal_text, record_text};
 
@@ -17,6 +18,18 @@ pub fn one_journal()
 pub fn appended_law()
     ensures text { (records : List Logged) (entry : Logged) → journal_text (records ++ entry ∷ []) ≡ journal_text records ++ record_text entry }
     ensures read { (records : List Logged) (rest : List ℕ) → All IsRecord records → records_in (length records) (journal_text records ++ rest) ≡ records }
+{}
+
+/// Bytes that are damaged are no journal, and are damaged at one place. Records in front of a place and what stands there: a gate that isn't
+/// open makes a journal of them, a whole record more of them, and an open gate without a whole record damage.
+pub fn damage_law()
+    ensures none { (place : ℕ) (records : List Logged) (bytes : List ℕ) → IsDamagedAt place bytes → IsJournal records bytes → ⊥ }
+    ensures one { (place other : ℕ) (bytes : List ℕ) → IsDamagedAt place bytes → IsDamagedAt other bytes → place ≡ other }
+    ensures begins { (bytes : List ℕ) → AreRecordsTo 0 [] bytes }
+    ensures closed { (place : ℕ) (records : List Logged) (bytes : List ℕ) → AreRecordsTo place records bytes → IsClosedAt place bytes → IsClosed records bytes }
+    ensures longer { (place next : ℕ) (records : List Logged) (entry : Logged) (bytes : List ℕ) → AreRecordsTo place records bytes
+        → IsRecordAt place next entry bytes → AreRecordsTo next (records ++ entry ∷ []) bytes }
+    ensures read { (place : ℕ) (records : List Logged) (bytes : List ℕ) → AreRecordsTo place records bytes → records_in (length records) bytes ≡ records }
 {}
 
 /// Where a disk was synced, at most one byte is a new journal, and the text of records with a gate behind it that isn't open is a

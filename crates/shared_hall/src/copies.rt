@@ -4,9 +4,10 @@ ghost use Rattle.std.specs.Prelude.{◌≡◌, ◌≤◌, IfOk};
 ghost use Rattle.std.specs.Arc.{arc_value};
 ghost use Rattle.left_right.specs.Sides.{view};
 ghost use Rattle.board_copies.specs.Rules.{book_of, Knows};
+ghost use Rattle.board_copies.specs.Stamps.{entries_of};
 
-use crate::entries::held_last;
-use board_copies::{Keep, Keeper, Roll, make_writer, settle};
+use crate::entries::resumed;
+use board_copies::{Keep, Keeper, Resumed, Roll, make_writer, settle};
 use std::alloc::Global;
 use std::sync::{Arc, Wait};
 use venue_hall::Entry;
@@ -42,8 +43,24 @@ impl Copies {
         requires range { workers ≤ 16 }
         ensures { IfOk result (λ copies. entries_in copies ≡ entries.items) }
     {
-        let mut roll = Roll::new();
-        let held = held_last(alloc, &mut roll, &settings, entries)?;
+        let resumed = resumed(alloc, &settings, entries)?;
+        Copies::of(rt, alloc, settings, resumed, workers)
+    }
+
+    /// Two copies of the board of a history that was resumed, with room for so many readers. It waits as a publication does.
+    pub fn of<R: Wait>(
+        rt: &R,
+        alloc: Global,
+        settings: Arc<Settings>,
+        resumed: Resumed,
+        workers: u8,
+    ) -> Result<Copies, OutOfMemory>
+        requires settings { resumed.held.board.settings ≡ arc_value settings }
+        requires some { 1 ≤ workers }
+        requires range { workers ≤ 16 }
+        ensures { IfOk result (λ copies. entries_in copies ≡ entries_of resumed.held.stamp) }
+    {
+        let Resumed { held, roll, .. } = resumed;
         let writer = make_writer(alloc, held, usize::from(workers))?;
         Ok(Copies {
             keeper: Keep {

@@ -1,78 +1,67 @@
-//! Entries of a legal history, stamped one after the other.
+//! Entries of a legal history, replayed one after the other.
 
-ghost use Rattle.std.specs.Prelude.{◌≡◌, [], ◌∷◌, ◌++◌, IfOk};
+ghost use Rattle.std.specs.Prelude.{◌≡◌, [], ◌∷◌, ◌++◌, IfOk, OnOk};
 ghost use Rattle.std.specs.Arc.{arc_value};
 ghost use Rattle.venue_hall.specs.Venues.{SeenVenue};
 ghost use Rattle.venue_hall.specs.Histories.{IsLegal, IsPublished};
 ghost use Rattle.board_copies.specs.Stamps.{entries_of};
 ghost use Rattle.venue_hall.specs.Openings.{HaveSettings};
 
-use board_copies::{Held, Roll, Unready, first_law, following_law};
+use board_copies::{Resumed, Resuming, first_law, following_law};
 use std::alloc::Global;
 use std::sync::Arc;
 use venue_hall::{Act, Entry, beginning_law};
 use venue_types::{OutOfMemory, Settings};
 
-// The board with which the first entry opens a history.
-fn held_first(
-    alloc: Global,
-    roll: &mut Roll,
-    settings: &Arc<Settings>,
-    entry: Entry,
-) -> Result<Held, OutOfMemory>
+// The history that the first entry opens.
+fn opened(alloc: Global, settings: &Arc<Settings>, entry: Entry) -> Result<Resuming, OutOfMemory>
     requires legal { IsLegal (entry ∷ []) }
     requires settings { (venue : SeenVenue) → IsPublished venue entry.act → venue.settings ≡ arc_value settings.now }
-    ensures entries { IfOk result (λ held. entries_of held.stamp ≡ entry ∷ []) }
-    ensures settings { IfOk result (λ held. held.board.settings ≡ arc_value settings.now) }
-    ensures book { IfOk result (λ held. held.stamp.seen.book ≡ roll.old.seen.book) }
-    ensures roll { roll.new.seen.book ≡ roll.old.seen.book }
+    ensures entries { IfOk result (λ r. entries_of r.stamp ≡ entry ∷ []) }
+    ensures settings { IfOk result (λ r. r.version.settings ≡ arc_value settings.now) }
 {
     first_law();
     match entry.act {
-        Act::Published(venue) => Held::first(alloc, roll, Arc::try_clone(settings)?, venue),
+        Act::Published(venue) => Resuming::first(alloc, Arc::try_clone(settings)?, venue),
         Act::Closed(_) | Act::Reopened(_) => unreachable!(),
     }
 }
 
-// The board after the next entry. No board refuses it but for want of memory.
-fn held_next(alloc: Global, roll: &mut Roll, held: &Held, entry: Entry) -> Result<Held, OutOfMemory>
-    requires legal { IsLegal (entries_of held.now.stamp ++ entry ∷ []) }
-    ensures entries { IfOk result (λ next. entries_of next.stamp ≡ entries_of held.now.stamp ++ entry ∷ []) }
-    ensures settings { IfOk result (λ next. next.board.settings ≡ held.now.board.settings) }
-    ensures book { IfOk result (λ next. next.stamp.seen.book ≡ roll.old.seen.book) }
-    ensures roll { roll.new.seen.book ≡ roll.old.seen.book }
+// Makes the next entry, which may follow.
+fn enter(alloc: Global, history: &mut Resuming, entry: Entry) -> Result<(), OutOfMemory>
+    requires legal { IsLegal (entries_of history.old.stamp ++ entry ∷ []) }
+    ensures entries { OnOk result (entries_of history.new.stamp ≡ entries_of history.old.stamp ++ entry ∷ []) }
+    ensures settings { history.new.version.settings ≡ history.old.version.settings }
 {
     following_law();
     let Entry { worker, act } = entry;
-    match held.board.ready(alloc, act, worker) {
-        Ok(ready) => held.next(roll, ready),
-        Err(Unready::OutOfMemory) => Err(OutOfMemory),
-        Err(Unready::NoFeature) | Err(Unready::Unchanged) | Err(Unready::Full) => unreachable!(),
-    }
+    let is_made = match act {
+        Act::Published(venue) => history.publish(alloc, venue, worker)?,
+        Act::Closed(it) => history.step(Act::Closed(it), worker)?,
+        Act::Reopened(it) => history.step(Act::Reopened(it), worker)?,
+    };
+    if is_made { Ok(()) } else { unreachable!() }
 }
 
 /// The board to which the entries lead.
-pub(crate) fn held_last(
+pub(crate) fn resumed(
     alloc: Global,
-    roll: &mut Roll,
     settings: &Arc<Settings>,
     entries: Vec<Entry>,
-) -> Result<Held, OutOfMemory>
+) -> Result<Resumed, OutOfMemory>
     requires legal { IsLegal entries.items }
     requires settings { HaveSettings (arc_value settings.now) entries.items }
-    ensures entries { IfOk result (λ held. entries_of held.stamp ≡ entries.items) }
-    ensures settings { IfOk result (λ held. held.board.settings ≡ arc_value settings.now) }
-    ensures book { IfOk result (λ held. held.stamp.seen.book ≡ roll.old.seen.book) }
-    ensures roll { roll.new.seen.book ≡ roll.old.seen.book }
+    ensures entries { IfOk result (λ resumed. entries_of resumed.held.stamp ≡ entries.items) }
+    ensures settings { IfOk result (λ resumed. resumed.held.board.settings ≡ arc_value settings.now) }
 {
     beginning_law();
     let mut entries = entries.into_iter();
     let Some(first) = entries.next() else {
         unreachable!()
     };
-    let mut held = held_first(alloc, roll, settings, first)?;
+    let mut history = opened(alloc, settings, first)?;
     for entry in entries {
-        held = held_next(alloc, roll, &held, entry)?;
+        enter(alloc, &mut history, entry)?;
     }
-    Ok(held)
+    history.finish(alloc)
 }

@@ -8,7 +8,8 @@ ghost use Rattle.board_copies.specs.Rules.{book_of, Knows};
 
 use crate::station::{id, venue_of};
 use board_copies::{
-    Held, Keep, Keeper, Roll, SideReader, make_reader, make_writer, publish, read_in, settle,
+    Keep, Keeper, Resumed, Resuming, Roll, SideReader, make_reader, make_writer, publish, read_in,
+    settle,
 };
 use core::mem::replace_with;
 use std::alloc::Global;
@@ -45,8 +46,7 @@ enum Call {
 fn opened<R: Wait>(rt: &R, alloc: Global) -> Result<Office, Fail> {
     let settings = Arc::new(alloc, station_settings(alloc)?)?;
     let venue = venue_of(alloc, &settings, &[])?;
-    let mut roll = Roll::new();
-    let held = Held::first(alloc, &mut roll, settings, venue)?;
+    let Resumed { held, roll, .. } = Resuming::first(alloc, settings, venue)?.finish(alloc)?;
     let writer = make_writer(alloc, held, 2)?;
     let keeper = Keep {
         writer: settle(writer, rt),

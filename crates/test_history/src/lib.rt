@@ -13,6 +13,10 @@ mod one_thread;
 #[cfg(test)]
 mod profiles;
 #[cfg(test)]
+mod replays;
+#[cfg(test)]
 mod shared;
 #[cfg(test)]
 mod station;
+#[cfg(test)]
+mod tours;

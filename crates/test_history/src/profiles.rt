@@ -43,7 +43,7 @@ enum Told {
 }
 
 // A closed feature, and for whom; nobody's name where it is closed for all.
-type Closed = (u128, &'static [&'static str]);
+pub(crate) type Closed = (u128, &'static [&'static str]);
 
 #[derive(Clone, Copy)]
 struct Row {
@@ -103,7 +103,7 @@ fn judge_names(rt: &impl Abort, found: &Option<List<Text>>, names: &[&str]) {
     }
 }
 
-fn judge_rows_of(rt: &impl Abort, found: &[ClosedRow], closed: &[Closed]) {
+pub(crate) fn judge_rows_of(rt: &impl Abort, found: &[ClosedRow], closed: &[Closed]) {
     assert_eq!(rt; found.len(), closed.len());
     for (found, (tail, names)) in found.iter().zip(closed) {
         assert_eq!(rt; found.id, id(*tail));

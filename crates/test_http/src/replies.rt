@@ -4,8 +4,8 @@ use std::alloc::{AllocError, Global};
 use std::process::Abort;
 use std::test::Fail;
 use venue_types::{
-    Class, ClosedRow, ClosureDone, ClosuresTold, FeatureId, Finding, Kind, Label, List, Mark,
-    PlaceRow, PlaceTold, Reply, Report, StepRow, Text, Which,
+    Class, ClosedRow, ClosureDone, ClosuresTold, FeatureId, Finding, Kind, Label, Leg, List, Mark,
+    NoTourTold, PlaceRow, PlaceTold, Reply, Report, StepRow, Text, TourTold, Which,
 };
 use wire_frames::{Methods, Refusal};
 use wire_replies::{bare_bytes, refusal_bytes, reply_bytes, want_of_memory};
@@ -105,6 +105,43 @@ fn no_route(alloc: Global, reached: Option<List<FeatureId>>) -> Result<Reply, Al
         profile,
         reached,
     })
+}
+
+fn leg(cost: u64, steps: Vec<StepRow>) -> Leg {
+    let steps = List::from_vec(steps);
+    Leg { cost, steps }
+}
+
+// By two stops, the second of those that were asked for first, and without a step from the last one.
+fn tour(alloc: Global) -> Result<Reply, AllocError> {
+    let profile = text(alloc, "wheelchair")?;
+    let order = List::from_vec(vec![in alloc; id(0x105), id(0x31)]?);
+    let legs = List::from_vec(vec![in alloc;
+        leg(633, vec![in alloc; step(633, Kind::Floor, 0x105, 0x305)]?),
+        leg(1803, vec![in alloc; step(1803, Kind::Floor, 0x31, 0x300)]?),
+        leg(0, Vec::new(alloc)),
+    ]?);
+    Ok(Reply::Tour(TourTold {
+        number: 1,
+        from: id(0x41),
+        to: id(0x31),
+        profile,
+        order,
+        cost: 2436,
+        legs,
+    }))
+}
+
+fn no_tour(alloc: Global) -> Result<Reply, AllocError> {
+    let profile = text(alloc, "wheelchair")?;
+    let stops = List::from_vec(vec![in alloc; id(0x109), id(0x31)]?);
+    Ok(Reply::NoTour(NoTourTold {
+        number: 2,
+        from: id(0x51),
+        to: id(0x52),
+        profile,
+        stops,
+    }))
 }
 
 // What a client is told: the status, the bytes of the body, and further lines.
@@ -248,6 +285,15 @@ fn sees_that_none_is(rt: &impl Abort, alloc: Global) -> Result<(), AllocError> {
     reads(rt, alloc, no_route(alloc, Some(reached))?, 232, body)
 }
 
+fn sees_tours(rt: &impl Abort, alloc: Global) -> Result<(), AllocError> {
+    let body =
+        r#"{"cost":2436,"from":"@0041","legs":[{"cost":633,"steps":[{"cost":633,"kind":"floor","to":"@0105","via":"@0305"}]},{"cost":1803,"steps":[{"cost":1803,"kind":"floor","to":"@0031","via":"@0300"}]},{"cost":0,"steps":[]}],"order":["@0105","@0031"],"profile":"wheelchair","result":"tour","to":"@0031","version":1}"#;
+    reads(rt, alloc, tour(alloc)?, 555, body)?;
+    let body =
+        r#"{"from":"@0051","profile":"wheelchair","result":"none","stops":["@0109","@0031"],"to":"@0052","version":2}"#;
+    reads(rt, alloc, no_tour(alloc)?, 230, body)
+}
+
 fn sees_a_place(rt: &impl Abort, alloc: Global) -> Result<(), AllocError> {
     let name = vec![in alloc; label(alloc, "en", "Tickets")?]?;
     let reply = Reply::Place(PlaceTold {
@@ -369,6 +415,12 @@ fn answers_have_their_bytes(rt: HostRuntime) -> Result<(), Fail> {
             "404 Not Found",
             38,
             r#"{"error":"no_such_place","which":"id"}"#,
+        ),
+        (
+            Reply::NoPlace(Which::Stop),
+            "404 Not Found",
+            40,
+            r#"{"error":"no_such_place","which":"stop"}"#,
         ),
         (
             Reply::NoFeature,
@@ -496,6 +548,7 @@ fn answers_have_their_bytes(rt: HostRuntime) -> Result<(), Fail> {
     sees_closures_for_some(&rt, alloc)?;
     sees_walks(&rt, alloc)?;
     sees_that_none_is(&rt, alloc)?;
+    sees_tours(&rt, alloc)?;
     sees_a_place(&rt, alloc)?;
     sees_a_place_for_some(&rt, alloc)?;
     sees_names(&rt, alloc)?;

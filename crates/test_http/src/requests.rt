@@ -3,7 +3,7 @@
 use std::alloc::{AllocError, Global};
 use std::process::Abort;
 use std::test::Fail;
-use venue_types::{Ask, Change, Closure, List, Query, Text};
+use venue_types::{Ask, Change, Closure, FeatureId, List, Query, Text, TourQuery};
 use venue_wire::{
     Front, Message, Taken, message_length_law, message_more_law, more_is_short_law,
     one_message_law, path_law, take,
@@ -17,6 +17,8 @@ enum What<'t> {
     Place(u128),
     Closures,
     Route(u128, u128, &'t str, bool),
+    /// From where to where, how many stops there are, the first and the last of them, and the profile.
+    Tour(u128, u128, usize, [u128; 2], &'t str),
 }
 
 /// What a front comes to, without its length.
@@ -33,6 +35,26 @@ enum Outcome<'t> {
     Unread,
 }
 
+fn stop_at(stops: &List<FeatureId>, index: usize) -> u128 {
+    match stops.get(index) {
+        Some(stop) => stop.0,
+        None => 0,
+    }
+}
+
+fn tour_of(asked: &TourQuery) -> What<'_> {
+    let stops = asked.stops();
+    let first = stop_at(stops, 0);
+    let last = stop_at(stops, stops.len().saturating_sub(1));
+    What::Tour(
+        asked.from().0,
+        asked.to().0,
+        stops.len(),
+        [first, last],
+        asked.profile().as_str(),
+    )
+}
+
 fn what_of(ask: &Ask) -> What<'_> {
     match ask {
         Ask::Version => What::Version,
@@ -45,6 +67,7 @@ fn what_of(ask: &Ask) -> What<'_> {
             profile,
             certificate,
         } => What::Route(from.0, to.0, profile.as_str(), *certificate),
+        Ask::Tour(asked) => tour_of(asked),
     }
 }
 
@@ -200,6 +223,10 @@ const I_51: u128 = 0x00000000_0000_4000_8000_000000000051;
 
 const I_52: u128 = 0x00000000_0000_4000_8000_000000000052;
 
+const I_31: u128 = 0x00000000_0000_4000_8000_000000000031;
+
+const I_109: u128 = 0x00000000_0000_4000_8000_000000000109;
+
 const NO_PATH: Outcome<'static> = Outcome::Refused(Refusal::NoPath);
 
 const NOT_STAFF: Outcome<'static> = Outcome::Refused(Refusal::NotStaff);
@@ -226,6 +253,10 @@ fn since(version: u32) -> Outcome<'static> {
 
 fn route(profile: &str, certificate: bool) -> Outcome<'_> {
     Outcome::Ask(None, What::Route(I_51, I_52, profile, certificate))
+}
+
+fn tour(count: usize, ends: [u128; 2], profile: &str) -> Outcome<'_> {
+    Outcome::Ask(None, What::Tour(I_51, I_52, count, ends, profile))
 }
 
 fn desk(alloc: Global) -> Result<List<Text>, AllocError> {
@@ -370,6 +401,63 @@ fn check_routes(rt: &impl Abort, alloc: Global, front: &Front) -> Result<(), All
             "GET /v1/route?from=00000000-0000-4000-8000-000000000051&to=00000000-0000-4000-8000-000000000052&profile=%77&certificate=no",
             route("w", false),
         ),
+    ];
+    check_bare(rt, alloc, front, &table)
+}
+
+/// Tours.
+fn check_tours(rt: &impl Abort, alloc: Global, front: &Front) -> Result<(), AllocError> {
+    let table = [
+        (
+            "GET /v1/tour?from=00000000-0000-4000-8000-000000000051&to=00000000-0000-4000-8000-000000000052&stops=00000000-0000-4000-8000-000000000109,00000000-0000-4000-8000-000000000031&profile=walk",
+            tour(2, [I_109, I_31], "walk"),
+        ),
+        (
+            "GET /v1/tour?from=00000000-0000-4000-8000-000000000051&to=00000000-0000-4000-8000-000000000052&sto%70s={00000000-0000-4000-8000-000000000031}%2Curn:uuid:00000000-0000-4000-8000-000000000109&profile=&certificate=1&certificate=2",
+            tour(2, [I_31, I_109], ""),
+        ),
+        (
+            "GET /v1/tour?from=00000000-0000-4000-8000-000000000051&to=00000000-0000-4000-8000-000000000052&stops=00000000000040008000000000000031&profile=a+b",
+            tour(1, [I_31, I_31], "a b"),
+        ),
+        (
+            "GET /v1/tour?from=00000000-0000-4000-8000-000000000051&to=00000000-0000-4000-8000-000000000052&stops=00000000-0000-4000-8000-000000000031,00000000-0000-4000-8000-000000000031,00000000-0000-4000-8000-000000000031,00000000-0000-4000-8000-000000000031,00000000-0000-4000-8000-000000000031,00000000-0000-4000-8000-000000000031,00000000-0000-4000-8000-000000000031,00000000-0000-4000-8000-000000000109&profile=walk",
+            tour(8, [I_31, I_109], "walk"),
+        ),
+        (
+            "GET /v1/tour?from=00000000-0000-4000-8000-000000000051&to=00000000-0000-4000-8000-000000000052&stops=00000000-0000-4000-8000-000000000031,00000000-0000-4000-8000-000000000031,00000000-0000-4000-8000-000000000031,00000000-0000-4000-8000-000000000031,00000000-0000-4000-8000-000000000031,00000000-0000-4000-8000-000000000031,00000000-0000-4000-8000-000000000031,00000000-0000-4000-8000-000000000031,00000000-0000-4000-8000-000000000109&profile=walk",
+            BAD_QUERY,
+        ),
+        (
+            "GET /v1/tour?from=00000000-0000-4000-8000-000000000051&to=00000000-0000-4000-8000-000000000052&stops=&profile=walk",
+            BAD_QUERY,
+        ),
+        (
+            "GET /v1/tour?from=00000000-0000-4000-8000-000000000051&to=00000000-0000-4000-8000-000000000052&stops=00000000-0000-4000-8000-000000000031,&profile=walk",
+            BAD_QUERY,
+        ),
+        (
+            "GET /v1/tour?from=00000000-0000-4000-8000-000000000051&to=00000000-0000-4000-8000-000000000052&stops=%2C&profile=walk",
+            BAD_QUERY,
+        ),
+        (
+            "GET /v1/tour?from=00000000-0000-4000-8000-000000000051&to=00000000-0000-4000-8000-000000000052&profile=walk",
+            BAD_QUERY,
+        ),
+        (
+            "GET /v1/tour?from=00000000-0000-4000-8000-000000000051&to=00000000-0000-4000-8000-000000000052&stops=00000000-0000-4000-8000-000000000031&stops=00000000-0000-4000-8000-000000000109&profile=walk",
+            BAD_QUERY,
+        ),
+        (
+            "GET /v1/tour?from=00000000-0000-4000-8000-000000000051&to=00000000-0000-4000-8000-000000000052&stops=00000000-0000-4000-8000-000000000031",
+            BAD_QUERY,
+        ),
+        (
+            "GET /v1/tour?from=00000000-0000-4000-8000-000000000051&to=00000000-0000-4000-8000-000000000052&stops=00000000-0000-4000-8000-000000000031&profile=walk&since=x",
+            BAD_QUERY,
+        ),
+        ("POST /v1/tour", only(Methods::Get)),
+        ("HEAD /v1/tour", bare(Methods::Get)),
     ];
     check_bare(rt, alloc, front, &table)
 }
@@ -540,6 +628,7 @@ fn requests(rt: HostRuntime) -> Result<(), Fail> {
     check_paths(&rt, alloc, &front)?;
     check_queries(&rt, alloc, &front)?;
     check_routes(&rt, alloc, &front)?;
+    check_tours(&rt, alloc, &front)?;
     check_staff(&rt, alloc, &front)?;
     check_bodies(&rt, alloc, &front)?;
     check_profiles(&rt, alloc, &front)?;

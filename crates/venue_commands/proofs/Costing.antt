@@ -47,12 +47,15 @@ told_cost v name from to reply.NoProfile some (now, lacks) = λ place profile a 
 told_cost v name from to (reply.NoPlace which.From) some (now, (has, lacks)) = λ place profile a b walk trip leads. absurd (let e = sym lacks ∙ trip.has_from in cc e)
 told_cost v name from to (reply.NoPlace which.To) some (now, (has, is, lacks)) = λ place profile a b walk trip leads. absurd (let e = sym lacks ∙ trip.has_to in cc e)
 told_cost v name from to (reply.NoPlace which.Id) some (now, never) = absurd never
+told_cost v name from to (reply.NoPlace which.Stop) some (now, never) = absurd never
 told_cost v name from to (reply.Ahead since number) some (asked, later, same) = absurd (cc asked)
 told_cost v name from to reply.OutOfMemory some answers = absurd (some refl)
 told_cost v name from to (reply.Version number closed count) some (now, never) = absurd never
 told_cost v name from to (reply.Places number rows) some (now, never) = absurd never
 told_cost v name from to (reply.Place it) some (now, never) = absurd never
 told_cost v name from to (reply.Closures it) some (now, never) = absurd never
+told_cost v name from to (reply.Tour it) some (now, never) = absurd never
+told_cost v name from to (reply.NoTour it) some (now, never) = absurd never
 told_cost v name from to (reply.ClosureDone done) some (now, never) = absurd never
 told_cost v name from to (reply.Published number dropped) some (now, never) = absurd never
 told_cost v name from to reply.NoFeature some (now, never) = absurd never

@@ -1,6 +1,7 @@
 pub mod Facts
 pub mod Records
 pub mod Logging
+pub mod Standing
 pub use Rattle.venue_history.specs.Openings
 pub use Rattle.venue_history.specs.Venues
 pub use Rattle.venue_history.specs.Changes
@@ -17,6 +18,7 @@ pub use Rattle.venue_history.specs.Report
 pub use Rattle.venue_history.specs.Views
 pub use Rattle.venue_history.specs.Built
 pub use Rattle.venue_history.specs.Answers
+pub use Rattle.venue_history.specs.Tours
 pub use Rattle.venue_history.specs.Ways
 pub use Rattle.venue_history.specs.Links
 pub use Rattle.venue_history.specs.BuiltType

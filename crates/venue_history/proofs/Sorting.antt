@@ -1,22 +1,27 @@
 -- To one question at one version belongs one kind of reply.
 use Rattle.std.proofs.Common.{◌≡◌, ◌≢◌, ◌∙◌, ℕ, ◌<◌, List, refl, sym, subst, Option, Some, Bool}
 use Rattle.std.proofs.lemmas.Option.{same_Some}
+use Rattle.std.specs.Prelude.{Contains}
 use Rattle.venue_types.specs.declared.feature_id.FeatureId.{FeatureId}
 use Rattle.venue_types.specs.declared.link.Link.{Link}
 use Rattle.venue_types.specs.declared.query.Ask.{Ask}
 use Rattle.venue_types.specs.declared.query.Ask.TheVariants as ask
 use Rattle.venue_types.specs.declared.query.Query.{Query}
+use Rattle.venue_types.specs.declared.reply.Leg.{Leg}
 use Rattle.venue_types.specs.declared.reply.Reply.{Reply}
 use Rattle.venue_types.specs.declared.reply.Reply.TheVariants as reply
 use Rattle.venue_types.specs.declared.reply.Which.TheVariants as which
 use Rattle.venue_types.specs.declared.settings.Profile.{Profile}
+use Rattle.venue_types.specs.Tours.{Tour}
 use Rattle.walk_laws.specs.Walks.{HasNoWalk, IsLeast}
 use Rattle.venue_build.specs.Views.{link_view}
 use Rattle.venue_history.specs.Closed.{Version}
+use Rattle.venue_history.specs.Tours.{IsTour, IsNoTour}
 use Rattle.venue_history.specs.Ways.{Usable}
 use Rattle.venue_history.specs.Answers.{IsTooEarly, IsTrip, LacksProfile, HasProfile, IsNoPlace, IsPlace, AnswersAsk, Answers}
 use Rattle.venue_history.specs.Replies.{ReplyKind, kind_of}
 use Rattle.venue_history.specs.Replies as kind
+use Rattle.venue_history.proofs.Touring.{not_toured, stop_stands}
 
 -- where there is a walk of what may be used there isn't none
 not_both : (v : Version) (from to : FeatureId) (name : List ℕ) (m n : ℕ) (p q : Profile) (a b a' b' cost : ℕ) (walk : List Link)
@@ -45,6 +50,16 @@ data RouteCause (v : Version) (from to : FeatureId) (name : List ℕ) : ReplyKin
   walk : (m : ℕ) (p : Profile) (a b cost : ℕ) (w : List Link) → IsTrip v from to name m p a b → IsLeast link_view (Usable v m p) a b w cost → RouteCause v from to name kind.route
   no_walk : (m : ℕ) (p : Profile) (a b : ℕ) → IsTrip v from to name m p a b → HasNoWalk link_view (Usable v m p) a b → RouteCause v from to name kind.no_route
 
+-- what the kind of a reply on a tour says
+data TourCause (v : Version) (asked : Tour) : ReplyKind → Type 0 where
+  nobody : LacksProfile v asked.profile → TourCause v asked kind.no_profile
+  from_nowhere : HasProfile v asked.profile → IsNoPlace v asked.from → TourCause v asked (kind.no_place which.From)
+  to_nowhere : HasProfile v asked.profile → IsPlace v asked.from → IsNoPlace v asked.to → TourCause v asked (kind.no_place which.To)
+  by_nowhere : HasProfile v asked.profile → IsPlace v asked.from → IsPlace v asked.to → (stop : FeatureId) → Contains asked.stops stop → IsNoPlace v stop
+      → TourCause v asked (kind.no_place which.Stop)
+  toured : (order : List FeatureId) (cost : ℕ) (legs : List Leg) → IsTour v asked order cost legs → TourCause v asked kind.tour
+  not_so : IsNoTour v asked → TourCause v asked kind.no_tour
+
 version_kind : (v : Version) (r : Reply) → AnswersAsk v ask.Version r → kind_of r ≡ kind.version
 version_kind v (reply.Version number closed count) is = refl
 version_kind v _ is = absurd is
@@ -71,6 +86,15 @@ route_cause v from to name certificate (reply.Route number from' to' name' start
     walk is.2.number is.2.profile is.2.a is.2.b cost is.2.walk is.2.trip is.2.least
 route_cause v from to name certificate (reply.NoRoute number from' to' name' reached) is = no_walk is.2.number is.2.profile is.2.a is.2.b is.2.trip is.2.none
 route_cause v from to name certificate _ is = absurd is
+
+tour_cause : (v : Version) (asked : Tour) (r : Reply) → AnswersAsk v (ask.Tour asked) r → TourCause v asked (kind_of r)
+tour_cause v asked reply.NoProfile is = nobody is
+tour_cause v asked (reply.NoPlace which.From) is = from_nowhere is.0 is.1
+tour_cause v asked (reply.NoPlace which.To) is = to_nowhere is.0 is.1 is.2
+tour_cause v asked (reply.NoPlace which.Stop) is = by_nowhere is.0 is.1 is.2 is.3 is.4 is.5
+tour_cause v asked (reply.Tour it) is = toured it.order it.cost it.legs is.2
+tour_cause v asked (reply.NoTour it) is = not_so is.3
+tour_cause v asked _ is = absurd is
 
 one_place : (v : Version) (id : FeatureId) (k l : ReplyKind) → PlaceCause v id k → PlaceCause v id l → k ≡ l
 one_place v id _ _ (nowhere e) (nowhere f) = refl
@@ -105,6 +129,44 @@ one_route v from to name _ _ (no_walk m p a b t n) (no_end d e h) = absurd (cc (
 one_route v from to name _ _ (no_walk m p a b t n) (walk m' q a' b' cost w t' l) = absurd (not_both v from to name m' m q p a' b' a b cost w t' t l n)
 one_route v from to name _ _ (no_walk m p a b t n) (no_walk m' p' a' b' t' n') = refl
 
+one_tour : (v : Version) (asked : Tour) (k l : ReplyKind) → TourCause v asked k → TourCause v asked l → k ≡ l
+one_tour v asked _ _ (nobody e) (nobody e') = refl
+one_tour v asked _ _ (nobody e) (from_nowhere p' n') = absurd (cc (e, p'.1))
+one_tour v asked _ _ (nobody e) (to_nowhere p' f' n') = absurd (cc (e, p'.1))
+one_tour v asked _ _ (nobody e) (by_nowhere p' f' t' x' c' n') = absurd (cc (e, p'.1))
+one_tour v asked _ _ (nobody e) (toured o' k' l' is') = absurd (cc (e, is'.trip.has_profile))
+one_tour v asked _ _ (nobody e) (not_so is') = absurd (cc (e, is'.trip.has_profile))
+one_tour v asked _ _ (from_nowhere p n) (nobody e') = absurd (cc (p.1, e'))
+one_tour v asked _ _ (from_nowhere p n) (from_nowhere p' n') = refl
+one_tour v asked _ _ (from_nowhere p n) (to_nowhere p' f' n') = absurd (cc (n, f'.1))
+one_tour v asked _ _ (from_nowhere p n) (by_nowhere p' f' t' x' c' n') = absurd (cc (n, f'.1))
+one_tour v asked _ _ (from_nowhere p n) (toured o' k' l' is') = absurd (cc (n, is'.trip.has_from))
+one_tour v asked _ _ (from_nowhere p n) (not_so is') = absurd (cc (n, is'.trip.has_from))
+one_tour v asked _ _ (to_nowhere p f n) (nobody e') = absurd (cc (p.1, e'))
+one_tour v asked _ _ (to_nowhere p f n) (from_nowhere p' n') = absurd (cc (f.1, n'))
+one_tour v asked _ _ (to_nowhere p f n) (to_nowhere p' f' n') = refl
+one_tour v asked _ _ (to_nowhere p f n) (by_nowhere p' f' t' x' c' n') = absurd (cc (n, t'.1))
+one_tour v asked _ _ (to_nowhere p f n) (toured o' k' l' is') = absurd (cc (n, is'.trip.has_to))
+one_tour v asked _ _ (to_nowhere p f n) (not_so is') = absurd (cc (n, is'.trip.has_to))
+one_tour v asked _ _ (by_nowhere p f t x c n) (nobody e') = absurd (cc (p.1, e'))
+one_tour v asked _ _ (by_nowhere p f t x c n) (from_nowhere p' n') = absurd (cc (f.1, n'))
+one_tour v asked _ _ (by_nowhere p f t x c n) (to_nowhere p' f' n') = absurd (cc (t.1, n'))
+one_tour v asked _ _ (by_nowhere p f t x c n) (by_nowhere p' f' t' x' c' n') = refl
+one_tour v asked _ _ (by_nowhere p f t x c n) (toured o' k' l' is') = absurd (stop_stands v asked is'.number is'.profile is'.a is'.stops is'.b is'.trip x c n)
+one_tour v asked _ _ (by_nowhere p f t x c n) (not_so is') = absurd (stop_stands v asked is'.number is'.profile is'.a is'.stops is'.b is'.trip x c n)
+one_tour v asked _ _ (toured o k l is) (nobody e') = absurd (cc (is.trip.has_profile, e'))
+one_tour v asked _ _ (toured o k l is) (from_nowhere p' n') = absurd (cc (is.trip.has_from, n'))
+one_tour v asked _ _ (toured o k l is) (to_nowhere p' f' n') = absurd (cc (is.trip.has_to, n'))
+one_tour v asked _ _ (toured o k l is) (by_nowhere p' f' t' x' c' n') = absurd (stop_stands v asked is.number is.profile is.a is.stops is.b is.trip x' c' n')
+one_tour v asked _ _ (toured o k l is) (toured o' k' l' is') = refl
+one_tour v asked _ _ (toured o k l is) (not_so is') = absurd (not_toured v asked o k l is is')
+one_tour v asked _ _ (not_so is) (nobody e') = absurd (cc (is.trip.has_profile, e'))
+one_tour v asked _ _ (not_so is) (from_nowhere p' n') = absurd (cc (is.trip.has_from, n'))
+one_tour v asked _ _ (not_so is) (to_nowhere p' f' n') = absurd (cc (is.trip.has_to, n'))
+one_tour v asked _ _ (not_so is) (by_nowhere p' f' t' x' c' n') = absurd (stop_stands v asked is.number is.profile is.a is.stops is.b is.trip x' c' n')
+one_tour v asked _ _ (not_so is) (toured o' k' l' is') = absurd (not_toured v asked o' k' l' is' is)
+one_tour v asked _ _ (not_so is) (not_so is') = refl
+
 one_answer : (v : Version) (asked : Ask) (r s : Reply) → AnswersAsk v asked r → AnswersAsk v asked s → kind_of r ≡ kind_of s
 one_answer v ask.Version r s is also = version_kind v r is ∙ sym (version_kind v s also)
 one_answer v ask.Places r s is also = places_kind v r is ∙ sym (places_kind v s also)
@@ -112,6 +174,7 @@ one_answer v ask.Closures r s is also = closures_kind v r is ∙ sym (closures_k
 one_answer v (ask.Place id) r s is also = one_place v id (kind_of r) (kind_of s) (place_cause v id r is) (place_cause v id s also)
 one_answer v (ask.Route from to name certificate) r s is also =
     one_route v from to name (kind_of r) (kind_of s) (route_cause v from to name certificate r is) (route_cause v from to name certificate s also)
+one_answer v (ask.Tour asked) r s is also = one_tour v asked (kind_of r) (kind_of s) (tour_cause v asked r is) (tour_cause v asked s also)
 
 -- how a reply that isn't want of memory answers: the version is too early, or what is asked is answered
 data Cause (v : Version) (query : Query) (r : Reply) : Type 0 where

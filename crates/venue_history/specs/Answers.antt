@@ -23,6 +23,7 @@ use Rattle.venue_build.specs.Nodes.{nodes, place_of}
 use Rattle.venue_build.specs.Views.{link_view, potential_view}
 use Rattle.venue_build.specs.Places.{places}
 use Rattle.venue_history.specs.Closed.{Version, is_closed_for_all, shut_out, closed_rows, closed_count}
+use Rattle.venue_history.specs.Tours.{IsTour, IsNoTour}
 use Rattle.venue_history.specs.Ways.{Usable, profile_number, profile_of, name_of, step_of, mark_of}
 
 -- the question asks for a version that isn't there yet
@@ -123,6 +124,15 @@ AnswersAsk v (ask.Route from to name certificate) (reply.Route number from' to' 
     (number ≡ v.number) × RepeatsTrip from to name from' to' name' × IsRoute v from to name certificate start cost steps potentials
 AnswersAsk v (ask.Route from to name certificate) (reply.NoRoute number from' to' name' reached) =
     (number ≡ v.number) × RepeatsTrip from to name from' to' name' × IsNoRoute v from to name certificate reached
+AnswersAsk v (ask.Tour asked) reply.NoProfile = LacksProfile v asked.profile
+AnswersAsk v (ask.Tour asked) (reply.NoPlace which.From) = HasProfile v asked.profile × IsNoPlace v asked.from
+AnswersAsk v (ask.Tour asked) (reply.NoPlace which.To) = HasProfile v asked.profile × IsPlace v asked.from × IsNoPlace v asked.to
+AnswersAsk v (ask.Tour asked) (reply.NoPlace which.Stop) =
+    HasProfile v asked.profile × IsPlace v asked.from × IsPlace v asked.to × (stop : FeatureId) × Contains asked.stops stop × IsNoPlace v stop
+AnswersAsk v (ask.Tour asked) (reply.Tour it) =
+    (it.number ≡ v.number) × RepeatsTrip asked.from asked.to asked.profile it.from it.to it.profile × IsTour v asked it.order it.cost it.legs
+AnswersAsk v (ask.Tour asked) (reply.NoTour it) =
+    (it.number ≡ v.number) × RepeatsTrip asked.from asked.to asked.profile it.from it.to it.profile × (it.stops ≡ asked.stops) × IsNoTour v asked
 AnswersAsk v _ _ = ⊥
 
 -- the reply is right for the question at the version; want of memory may stand for every other answer

@@ -4,6 +4,7 @@ pub mod Histories
 pub mod Openings
 pub mod Ways
 pub mod Named
+pub mod Tours
 pub mod Answers
 pub mod Replies
 pub mod Changes

@@ -28,6 +28,8 @@ pub data ReplyKind : Type 0 where
   closures : ReplyKind
   route : ReplyKind
   no_route : ReplyKind
+  tour : ReplyKind
+  no_tour : ReplyKind
   closure_done : ReplyKind
   published : ReplyKind
   ahead : ReplyKind
@@ -47,6 +49,8 @@ kind_of (reply.Place it) = place
 kind_of (reply.Closures it) = closures
 kind_of (reply.Route number from to profile start cost steps potentials) = route
 kind_of (reply.NoRoute number from to profile reached) = no_route
+kind_of (reply.Tour it) = tour
+kind_of (reply.NoTour it) = no_tour
 kind_of (reply.ClosureDone done) = closure_done
 kind_of (reply.Published number dropped) = published
 kind_of (reply.Ahead since number) = ahead

@@ -13,6 +13,7 @@ use Rattle.venue_types.specs.declared.reply.Reply.{Reply}
 use Rattle.venue_types.specs.declared.reply.Reply.TheVariants as reply
 use Rattle.venue_types.specs.declared.reply.Which.TheVariants as which
 use Rattle.venue_types.specs.declared.settings.Settings.{Settings}
+use Rattle.std.proofs.lemmas.List.Elements.{All-contains}
 use mathlib.Core.List.{IsPrefix}
 use Rattle.venue_hall.specs.Venues.{SeenVenue as Venue}
 use Rattle.venue_hall.specs.Built.{IsRejected, IsVenueOf}
@@ -20,7 +21,7 @@ use Rattle.venue_hall.specs.Shelves.{Shelf}
 use Rattle.venue_hall.specs.Act.{Act}
 use Rattle.venue_hall.specs.Act.TheVariants as act
 use Rattle.venue_hall.specs.Entry.{Entry}
-use Rattle.venue_hall.specs.Answers.{IsTooEarly, AnswersAsk, Answers}
+use Rattle.venue_hall.specs.Answers.{IsTooEarly, IsPlace, AnswersAsk, Answers}
 use Rattle.venue_hall.specs.Changes.{Makes, Breaks, IsActOf, TellsOf, Refuses, StandsSo, StandsOtherwise, stands_so, IsRefused, IsAccepted, IsAcceptedIf, Changes}
 use Rattle.venue_hall.specs.Closed.{Version}
 use Rattle.venue_hall.specs.Histories.{Replays}
@@ -42,6 +43,12 @@ told_kind v (ask.Route from to name certificate) (reply.NoPlace which.From) ther
 told_kind v (ask.Route from to name certificate) (reply.NoPlace which.To) there is = absurd (cc (is.2, there.2.1))
 told_kind v (ask.Route from to name certificate) (reply.Route number from' to' name' start cost steps potentials) there is = inl refl
 told_kind v (ask.Route from to name certificate) (reply.NoRoute number from' to' name' reached) there is = inr refl
+told_kind v (ask.Tour asked) reply.NoProfile there is = absurd (cc (is, there.0.1))
+told_kind v (ask.Tour asked) (reply.NoPlace which.From) there is = absurd (cc (is.1, there.1.1))
+told_kind v (ask.Tour asked) (reply.NoPlace which.To) there is = absurd (cc (is.2, there.2.1))
+told_kind v (ask.Tour asked) (reply.NoPlace which.Stop) there is = absurd (let stands = All-contains (IsPlace v) asked.stops is.3 there.3 is.4 in cc (is.5, stands.1))
+told_kind v (ask.Tour asked) (reply.Tour it) there is = inl refl
+told_kind v (ask.Tour asked) (reply.NoTour it) there is = inr refl
 told_kind v _ _ there is = absurd is
 
 too_early : (v : Version) (since : Option ℕ) (n : ℕ) → since ≡ Some n → v.number < n → IsTooEarly v since

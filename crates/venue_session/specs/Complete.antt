@@ -1,5 +1,5 @@
 -- What a request gets to which no refusal applies.
-use Rattle.std.specs.Prelude.{◌≡◌, ◌⊎◌, ◌<◌, Option}
+use Rattle.std.specs.Prelude.{◌≡◌, ◌⊎◌, ◌<◌, All, Option}
 use Rattle.wire_replies.specs.declared.response.Response.{Response}
 use Rattle.wire_replies.specs.declared.response.Response.TheVariants.{Of, No, Bare}
 use Rattle.venue_types.specs.declared.query.Ask.{Ask}
@@ -12,23 +12,25 @@ use Rattle.venue_hall.specs.Shelves.{Shelf}
 use Rattle.venue_hall.specs.Answers.{HasProfile, IsPlace}
 use Rattle.venue_hall.specs.Changes.{Makes, IsClosureFor}
 use Rattle.venue_hall.specs.Closed.{Version}
-use Rattle.venue_hall.specs.Replies.{ReplyKind, kind_of, version, places, place, closures, route, no_route, closure_done, published, folder_fault, out_of_memory}
+use Rattle.venue_hall.specs.Replies.{ReplyKind, kind_of, version, places, place, closures, route, no_route, tour, no_tour, closure_done, published, folder_fault, out_of_memory}
 
--- what a question names is there: a place, and for a route a profile and both places
+-- what a question names is there: a place; for a route a profile and both places; and for a tour its stops too
 abbrev pub IsThere : Version → Ask → Type 0
 IsThere v ask.Version = Unit {0}
 IsThere v ask.Places = Unit {0}
 IsThere v (ask.Place id) = IsPlace v id
 IsThere v ask.Closures = Unit {0}
 IsThere v (ask.Route from to name certificate) = HasProfile v name × IsPlace v from × IsPlace v to
+IsThere v (ask.Tour asked) = HasProfile v asked.profile × IsPlace v asked.from × IsPlace v asked.to × All (IsPlace v) asked.stops
 
--- the reply is of the kind that the question asks for; a route's may say that there is none
+-- the reply is of the kind that the question asks for; a route's or a tour's may say that there is none
 abbrev pub IsOfKind : Ask → ReplyKind → Type 0
 IsOfKind ask.Version kind = kind ≡ version
 IsOfKind ask.Places kind = kind ≡ places
 IsOfKind (ask.Place id) kind = kind ≡ place
 IsOfKind ask.Closures kind = kind ≡ closures
 IsOfKind (ask.Route from to name certificate) kind = (kind ≡ route) ⊎ (kind ≡ no_route)
+IsOfKind (ask.Tour asked) kind = (kind ≡ tour) ⊎ (kind ≡ no_tour)
 
 -- there is room for one version more
 abbrev pub HasRoom : Version → Type 0

@@ -3,16 +3,18 @@ use Rattle.std.specs.Prelude.{◌≡◌, ◌⊎◌, ℕ, ◌≤◌, ◌^◌, Boo
 use Rattle.std.specs.List.{flat_map}
 use mathlib.Core.List.{IsPrefix}
 use Rattle.venue_types.specs.declared.link.Link.{Link}
+use Rattle.venue_types.specs.Tours.{Tour}
 use Rattle.venue_types.specs.declared.reply.Reply.TheVariants as reply
 use Rattle.venue_types.specs.declared.settings.Profile.{Profile}
 use Rattle.walk_laws.specs.Walks.{HasNoWalk, IsLeast}
 use Rattle.venue_hall.specs.Views.{link_view}
 use Rattle.venue_hall.specs.Shelves.{Shelf}
 use Rattle.venue_hall.specs.Entry.{Entry}
-use Rattle.venue_hall.specs.Answers.{IsTrip}
+use Rattle.venue_hall.specs.Answers.{IsTrip, RepeatsTrip}
 use Rattle.venue_hall.specs.Changes.{Changes}
 use Rattle.venue_hall.specs.Closed.{Version}
 use Rattle.venue_hall.specs.Histories.{IsLegal, Replays}
+use Rattle.venue_hall.specs.Tours.{IsTour, IsNoTour}
 use Rattle.venue_hall.specs.Ways.{Usable, name_of, step_of}
 use Rattle.venue_hall.specs.Facts.{IsAnswered}
 use Rattle.wire_frames.specs.Frames.{IsShort, IsRefused}
@@ -48,8 +50,8 @@ IsRight shelf worker before (Message.Bare refusal) (Bare given) seen = given ≡
 IsRight shelf worker before Message.Unread (Of r) seen = r ≡ reply.OutOfMemory
 IsRight shelf worker before _ _ seen = ⊥
 
--- a route is a walk from the start over open links that the profile may use, and none costs less; where it is said that there is none,
--- there is none; the other replies tell of no walk, and one that is added needs its own equation
+-- a route is a walk from the start over open links that the profile may use, and none costs less; a tour is of such walks by all stops, and in no order
+-- do any cost less; where it is said that there is none, there is none; the other replies tell of no walk, and one that is added needs its own equation
 abbrev pub TellsTheWay : List Entry → Response → Type 0
 TellsTheWay seen (Of (reply.Route number from to name start cost steps potentials)) =
     (v : Version) × (place : ℕ) × (profile : Profile) × (a : ℕ) × (b : ℕ) × Replays seen v × (number ≡ v.number) × IsTrip v from to name place profile a b
@@ -57,6 +59,12 @@ TellsTheWay seen (Of (reply.Route number from to name start cost steps potential
 TellsTheWay seen (Of (reply.NoRoute number from to name reached)) =
     (v : Version) × (place : ℕ) × (profile : Profile) × (a : ℕ) × (b : ℕ) × Replays seen v × (number ≡ v.number) × IsTrip v from to name place profile a b
     × HasNoWalk link_view (Usable v place profile) a b
+TellsTheWay seen (Of (reply.Tour it)) =
+    (v : Version) × (asked : Tour) × Replays seen v × (it.number ≡ v.number) × RepeatsTrip asked.from asked.to asked.profile it.from it.to it.profile
+    × IsTour v asked it.order it.cost it.legs
+TellsTheWay seen (Of (reply.NoTour it)) =
+    (v : Version) × (asked : Tour) × Replays seen v × (it.number ≡ v.number) × RepeatsTrip asked.from asked.to asked.profile it.from it.to it.profile
+    × (it.stops ≡ asked.stops) × IsNoTour v asked
 TellsTheWay seen (Of (reply.Version number closed places)) = Unit {0}
 TellsTheWay seen (Of (reply.Places number rows)) = Unit {0}
 TellsTheWay seen (Of (reply.Place told)) = Unit {0}

@@ -1,6 +1,7 @@
 //! The bytes that were read and wait to be acted on.
 
 ghost use Rattle.std.specs.Prelude.{◌≡◌, ◌+◌, ◌-◌, ◌≤◌, ◌<◌, [], ◌++◌, ℕ, List, length, take, drop, slice_range, IfOk, OnErr};
+ghost use Rattle.std.specs.Vec.{vec_capacity};
 ghost use Rattle.std.specs.Io.KnownBytes.{Consumes, IsAtEnd};
 ghost use Rattle.venue_ports.specs.Causes.{HasExactCause};
 ghost use Rattle.venue_ports.specs.Moves.{MovesIn};
@@ -14,7 +15,10 @@ use venue_types::OutOfMemory;
 /// Room for more than ever waits: a head of 16,384 bytes and a body of 65,536 make the longest message.
 pub(crate) const ROOM: usize = 81_920;
 
-/// A buffer in which bytes wait from a start to an end. All its memory is taken when it is made.
+// How much of the room is made ready at first: more than most messages take. To fill all of it would cost more than to answer one of them.
+const FIRST: usize = 4_096;
+
+/// A buffer in which bytes wait from a start to an end. All its memory is taken when it is made, and filled when it is read into.
 #[derive(Drop)]
 pub(crate) struct Input {
     bytes: Vec<u8>,
@@ -23,13 +27,14 @@ pub(crate) struct Input {
 }
 
 impl Model for Input {
-    ghost use Rattle.std.specs.Prelude.{◌≡◌, ◌≤◌, ℕ, List, length, slice_range};
+    ghost use Rattle.std.specs.Prelude.{◌≤◌, ℕ, List, length, slice_range};
+    ghost use Rattle.std.specs.Vec.{vec_capacity};
 
     ghost Value = { List ℕ };
 
     ghost view = { λ a. slice_range a.bytes.items a.start a.end };
 
-    ghost invariant = { λ a. (a.start ≤ a.end) × (a.end ≤ 81920) × (length a.bytes.items ≡ 81920) };
+    ghost invariant = { λ a. (a.start ≤ a.end) × (a.end ≤ length a.bytes.items) × (length a.bytes.items ≤ 81920) × (81920 ≤ vec_capacity a.bytes) };
 }
 
 // Moves the bytes from a start to an end to the front.
@@ -38,9 +43,26 @@ fn move_to_front(bytes: &mut Vec<u8>, start: usize, end: usize)
     requires within { end ≤ length bytes.old.items }
     ensures front { take (end - start) bytes.new.items ≡ slice_range bytes.old.items start end }
     ensures room { length bytes.new.items ≡ length bytes.old.items }
+    ensures capacity { vec_capacity bytes.new ≡ vec_capacity bytes.old }
 {
     if start > 0 {
         bytes.copy_within(start..end, 0);
+    }
+}
+
+// Makes more of the room ready, where none is behind the end.
+fn make_ready(bytes: &mut Vec<u8>, end: usize)
+    requires within { end ≤ length bytes.old.items }
+    requires left { end < 81920 }
+    requires most { length bytes.old.items ≤ 81920 }
+    requires room { 81920 ≤ vec_capacity bytes.old }
+    ensures front { take end bytes.new.items ≡ take end bytes.old.items }
+    ensures ready { end < length bytes.new.items }
+    ensures most { length bytes.new.items ≤ 81920 }
+    ensures capacity { 81920 ≤ vec_capacity bytes.new }
+{
+    if end == bytes.len() {
+        let _in_the_room = bytes.resize(if end < FIRST { FIRST } else { ROOM }, 0);
     }
 }
 
@@ -53,6 +75,7 @@ fn read_behind<L: Stream>(
     requires { end < length bytes.old.items }
     ensures kept { take end bytes.new.items ≡ take end bytes.old.items }
     ensures room { length bytes.new.items ≡ length bytes.old.items }
+    ensures capacity { vec_capacity bytes.new ≡ vec_capacity bytes.old }
     ensures bound { IfOk result (λ count. end + count ≤ length bytes.old.items) }
     ensures bytes { MovesIn (L.left connection.old) (L.left connection.new) result (drop end bytes.new.items) }
     ensures written { L.written connection.new ≡ L.written connection.old }
@@ -67,7 +90,7 @@ impl Input {
     pub(crate) fn new(alloc: Global) -> Result<Input, OutOfMemory>
         ensures { IfOk result (λ input. input ≡ []) }
     {
-        let bytes = vec![in alloc; 0; ROOM]?;
+        let bytes = Vec::with_capacity(alloc, ROOM)?;
         Ok(Input {
             bytes,
             start: 0,
@@ -105,6 +128,7 @@ impl Input {
         move_to_front(&mut self.bytes, self.start, self.end);
         self.end -= self.start;
         self.start = 0;
+        make_ready(&mut self.bytes, self.end);
         let count = read_behind(connection, &mut self.bytes, self.end)?;
         self.end += count;
         Ok(count)

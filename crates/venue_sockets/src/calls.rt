@@ -61,7 +61,7 @@ pub(crate) fn read_at_once(stream: &TcpStream, buf: &mut [u8]) -> Result<Option<
     read
 }
 
-// Sends each piece at once, and waits for a slice in a call.
+// Has calls wait for a slice, and each piece sent at once.
 fn set_options(stream: &TcpStream) -> io::Result<()> {
     let slice = Duration::from_millis(SLICE_MILLIS);
     stream.set_nonblocking(false)?;
@@ -70,13 +70,9 @@ fn set_options(stream: &TcpStream) -> io::Result<()> {
     stream.set_write_timeout(Some(slice))
 }
 
-/// A connection of the lobby as a worker has it.
-pub(crate) fn made_ready(stream: mio::net::TcpStream) -> Result<TcpStream, Failed> {
-    let stream = TcpStream::from(stream);
-    match set_options(&stream) {
-        Ok(()) => Ok(stream),
-        Err(_) => Err(Failed),
-    }
+/// From now on a call at the socket waits for a slice, and each piece is sent at once. Until then none waits.
+pub(crate) fn let_wait(stream: &TcpStream) -> Result<(), Failed> {
+    set_options(stream).map_err(|_| Failed)
 }
 
 /// Tells the other side that no more comes.

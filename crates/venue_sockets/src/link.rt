@@ -7,7 +7,7 @@ ghost use Rattle.venue_sockets.specs.declared.limits.Awaited.TheVariants.{Bytes,
 ghost use Rattle.venue_sockets.specs.declared.limits.Behind.TheVariants.{Nobody};
 ghost use Rattle.venue_sockets.specs.Limits.{most_nanos};
 
-use crate::calls::{end_output, now, read_at_once, read_slice, since, write_slice};
+use crate::calls::{end_output, let_wait, now, read_at_once, read_slice, since, write_slice};
 use crate::limits::{Awaited, Behind, ONE_CALL_SECS, SLICE_MILLIS, most};
 use crate::lobby::Lobby;
 use crate::waits::Waiting;
@@ -30,11 +30,15 @@ const LAST_READ: usize = 4_096;
 ///
 /// So a connection that pauses ends by a failed read, at once while somebody else has a whole request and no worker is free. For its
 /// client that is a close, and it connects anew.
+///
+/// What the system is told of waiting is told when a call first has to wait. A client that asks once and is answered at once costs none of it.
 pub struct LobbyLink<'a, R: Clock> {
     rt: &'a R,
     lobby: &'a Lobby,
     stream: TcpStream,
     waiting: Waiting,
+    may_wait: bool,
+    has_written: bool,
     ended: bool,
     faults: u64,
 }
@@ -51,6 +55,8 @@ impl<'a, R: Clock> LobbyLink<'a, R> {
             lobby,
             stream,
             waiting: Waiting::new(),
+            may_wait: false,
+            has_written: false,
             ended: false,
             faults: 0,
         }
@@ -63,6 +69,17 @@ impl<'a, R: Clock> LobbyLink<'a, R> {
     {
         self.faults = self.faults.saturating_add(1);
         Failed
+    }
+
+    // Lets the calls at the socket wait, where they don't yet.
+    fn let_wait(&mut self) -> Result<(), Failed>
+        ensures { self.new ≡ record self.old { may_wait = self.new.may_wait } }
+    {
+        if !self.may_wait {
+            let_wait(&self.stream)?;
+            self.may_wait = true;
+        }
+        Ok(())
     }
 
     // Who waits behind. It takes a look from the time on at which others, who are fewer than a crowd, are not kept waiting any more.
@@ -119,7 +136,6 @@ impl<'a, R: Clock> LobbyLink<'a, R> {
         ensures { IfOk result (λ n. n ≤ length buf.old) }
     {
         let before = self.waiting.reading();
-        self.begin(Awaited::Bytes, before)?;
         for _ in 0..MOST_SLICES {
             if let Some(count) = self.read_slice(buf)? {
                 return Ok(count);
@@ -129,12 +145,27 @@ impl<'a, R: Clock> LobbyLink<'a, R> {
         Err(Failed)
     }
 
+    // Reads what is there already, where no call waits yet, and else slice by slice.
+    fn read_bytes(&mut self, buf: &mut [u8], from: Duration) -> Result<usize, Failed>
+        ensures bound { IfOk result (λ n. n ≤ length buf.old) }
+        ensures kept { self.new ≡ record self.old { may_wait = self.new.may_wait } }
+    {
+        self.begin(Awaited::Bytes, self.waiting.reading())?;
+        if !self.may_wait {
+            let mut stream = &self.stream;
+            if let Some(count) = read_slice(&mut stream, buf)? {
+                return Ok(count);
+            }
+            self.let_wait()?;
+        }
+        self.read_slices(buf, from)
+    }
+
     // Writes slice by slice.
     fn write_slices(&self, piece: &[u8], from: Duration) -> Result<usize, Failed>
         ensures { IfOk result (λ n. (0 < n) × (n ≤ length piece.now)) }
     {
         let before = self.waiting.writing();
-        self.begin(Awaited::Room, before)?;
         let mut stream = &self.stream;
         for _ in 0..MOST_SLICES {
             if let Some(count) = write_slice(&mut stream, piece)? {
@@ -143,6 +174,23 @@ impl<'a, R: Clock> LobbyLink<'a, R> {
             self.go_on(Awaited::Room, before, from)?;
         }
         Err(Failed)
+    }
+
+    // Writes what is taken at once, where no call waits yet and nothing was written, and else slice by slice.
+    fn write_bytes(&mut self, piece: &[u8], from: Duration) -> Result<usize, Failed>
+        ensures bound { IfOk result (λ n. (0 < n) × (n ≤ length piece.now)) }
+        ensures kept { self.new ≡ record self.old { may_wait = self.new.may_wait; has_written = self.new.has_written } }
+    {
+        self.begin(Awaited::Room, self.waiting.writing())?;
+        if !self.may_wait && !self.has_written {
+            self.has_written = true;
+            let mut stream = &self.stream;
+            if let Some(count) = write_slice(&mut stream, piece)? {
+                return Ok(count);
+            }
+        }
+        self.let_wait()?;
+        self.write_slices(piece, from)
     }
 
     // Reads where the reads are within their limit.
@@ -160,7 +208,7 @@ impl<'a, R: Clock> LobbyLink<'a, R> {
             return Err(Failed);
         }
         let from = now(self.rt)?;
-        let moved = self.read_slices(buf, from);
+        let moved = self.read_bytes(buf, from);
         self.waiting
             .was_read(since(self.rt, from)?, matches!(moved, Ok(1..)));
         self.ended |= moved == Ok(0);
@@ -180,7 +228,7 @@ impl<'a, R: Clock> LobbyLink<'a, R> {
             return Err(Failed);
         }
         let from = now(self.rt)?;
-        let moved = self.write_slices(piece, from);
+        let moved = self.write_bytes(piece, from);
         self.waiting
             .was_written(since(self.rt, from)?, moved.is_ok());
         moved
@@ -200,9 +248,11 @@ impl<'a, R: Clock> LobbyLink<'a, R> {
 
     // Takes what the client still sends, for as long as may be. If the socket were closed with bytes in it, then the client would lose what
     // it has not read.
-    fn take_rest(&self) -> Result<(), Failed> {
+    fn take_rest(&mut self) -> Result<(), Failed> {
         let from = now(self.rt)?;
         end_output(&self.stream)?;
+        self.go_on(Awaited::End, Duration::ZERO, from)?;
+        self.let_wait()?;
         let mut buf = [0; LAST_READ];
         for _ in 0..LAST_READS {
             if self.rest_slices(&mut buf, from)? == 0 {
@@ -264,7 +314,7 @@ impl<'a, R: Clock> Stream for LobbyLink<'a, R> {
 }
 
 impl<'a, R: Clock> Drop for LobbyLink<'a, R> {
-    fn drop(self) {
+    fn drop(mut self) {
         if self.faults == 0 && !self.ended {
             let _ = self.take_rest();
         }
@@ -273,6 +323,8 @@ impl<'a, R: Clock> Drop for LobbyLink<'a, R> {
             lobby: _,
             stream: _,
             waiting: _,
+            may_wait: _,
+            has_written: _,
             ended: _,
             faults: _,
         } = self;

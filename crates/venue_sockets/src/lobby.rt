@@ -1,6 +1,5 @@
 //! Where connections wait without a worker, shared by the doors and the links.
 
-use crate::calls::made_ready;
 use crate::door::Door;
 use crate::limits::{Behind, behind_of};
 use crate::pool::Pool;
@@ -46,9 +45,7 @@ impl Lobby {
             match pool.next_ready() {
                 Some(stream) => {
                     self.note(pool.ready_count());
-                    if let Ok(stream) = made_ready(stream) {
-                        return Ok(stream);
-                    }
+                    return Ok(TcpStream::from(stream));
                 }
                 None => {
                     pool.wait(rt)?;

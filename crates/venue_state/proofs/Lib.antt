@@ -5,8 +5,14 @@ pub mod NameLemmas
 pub mod NamedSets
 pub mod Placing
 pub mod Routes
+pub mod TourSearches
+pub mod TourTables
+pub mod TourOrders
+pub mod TourAnswers
 pub mod Replying
 pub mod Readying
 pub mod Entering
 pub mod FirstEntries
 pub mod NextEntries
+pub mod Refusing
+pub mod Stands

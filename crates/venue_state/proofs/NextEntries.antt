@@ -62,7 +62,7 @@ not_lacking v (Closed it) all fits lacks = lacks fits.1
 not_lacking v (Reopened it) all fits lacks =
     lacks (All-contains (Contains (closables v.features)) (closed_ids v) it.feature all (listed_any v.closed it.feature it.profiles fits.1))
 
-not_done : (v : Version) (a : Act) → Fits v a → IsDone v a → ⊥
+pub not_done : (v : Version) (a : Act) → Fits v a → IsDone v a → ⊥
 not_done v (Published venue) fits done = done
 not_done v (Closed it) fits done = fits.2 done.1
 not_done v (Reopened it) fits done = done.1 fits.1

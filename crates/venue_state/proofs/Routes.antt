@@ -24,7 +24,7 @@ use Rattle.venue_history.specs.Answers.{IfAsked, IsTrip, AreReached, IsNoRoute}
 use Rattle.venue_state.specs.Boards.{closed_by}
 use Rattle.venue_state.proofs.Marking.{chosen_for}
 
-walk_over : (P Q : Link → Type 0) → ((link : Link) → P link → Q link) → (walk : List Link) (a b : ℕ) → IsWalk link_view P a b walk → IsWalk link_view Q a b walk
+pub walk_over : (P Q : Link → Type 0) → ((link : Link) → P link → Q link) → (walk : List Link) (a b : ℕ) → IsWalk link_view P a b walk → IsWalk link_view Q a b walk
 walk_over P Q over [] a b w = w
 walk_over P Q over (link ∷ links) a b w = (over link w.0, w.1, walk_over P Q over links link.to b w.2)
 
@@ -64,20 +64,28 @@ marked_is v given marks number net e =
     ap (chosen (has number) marks) net.closables_are ∙ chosen_for number marks (closables v.features)
     ∙ ap (λ (closed : List Closing). map feature_of (filter (λ (it : Closing). has number it.profiles) closed)) e
 
+-- what can be passed over the graph is what can be used at the version
+pub version_links : PassesUsable → (v : Version) (given : Network) (marks : List ProfileSet) (number : ℕ) (profile : Profile)
+    → IsNetworkOf v.features v.settings given → closed_by marks (closables v.features) ≡ v.closed
+    → (link : Link) → IsPassable given (marked given marks number) profile link ↔ Usable v number profile link
+version_links law v given marks number profile net closed_is link =
+    let same = marked_is v given marks number net closed_is in (
+      (λ p.
+          let u = (law v.features v.settings given (closed_for v number) profile link net).0 (subst (λ (closed : List FeatureId). IsPassable given closed profile link) same p) in
+          record { there = u.there; allowed = u.allowed; free = u.free }),
+      (λ (q : Usable v number profile link).
+          subst (λ (closed : List FeatureId). IsPassable given closed profile link) (sym same)
+          ((law v.features v.settings given (closed_for v number) profile link net).1 (record { there = q.there; allowed = q.allowed; free = q.free }))),
+    )
+
 -- an answer over the graph is one at the version
 pub version_answer : PassesUsable → (v : Version) (given : Network) (marks : List ProfileSet) (number : ℕ) (profile : Profile) (a b : ℕ) (found : Found)
     → IsNetworkOf v.features v.settings given → closed_by marks (closables v.features) ≡ v.closed
     → IsAnswer (IsPassable given (marked given marks number) profile) a b found → IsAnswer (Usable v number profile) a b found
 version_answer law v given marks number profile a b found net closed_is =
-    let same = marked_is v given marks number net closed_is in
     answer_over (IsPassable given (marked given marks number) profile) (Usable v number profile)
-    (λ link p.
-    let u = (law v.features v.settings given (closed_for v number) profile link net).0 (subst (λ (closed : List FeatureId). IsPassable given closed profile link) same p) in
-    record { there = u.there; allowed = u.allowed; free = u.free })
-    (λ link q.
-    subst (λ (closed : List FeatureId). IsPassable given closed profile link) (sym same)
-    ((law v.features v.settings given (closed_for v number) profile link net).1 (record { there = q.there; allowed = q.allowed; free = q.free })))
-    a b found
+    (λ link. (version_links law v given marks number profile net closed_is link).0)
+    (λ link. (version_links law v given marks number profile net closed_is link).1) a b found
 
 asked_so : {X : Type 0} (certificate : Bool) (o : Option X) (P Q : X → Type 0) → ((x : X) → P x → Q x) → IfAsked certificate P o → IfAsked certificate Q o
 asked_so true (Some x) P Q so p = so x p

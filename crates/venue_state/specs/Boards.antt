@@ -21,12 +21,12 @@ version_of stand = record {
   number = stand.number;
   features = (arc_value stand.venue).features;
   settings = arc_value stand.settings;
-  closed = closed_by stand.marks (closables (arc_value stand.venue).features);
+  closed = closed_by stand.tally.marks (closables (arc_value stand.venue).features);
 }
 
 -- the marks are those of the venue, the count is theirs, the settings are the venue's, and the number is no later than the last
 pub record IsStand (stand : Stand) : Type 0 where
-  pub marks_are : length stand.marks ≡ length (closables (arc_value stand.venue).features)
-  pub count_is : stand.closed ≡ length (closed_by stand.marks (closables (arc_value stand.venue).features))
+  pub marks_are : length stand.tally.marks ≡ length (closables (arc_value stand.venue).features)
+  pub count_is : stand.tally.closed ≡ length (closed_by stand.tally.marks (closables (arc_value stand.venue).features))
   pub settings_are : (arc_value stand.venue).settings ≡ arc_value stand.settings
   pub number_is : stand.number ≤ (arc_value stand.settings).last_version

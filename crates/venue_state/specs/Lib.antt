@@ -2,6 +2,8 @@ pub mod Boards
 pub mod Preparing
 pub mod Tallies
 pub mod Making
+pub mod Replaying
+pub mod Touring
 pub use Rattle.venue_history.specs.Venues
 pub use Rattle.venue_history.specs.Report
 pub use Rattle.venue_history.specs.Versions

@@ -1,6 +1,6 @@
 //! Boards.
 
-ghost use Rattle.std.specs.Prelude.{◌≡◌, ◌+◌, ◌≤◌, length, IfOk, IfSome, IfNone};
+ghost use Rattle.std.specs.Prelude.{◌≡◌, length, IfOk};
 ghost use Rattle.std.specs.Arc.{arc_value};
 ghost use Rattle.route_search.specs.Nodes.{closables};
 ghost use Rattle.route_search.specs.Graphs.{network};
@@ -46,17 +46,8 @@ impl Board {
         requires { (arc_value venue).settings ≡ arc_value settings }
         ensures { IfOk result (λ board. board ≡ opening (arc_value venue).features (arc_value settings)) }
     {
-        let marks = Marks::none(alloc, venue.graph())?;
-        Board::of(
-            alloc,
-            Stand {
-                number: 1,
-                venue,
-                marks,
-                closed: 0,
-                settings,
-            },
-        )
+        let stand = Stand::first(alloc, venue, settings)?;
+        Board::of(alloc, stand)
     }
 
     /// The board of what it keeps.
@@ -84,17 +75,12 @@ impl Board {
         self.stand.number
     }
 
-    /// The number of the next version, if there may be one.
-    #[tactic(auto, unfolding(crate::specs::Boards::version_of))]
-    pub(crate) fn next_number(&self) -> Option<u32>
-        ensures none { IfNone result (self.now.number ≡ self.now.settings.last_version) }
-        ensures some { IfSome result (λ n. (n ≡ self.now.number + 1) × (n ≤ self.now.settings.last_version)) }
+    /// What it keeps.
+    pub(crate) fn stand(&self) -> &Stand
+        ensures stands { IsStand result.now }
+        ensures version { version_of result.now ≡ self.now }
     {
-        if self.stand.number < self.stand.settings.last_version {
-            Some(self.stand.number + 1)
-        } else {
-            None
-        }
+        &self.stand
     }
 
     /// The closing of a feature for all profiles of the settings.
@@ -113,7 +99,7 @@ impl Board {
     pub(crate) fn closed_count(&self) -> u32
         ensures { result ≡ closed_count self.now }
     {
-        self.stand.closed
+        self.stand.tally.closed
     }
 
     /// Its rows and its places.
@@ -121,15 +107,6 @@ impl Board {
     pub(crate) fn venue(&self) -> &Venue
         ensures features { result.now.features ≡ self.now.features }
         ensures settings { result.now.settings ≡ self.now.settings }
-    {
-        &self.stand.venue
-    }
-
-    /// The handle to them.
-    #[tactic(auto, unfolding(crate::specs::Boards::version_of))]
-    pub(crate) fn venue_handle(&self) -> &Arc<Venue>
-        ensures features { (arc_value result.now).features ≡ self.now.features }
-        ensures settings { (arc_value result.now).settings ≡ self.now.settings }
     {
         &self.stand.venue
     }
@@ -155,6 +132,6 @@ impl Board {
         ensures whole { length result.now ≡ length (closables self.now.features) }
         ensures closed { closed_by result.now (closables self.now.features) ≡ self.now.closed }
     {
-        &self.stand.marks
+        &self.stand.tally.marks
     }
 }

@@ -1,4 +1,4 @@
-//! What is closed at a board's version, and for whom.
+//! What is closed at a version, and for whom.
 
 ghost use Rattle.std.specs.Prelude.{◌≡◌, ◌≢◌, IfOk, IfSome, IfNone, AllPairs, Contains, map};
 ghost use Rattle.route_search.specs.Graphs.{network};
@@ -6,22 +6,24 @@ ghost use Rattle.route_search.specs.Marking.{AreMarksOf};
 ghost use Rattle.route_search.specs.Nodes.{closables};
 ghost use Rattle.venue_history.specs.Closed.{feature_of, set_in, closed_ids, closed_set, closed_row, closed_rows};
 ghost use Rattle.venue_history.specs.Versions.{closings};
-ghost use Rattle.venue_state.specs.Boards.{closed_by};
+ghost use Rattle.venue_state.specs.Boards.{IsStand, closed_by, version_of};
 ghost use Rattle.venue_state.specs.Tallies.{IsTally, gone_from};
 
 use crate::board::Board;
 use crate::profile_names::named;
+use crate::stand::Stand;
 use crate::tally::{Tally, mark};
 use route_search::{Graph, Marks};
 use std::alloc::Global;
 use venue_history::Closing;
 use venue_types::{ClosedRow, FeatureId, List, OutOfMemory, ProfileSet, Settings};
 
-impl Board {
+impl Stand {
     /// For whom a feature is closed, if it can be closed.
     pub(crate) fn state(&self, id: FeatureId) -> Option<ProfileSet>
-        ensures none { IfNone result (¬ Contains (closables self.now.features) id) }
-        ensures some { IfSome result (λ set. Contains (closables self.now.features) id × (set ≡ closed_set self.now id)) }
+        requires { IsStand self.now }
+        ensures none { IfNone result (¬ Contains (closables (version_of self.now).features) id) }
+        ensures some { IfSome result (λ set. Contains (closables (version_of self.now).features) id × (set ≡ closed_set (version_of self.now) id)) }
     {
         self.order_law();
         match self.graph().closable(id) {
@@ -32,7 +34,8 @@ impl Board {
 
     /// For whom a feature is closed: what can't be closed is so for nobody.
     pub(crate) fn closed_set(&self, id: FeatureId) -> ProfileSet
-        ensures { result ≡ closed_set self.now id }
+        requires { IsStand self.now }
+        ensures { result ≡ closed_set (version_of self.now) id }
     {
         self.order_law();
         match self.state(id) {
@@ -43,9 +46,10 @@ impl Board {
 
     /// What can be closed stands once, and so does what is closed, in the order of it.
     pub(crate) fn order_law(&self)
-        ensures once { AllPairs (λ a b. a ≢ b) (closables self.now.features) }
-        ensures order { self.now.closed ≡ closings (closed_set self.now) (closables self.now.features) }
-        ensures closed_once { AllPairs (λ a b. a ≢ b) (closed_ids self.now) }
+        requires { IsStand self.now }
+        ensures once { AllPairs (λ a b. a ≢ b) (closables (version_of self.now).features) }
+        ensures order { (version_of self.now).closed ≡ closings (closed_set (version_of self.now)) (closables (version_of self.now).features) }
+        ensures closed_once { AllPairs (λ a b. a ≢ b) (closed_ids (version_of self.now)) }
     {
         self.graph().range_law();
         let _marks = self.marks();
@@ -53,30 +57,36 @@ impl Board {
 
     /// What is closed and for whom, in order.
     pub(crate) fn closed_list(&self, alloc: Global) -> Result<List<Closing>, OutOfMemory>
-        ensures { IfOk result (λ closed. closed ≡ self.now.closed) }
+        requires { IsStand self.now }
+        ensures { IfOk result (λ closed. closed ≡ (version_of self.now).closed) }
     {
         let marks = self.marks();
         marked_list(alloc, self.graph(), marks)
+    }
+}
+
+impl Board {
+    /// For whom a feature is closed, if it can be closed.
+    pub(crate) fn state(&self, id: FeatureId) -> Option<ProfileSet>
+        ensures none { IfNone result (¬ Contains (closables self.now.features) id) }
+        ensures some { IfSome result (λ set. Contains (closables self.now.features) id × (set ≡ closed_set self.now id)) }
+    {
+        self.stand().state(id)
+    }
+
+    /// For whom a feature is closed: what can't be closed is so for nobody.
+    pub(crate) fn closed_set(&self, id: FeatureId) -> ProfileSet
+        ensures { result ≡ closed_set self.now id }
+    {
+        self.stand().closed_set(id)
     }
 
     /// What is closed, as a reply lists it.
     pub(crate) fn closed_rows(&self, alloc: Global) -> Result<List<ClosedRow>, OutOfMemory>
         ensures { IfOk result (λ rows. rows ≡ closed_rows self.now) }
     {
-        let closed = self.closed_list(alloc)?;
+        let closed = self.stand().closed_list(alloc)?;
         rows_of(alloc, self.settings(), closed.as_slice())
-    }
-
-    /// A copy of the marks, with their count.
-    pub(crate) fn tally(&self, alloc: Global) -> Result<Tally, OutOfMemory>
-        ensures tallied { IfOk result (IsTally (closables self.now.features)) }
-        ensures same { IfOk result (λ tally. closed_by tally.marks (closables self.now.features) ≡ self.now.closed) }
-    {
-        let marks = self.marks().copy(alloc)?;
-        Ok(Tally {
-            marks,
-            closed: self.closed_count(),
-        })
     }
 }
 

@@ -26,17 +26,17 @@ struct Trip {
     profile: Text,
 }
 
-// A profile of the settings, and its number there.
+/// A profile of the settings, and its number there.
 #[derive(Clone, Copy)]
-struct Numbered<'a> {
-    number: u8,
-    profile: &'a Profile,
+pub(crate) struct Numbered<'a> {
+    pub number: u8,
+    pub profile: &'a Profile,
 }
 
 impl Board {
-    // The profile of a name with its number, the first if there are several.
+    /// The profile of a name with its number, the first if there are several.
     #[tactic(auto, unfolding(venue_history::specs::Ways::profile_of))]
-    fn profile(&self, name: &Text) -> Option<Numbered<'_>>
+    pub(crate) fn profile(&self, name: &Text) -> Option<Numbered<'_>>
         ensures number { IfSome result (λ it. profile_number self.now.settings name.now ≡ Some it.number) }
         ensures profile { IfSome result (λ it. profile_of self.now.settings name.now ≡ Some it.profile.now) }
         ensures few { IfSome result (λ it. it.number < 16) }
@@ -50,8 +50,8 @@ impl Board {
         })
     }
 
-    // The node at which a place is.
-    fn node_of(&self, id: FeatureId) -> Option<u32>
+    /// The node at which a place is.
+    pub(crate) fn node_of(&self, id: FeatureId) -> Option<u32>
         ensures node { result ≡ place_of self.now.features id }
         ensures within { IfSome result (λ n. n < length (nodes self.now.features)) }
     {

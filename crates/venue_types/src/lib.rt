@@ -18,6 +18,7 @@ mod reply;
 mod room;
 mod settings;
 mod text;
+mod tour_query;
 
 pub use bytes::Bytes;
 pub use feature_id::{FeatureId, identifier_law, identifier_text_law};
@@ -36,8 +37,10 @@ pub use point::{Line, Part, Point, Ring, Shape, Spot};
 pub use profile_set::{ProfileSet, profile_set_law};
 pub use query::{Ask, Change, Closure, Query};
 pub use reply::{
-    ClosedRow, ClosureDone, ClosuresTold, Mark, PlaceRow, PlaceTold, Reply, StepRow, Which,
+    ClosedRow, ClosureDone, ClosuresTold, Leg, Mark, NoTourTold, PlaceRow, PlaceTold, Reply,
+    StepRow, TourTold, Which,
 };
 pub use room::{push_reserved, reserve};
 pub use settings::{Extras, Profile, Settings};
 pub use text::Text;
+pub use tour_query::TourQuery;

@@ -34,6 +34,37 @@ pub enum Which {
     From,
     To,
     Id,
+    /// The first of the stops that is none.
+    Stop,
+}
+
+/// A part of a tour, from one of its places to the next: what it costs in centimetres, and its steps.
+#[derive(Drop)]
+pub struct Leg {
+    pub cost: u64,
+    pub steps: List<StepRow>,
+}
+
+/// A tour as a reply tells it: the stops in an order that costs least, what all of it costs in centimetres, and its legs, one more than the stops.
+#[derive(Drop)]
+pub struct TourTold {
+    pub number: u32,
+    pub from: FeatureId,
+    pub to: FeatureId,
+    pub profile: Text,
+    pub order: List<FeatureId>,
+    pub cost: u64,
+    pub legs: List<Leg>,
+}
+
+/// What was asked where no order of the stops can be walked.
+#[derive(Drop)]
+pub struct NoTourTold {
+    pub number: u32,
+    pub from: FeatureId,
+    pub to: FeatureId,
+    pub profile: Text,
+    pub stops: List<FeatureId>,
 }
 
 /// A place as a reply tells it: whether it is closed for everybody, and where it is closed for some alone, the names of their profiles.
@@ -104,6 +135,10 @@ pub enum Reply {
         profile: Text,
         reached: Option<List<FeatureId>>,
     },
+    /// A cheapest tour.
+    Tour(TourTold),
+    /// There is no tour, in whatever order.
+    NoTour(NoTourTold),
     ClosureDone(ClosureDone),
     /// The folder is published; `dropped` are the closed features that it can't close any more.
     Published {

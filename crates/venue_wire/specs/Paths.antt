@@ -7,7 +7,7 @@ use Rattle.matchit.specs.Seek.{first, has_slash}
 use Rattle.wire_frames.specs.declared.refusals.Methods.{Methods}
 use Rattle.wire_frames.specs.declared.refusals.Methods.TheVariants.{Get, Post, Both}
 use Rattle.venue_wire.specs.declared.paths.Path.{Path}
-use Rattle.venue_wire.specs.declared.paths.Path.TheVariants.{Version, Places, Closures, Place, Route, Publish}
+use Rattle.venue_wire.specs.declared.paths.Path.TheVariants.{Version, Places, Closures, Place, Route, Tour, Publish}
 
 -- a route without a parameter
 abbrev pub fixed : List ℕ → Path → List ℕ × RouteOf Path
@@ -21,6 +21,7 @@ routes =
     ∷ fixed (codes "/v1/places") Places
     ∷ fixed (codes "/v1/publish") Publish
     ∷ fixed (codes "/v1/route") Route
+    ∷ fixed (codes "/v1/tour") Tour
     ∷ fixed (codes "/v1/version") Version
     ∷ []
 
@@ -28,13 +29,14 @@ routes =
 unfoldable pub route_of : List ℕ → Option Path
 route_of text = option_map (λ route. route.value) (first routes text)
 
--- the text is that of a path: one of five, or that of a place, whose identifier has a byte or more and no slash
+-- the text is that of a path: one of six, or that of a place, whose identifier has a byte or more and no slash
 abbrev pub IsTextOf : List ℕ → Path → Type 0
 IsTextOf text Version = text ≡ codes "/v1/version"
 IsTextOf text Places = text ≡ codes "/v1/places"
 IsTextOf text Closures = text ≡ codes "/v1/closures"
 IsTextOf text Place = (id : List ℕ) × (text ≡ codes "/v1/place/" ++ id) × (0 < length id) × (has_slash id ≡ false)
 IsTextOf text Route = text ≡ codes "/v1/route"
+IsTextOf text Tour = text ≡ codes "/v1/tour"
 IsTextOf text Publish = text ≡ codes "/v1/publish"
 
 -- the methods of each path
@@ -44,6 +46,7 @@ methods_of Places = Get
 methods_of Closures = Both
 methods_of Place = Get
 methods_of Route = Get
+methods_of Tour = Get
 methods_of Publish = Post
 
 -- the method is GET; it is POST

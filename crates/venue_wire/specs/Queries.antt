@@ -1,5 +1,6 @@
 -- What a query asks of a path (the URL Standard, section 5).
-use Rattle.std.specs.Prelude.{ℕ, ◌^◌, Bool, true, false, ◌&&◌, nat_lt, List, [], ◌∷◌, map, flat_map, codes, if◌then◌else◌, Option, Some, None, option_map, option_and_then, bytes_eq, decimal}
+use Rattle.std.specs.Prelude.{ℕ, ◌^◌, Bool, true, false, ◌&&◌, ◌==◌, nat_lt, List, [], ◌∷◌, map, flat_map, length, codes, if◌then◌else◌, Option, Some, None, option_map, option_and_then, bytes_eq, decimal}
+use Rattle.std.specs.List.{slice_split}
 use Rattle.std.specs.Str.Lossy.{utf8_lossy}
 use Rattle.std.specs.Str.Parse.{digits_value}
 use Rattle.form_urlencoded.specs.Form.{raw_pairs, decode}
@@ -8,7 +9,7 @@ use Rattle.venue_types.specs.declared.query.Ask.{Ask}
 use Rattle.venue_types.specs.declared.feature_id.FeatureId.{FeatureId}
 use Rattle.venue_types.specs.declared.query.Query.{Query}
 use Rattle.venue_wire.specs.declared.paths.Path.{Path}
-use Rattle.venue_wire.specs.declared.paths.Path.TheVariants.{Version, Places, Closures, Place, Route, Publish}
+use Rattle.venue_wire.specs.declared.paths.Path.TheVariants.{Version, Places, Closures, Place, Route, Tour, Publish}
 use Rattle.venue_wire.specs.Paths.{place_in}
 
 -- the text that a name or a value stands for: decoded, with U+FFFD for what is no UTF-8
@@ -63,6 +64,28 @@ route_asked query =
     (end_of (codes "to") query))
     (end_of (codes "from") query)
 
+-- the identifiers of these texts, where each is one
+abbrev pub identifiers_read : List (List ℕ) → Option (List FeatureId)
+identifiers_read [] = Some []
+identifiers_read (text ∷ texts) = option_and_then (λ id. option_map (λ ids. id ∷ ids) (identifiers_read texts)) (identifier_read text)
+
+-- the parts of a text between its commas
+abbrev pub comma_parts : List ℕ → List (List ℕ)
+comma_parts text = slice_split (λ byte. byte == 44) text
+
+-- the stops of a tour: one to eight identifiers with a comma between each two
+abbrev pub stops_read : List ℕ → Option (List FeatureId)
+stops_read text = if nat_lt 8 (length (comma_parts text)) then None else identifiers_read (comma_parts text)
+
+-- the tour that is asked for: both ends, the stops and the profile
+abbrev pub tour_asked : List ℕ → Option Ask
+tour_asked query =
+    option_and_then (λ from. option_and_then (λ to. option_and_then (λ stops. option_map (λ profile. Ask.Tour (record { from = from; to = to; stops = stops; profile = profile }))
+    (only_value (values_of (codes "profile") query)))
+    (option_and_then stops_read (only_value (values_of (codes "stops") query))))
+    (end_of (codes "to") query))
+    (end_of (codes "from") query)
+
 -- what is asked by GET of a path, in whose text a place's identifier stands, with a query
 abbrev pub ask_of : Path → List ℕ → List ℕ → Option Ask
 ask_of Version text query = Some Ask.Version
@@ -70,6 +93,7 @@ ask_of Places text query = Some Ask.Places
 ask_of Closures text query = Some Ask.Closures
 ask_of Place text query = option_map (λ id. Ask.Place id) (identifier_read (place_in text))
 ask_of Route text query = route_asked query
+ask_of Tour text query = tour_asked query
 ask_of Publish text query = None
 
 -- the same, with the version that is asked for at least

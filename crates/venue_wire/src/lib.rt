@@ -11,6 +11,7 @@ mod next_message;
 mod paths;
 mod query_pairs;
 mod query_values;
+mod stops;
 
 pub use front::Front;
 pub use laws::{

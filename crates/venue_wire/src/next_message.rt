@@ -64,7 +64,7 @@ fn take_framed(alloc: Global, front: &Front, framed: &Framed<'_>) -> Taken
 }
 
 /// What stands at the front, from these bytes alone, in time in proportion to them. A question takes no memory where its query
-/// has nothing encoded, but for a profile's name; a change takes as much as the values of its body do.
+/// has nothing encoded, but for a profile's name and for at most eight stops; a change takes as much as the values of its body do.
 pub fn take(alloc: Global, front: &Front, bytes: &[u8]) -> Taken
     ensures at { At front.now bytes.now result }
     ensures waits { IfMore result (WaitsFor bytes.now) }

@@ -19,6 +19,8 @@ pub enum Path {
     Place,
     /// `/v1/route`
     Route,
+    /// `/v1/tour`
+    Tour,
     /// `/v1/publish`
     Publish,
 }
@@ -27,7 +29,7 @@ pub(crate) fn methods_of(path: Path) -> Methods
     ensures { result ≡ methods_of path }
 {
     match path {
-        Path::Version | Path::Places | Path::Place | Path::Route => Methods::Get,
+        Path::Version | Path::Places | Path::Place | Path::Route | Path::Tour => Methods::Get,
         Path::Closures => Methods::Both,
         Path::Publish => Methods::Post,
     }

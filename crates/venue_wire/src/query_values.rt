@@ -1,16 +1,17 @@
 //! What a query asks of a path.
 
-ghost use Rattle.std.specs.Prelude.{◌≡◌, ◌<◌, false, [], IfOk, OnErr, codes, length};
+ghost use Rattle.std.specs.Prelude.{◌≡◌, ◌<◌, ◌≤◌, false, [], IfOk, IfSome, OnErr, codes, length, option_and_then};
 ghost use Rattle.venue_wire.specs.Messages.{asked};
 ghost use Rattle.venue_wire.specs.Paths.{place_in};
-ghost use Rattle.venue_wire.specs.Queries.{answer_read, ask_of, end_of, query_of, only_value, route_asked, since_of, value_or, values_of};
+ghost use Rattle.venue_wire.specs.Queries.{answer_read, ask_of, end_of, query_of, only_value, route_asked, since_of, stops_read, tour_asked, value_or, values_of};
 
 use crate::forms::{read_answer, read_number};
 use crate::messages::Message;
 use crate::paths::Path;
 use crate::query_pairs::{Sought, seek};
+use crate::stops::read_stops;
 use std::alloc::Global;
-use venue_types::{Ask, FeatureId, OutOfMemory, Query, Text};
+use venue_types::{Ask, FeatureId, List, OutOfMemory, Query, Text, TourQuery};
 use wire_frames::Refusal;
 
 // The version that is asked for at least, if any; none where the query isn't of its form.
@@ -28,7 +29,7 @@ fn since_of(alloc: Global, query: &[u8]) -> Result<Option<Option<u32>>, OutOfMem
     }
 }
 
-// The place at one end of a route.
+// The place at one end of a route or a tour.
 fn end_of(alloc: Global, query: &[u8], key: &str) -> Result<Option<FeatureId>, OutOfMemory>
     ensures value { IfOk result (λ place. place ≡ end_of key.now query.now) }
     ensures memory { OnErr result (0 < length query.now) }
@@ -91,6 +92,43 @@ fn route_asked(alloc: Global, query: &[u8]) -> Result<Option<Ask>, OutOfMemory>
     }))
 }
 
+// The stops of a tour.
+#[tactic(auto, using(crate::proofs::ValueLemmas::no_values))]
+fn stops_of(alloc: Global, query: &[u8]) -> Result<Option<List<FeatureId>>, OutOfMemory>
+    ensures value { IfOk result (λ stops. stops ≡ option_and_then stops_read (only_value (values_of (codes "stops") query.now))) }
+    ensures some { IfOk result (λ stops. IfSome stops (λ ids. 1 ≤ length ids)) }
+    ensures few { IfOk result (λ stops. IfSome stops (λ ids. length ids ≤ 8)) }
+    ensures memory { OnErr result (0 < length query.now) }
+{
+    if query.is_empty() {
+        return Ok(None);
+    }
+    match seek(alloc, query, "stops")? {
+        Sought::Once(text) => read_stops(alloc, &*text),
+        Sought::Absent => Ok(None),
+        Sought::Several => Ok(None),
+    }
+}
+
+fn tour_asked(alloc: Global, query: &[u8]) -> Result<Option<Ask>, OutOfMemory>
+    ensures value { IfOk result (λ ask. ask ≡ tour_asked query.now) }
+    ensures memory { OnErr result (0 < length query.now) }
+{
+    let Some(from) = end_of(alloc, query, "from")? else {
+        return Ok(None);
+    };
+    let Some(to) = end_of(alloc, query, "to")? else {
+        return Ok(None);
+    };
+    let Some(stops) = stops_of(alloc, query)? else {
+        return Ok(None);
+    };
+    let Some(profile) = profile_of(alloc, query)? else {
+        return Ok(None);
+    };
+    Ok(Some(Ask::Tour(TourQuery::new(from, to, stops, profile))))
+}
+
 // The identifier in the text of a place's path.
 fn place_in(text: &str) -> &[u8]
     ensures { result.now ≡ place_in text.now }
@@ -116,6 +154,7 @@ fn ask_of(alloc: Global, path: Path, text: &str, query: &[u8]) -> Result<Option<
         Path::Closures => Ok(Some(Ask::Closures)),
         Path::Place => Ok(place_asked(text)),
         Path::Route => route_asked(alloc, query),
+        Path::Tour => tour_asked(alloc, query),
         Path::Publish => Ok(None),
     }
 }

@@ -14,7 +14,7 @@ ghost use Rattle.version_board.specs.OneThread.{one_thread};
 ghost use Rattle.venue_hall.specs.Openings.{opening_history};
 ghost use Rattle.board_copies.specs.Making.{shelf_of, CountsFault};
 
-use board_copies::{BaseFolders, Held, NextBoard, Outcome, Roll, ready_change};
+use board_copies::{BaseFolders, Held, NextBoard, Outcome, Resumed, Resuming, Roll, ready_change};
 use std::alloc::Global;
 use std::sync::Arc;
 use venue_hall::{Asks, Hall, Unopened, Venue, change_law, number_law, version_law};
@@ -34,18 +34,18 @@ pub struct Alone<F: Folders> {
     ghost settings_are: { arc_value settings ≡ held.board.settings },
 }
 
-// The board with which a venue opens a history.
+// The board with which a venue opens a history, and its book.
 fn opened(
     alloc: Global,
-    roll: &mut Roll,
     settings: &Arc<Settings>,
     venue: Arc<Venue>,
-) -> Result<Held, OutOfMemory>
+) -> Result<Resumed, OutOfMemory>
     requires { (arc_value venue).settings ≡ arc_value settings.now }
-    ensures entries { IfOk result (λ held. entries_of held.stamp ≡ opening_history venue) }
-    ensures settings { IfOk result (λ held. held.board.settings ≡ arc_value settings.now) }
+    ensures entries { IfOk result (λ resumed. entries_of resumed.held.stamp ≡ opening_history venue) }
+    ensures settings { IfOk result (λ resumed. resumed.held.board.settings ≡ arc_value settings.now) }
 {
-    Held::first(alloc, roll, Arc::try_clone(settings)?, venue)
+    let history = Resuming::first(alloc, Arc::try_clone(settings)?, venue)?;
+    history.finish(alloc)
 }
 
 impl<F: Folders> Alone<F> {
@@ -65,9 +65,8 @@ impl<F: Folders> Alone<F> {
         ensures folders { IfOk result (λ hall. folders_of hall ≡ folders) }
         ensures err { IfErr result (λ unopened. unopened.folders ≡ folders) }
     {
-        let mut roll = Roll::new();
-        match opened(alloc, &mut roll, &settings, venue) {
-            Ok(held) => Ok(Alone {
+        match opened(alloc, &settings, venue) {
+            Ok(Resumed { held, roll, .. }) => Ok(Alone {
                 held,
                 roll,
                 reader: BaseFolders { folders, base },

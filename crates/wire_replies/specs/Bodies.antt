@@ -12,12 +12,15 @@ use Rattle.venue_types.specs.declared.finding.Report.{Report}
 use Rattle.venue_types.specs.declared.reply.ClosedRow.{ClosedRow}
 use Rattle.venue_types.specs.declared.reply.ClosureDone.{ClosureDone}
 use Rattle.venue_types.specs.declared.reply.ClosuresTold.{ClosuresTold}
+use Rattle.venue_types.specs.declared.reply.Leg.{Leg}
 use Rattle.venue_types.specs.declared.reply.Mark.{Mark}
+use Rattle.venue_types.specs.declared.reply.NoTourTold.{NoTourTold}
 use Rattle.venue_types.specs.declared.reply.PlaceRow.{PlaceRow}
 use Rattle.venue_types.specs.declared.reply.PlaceTold.{PlaceTold}
 use Rattle.venue_types.specs.declared.reply.Reply.{Reply}
 use Rattle.venue_types.specs.declared.reply.Reply.TheVariants as reply
 use Rattle.venue_types.specs.declared.reply.StepRow.{StepRow}
+use Rattle.venue_types.specs.declared.reply.TourTold.{TourTold}
 use Rattle.venue_types.specs.declared.reply.Which.{Which}
 use Rattle.wire_frames.specs.declared.refusals.Refusal.{Refusal}
 use Rattle.wire_replies.specs.Names.{kind_name, class_name, which_name, refusal_name}
@@ -161,6 +164,36 @@ no_route_data version from to profile reached =
     (member (codes "version") (count version)
     no_members))))))
 
+-- a part of a tour
+abbrev pub leg_data : Leg → Data
+leg_data leg = object (member (codes "cost") (count leg.cost) (member (codes "steps") (list_data step_data leg.steps) no_members))
+
+-- a tour
+abbrev pub tour_data : TourTold → Data
+tour_data told =
+    object
+    (member (codes "cost") (count told.cost)
+    (member (codes "from") (id_data told.from)
+    (member (codes "legs") (list_data leg_data told.legs)
+    (member (codes "order") (list_data id_data told.order)
+    (member (codes "profile") (string told.profile)
+    (member (codes "result") (string (codes "tour"))
+    (member (codes "to") (id_data told.to)
+    (member (codes "version") (count told.number)
+    no_members))))))))
+
+-- that there is no tour
+abbrev pub no_tour_data : NoTourTold → Data
+no_tour_data told =
+    object
+    (member (codes "from") (id_data told.from)
+    (member (codes "profile") (string told.profile)
+    (member (codes "result") (string (codes "none"))
+    (member (codes "stops") (list_data id_data told.stops)
+    (member (codes "to") (id_data told.to)
+    (member (codes "version") (count told.number)
+    no_members))))))
+
 -- a feature that was closed or opened, and for whom where that was named
 abbrev pub closure_data : ClosureDone → Data
 closure_data done =
@@ -214,6 +247,8 @@ body_of (reply.Closures told) = closures_data told
 body_of (reply.Route version from to profile start cost steps potentials) =
     route_data version from to profile start cost steps potentials
 body_of (reply.NoRoute version from to profile reached) = no_route_data version from to profile reached
+body_of (reply.Tour told) = tour_data told
+body_of (reply.NoTour told) = no_tour_data told
 body_of (reply.ClosureDone done) = closure_data done
 body_of (reply.Published version dropped) = published_data version dropped
 body_of (reply.Ahead since version) = ahead_data since version

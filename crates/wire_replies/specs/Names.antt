@@ -32,6 +32,7 @@ abbrev pub which_name : Which → List ℕ
 which_name which.From = codes "from"
 which_name which.To = codes "to"
 which_name which.Id = codes "id"
+which_name which.Stop = codes "stop"
 
 -- why a message is refused by itself
 abbrev pub refusal_name : Refusal → List ℕ

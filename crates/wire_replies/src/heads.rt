@@ -27,6 +27,8 @@ pub(crate) fn reply_status(reply: &Reply) -> HttpStatus
         Reply::Closures(_) => HttpStatus::Ok,
         Reply::Route { .. } => HttpStatus::Ok,
         Reply::NoRoute { .. } => HttpStatus::Ok,
+        Reply::Tour(_) => HttpStatus::Ok,
+        Reply::NoTour(_) => HttpStatus::Ok,
         Reply::ClosureDone(_) => HttpStatus::Ok,
         Reply::Published { .. } => HttpStatus::Ok,
         Reply::Ahead { .. } => HttpStatus::Conflict,

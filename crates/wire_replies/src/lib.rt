@@ -9,6 +9,7 @@ mod replies;
 mod reply;
 mod response;
 mod rows;
+mod tours;
 mod walks;
 mod words;
 mod written;

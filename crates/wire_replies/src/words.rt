@@ -154,6 +154,7 @@ fn which_name(which: Which) -> &'static str
         Which::From => "from",
         Which::To => "to",
         Which::Id => "id",
+        Which::Stop => "stop",
     }
 }
 

@@ -13,6 +13,6 @@ returns-clause-ok g c =
     let within : count ≤ length (drop size bytes) = omega (arith, c.in_ok-count.ensures.bound, room, length-drop size bytes) in (
       take count (drop size bytes),
       sym (length-take-le count (drop size bytes) within),
-      waits_more bytes c.args.self.now size count (c.in_ok-count.ensures.kept ∙ c.move_to_front.ensures.front ∙ c.self.view_is),
+      waits_more bytes c.args.self.now size count (c.in_ok-count.ensures.kept ∙ c.make_ready.ensures.front ∙ c.move_to_front.ensures.front ∙ c.self.view_is),
       consumes_move (g.L.Stream.left c.args.connection.now) (g.L.Stream.left c.read_behind.new.connection) count (drop size bytes) c.in_ok-count.ensures.bytes,
     )

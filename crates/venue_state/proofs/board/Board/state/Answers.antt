@@ -1,31 +1,14 @@
--- What can be closed has a number, and its mark tells for whom it is.
-use Rattle.std.proofs.Common.{◌≡◌, ◌∙◌, List, ap, sym, subst, Contains, Some, arith}
-use Rattle.std.proofs.lemmas.Option.{slice_get_within}
-use Rattle.venue_types.specs.declared.feature_id.FeatureId.{FeatureId}
+-- What it keeps is of its version.
+use Rattle.std.proofs.Common.{subst}
+use Rattle.std.specs.Prelude.{◌≡◌, Contains, IfNone, IfSome}
+use Rattle.venue_types.specs.declared.profile_set.ProfileSet.{ProfileSet}
 use Rattle.route_search.specs.Nodes.{closables}
-use Rattle.route_search.specs.Numbering.{number_among}
-use Rattle.route_search.proofs.Finding.{stands_there}
-use Rattle.venue_history.specs.declared.entry.Closing.{Closing}
-use Rattle.venue_history.specs.Closed.{set_in}
-use Rattle.venue_state.proofs.Marking.{no_number, numbered, marked_here}
+use Rattle.venue_history.specs.Closed.{Version, closed_set}
 use Rattle.venue_state.proofs.board.Board.state.Goals as goal
 
-pub returns-in-None-clause-none : goal.returns-in-None-clause-none
-returns-in-None-clause-none c =
-    λ has. no_number _ c.args.id (sym c.in-None.ensures) (subst (λ (xs : List FeatureId). Contains xs c.args.id) (sym c.graph.ensures.closables_are) has)
+pub returns-clause-none : goal.returns-clause-none
+returns-clause-none c = subst (λ (v : Version). IfNone c.state.result (¬ Contains (closables v.features) c.args.id)) c.stand.ensures.version c.state.ensures.none
 
-pub profiles-requires : goal.profiles-requires
-profiles-requires c =
-    let at : number_among (closables c.args.self.now.features) c.args.id ≡ Some c.in-Some.k =
-    subst (λ (xs : List FeatureId). number_among xs c.args.id ≡ Some c.in-Some.k) c.graph.ensures.closables_are (sym c.in-Some.ensures) in
-    let within = slice_get_within (closables c.args.self.now.features) c.in-Some.k c.args.id (stands_there _ _ _ at) in
-    omega (arith, within, c.marks.ensures.whole)
-
-pub returns-in-Some-clause-some : goal.returns-in-Some-clause-some
-returns-in-Some-clause-some c =
-    let at : number_among (closables c.args.self.now.features) c.args.id ≡ Some c.in-Some.k =
-    subst (λ (xs : List FeatureId). number_among xs c.args.id ≡ Some c.in-Some.k) c.graph.ensures.closables_are (sym c.in-Some.ensures) in (
-      numbered _ _ _ at,
-      c.profiles.ensures ∙ marked_here c.marks.result.now _ _ _ c.marks.ensures.whole c.order_law.ensures.once at
-          ∙ ap (λ (closed : List Closing). set_in closed c.args.id) c.marks.ensures.closed,
-    )
+pub returns-clause-some : goal.returns-clause-some
+returns-clause-some c =
+    subst (λ (v : Version). IfSome c.state.result (λ (set : ProfileSet). Contains (closables v.features) c.args.id × (set ≡ closed_set v c.args.id))) c.stand.ensures.version c.state.ensures.some

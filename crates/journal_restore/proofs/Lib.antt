@@ -1,0 +1,4 @@
+mod OnlyRead
+mod Unfit
+mod Records
+mod Ends

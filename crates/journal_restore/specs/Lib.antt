@@ -1,0 +1,4 @@
+pub mod Restores
+pub mod Judging
+pub mod Going
+pub mod Ending
