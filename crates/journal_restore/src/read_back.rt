@@ -51,7 +51,7 @@ fn with_journal<K: Disk>(disk: K, end: End) -> Restored<K>
     }
 }
 
-/// Reads the journal on a disk, each byte of it once, and replays the history that it holds under these settings. Begins with a sync, since what a
+/// Reads the journal on a disk in one pass, and replays the history that it holds under these settings. Begins with a sync, since what a
 /// read gives may not be on the disk yet, and writes nothing. Bytes that are damaged are told before a record that doesn't fit. Takes the memory of
 /// one folder, of the version and of the next one.
 pub fn restore<K: Disk>(

@@ -14,7 +14,7 @@ pub(crate) struct Plan<'a> {
     pub(crate) puts: &'a [usize],
 }
 
-/// A disk as planned, with room for 65,536 bytes and 128 calls.
+/// A disk as planned, with room for 65,536 bytes and 1,024 calls.
 pub(crate) fn disk_of(alloc: Global, plan: &Plan<'_>) -> Result<MemoryDisk, Fail> {
     let mut files = Vec::new(alloc);
     files.push(MemoryFile {
@@ -24,7 +24,7 @@ pub(crate) fn disk_of(alloc: Global, plan: &Plan<'_>) -> Result<MemoryDisk, Fail
     })?;
     let failing = Vec::from_slice(alloc, plan.failing)?;
     let puts = Vec::from_slice(alloc, plan.puts)?;
-    let mut disks = MemoryDisks::new(alloc, files, 65_536, 128, failing)?.tearing(puts);
+    let mut disks = MemoryDisks::new(alloc, files, 65_536, 1_024, failing)?.tearing(puts);
     Ok(disks.open_disk("base", "log")?)
 }
 

@@ -19,7 +19,11 @@ mod pairs;
 #[cfg(test)]
 mod publications;
 #[cfg(test)]
+mod readings;
+#[cfg(test)]
 mod records;
+#[cfg(test)]
+mod restores;
 #[cfg(test)]
 mod stops;
 #[cfg(test)]

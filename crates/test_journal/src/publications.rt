@@ -7,7 +7,7 @@ ghost use Rattle.change_journal.specs.Texts.{record_text, slot_text};
 use crate::records::Entry;
 use std::alloc::{AllocError, Global};
 use std::test::Fail;
-use test_station::{Change, slots_of};
+use test_station::{Change, Edit, slots_of};
 use venue_hall::Record;
 use venue_types::{Bytes, Files, List, Slot};
 
@@ -75,6 +75,12 @@ fn published_text(alloc: Global, worker: u8, files: &Files) -> Result<Vec<u8>, A
         add_slot(&mut text, slot)?;
     }
     Ok(text)
+}
+
+/// The text of the record of the station with changes, by worker 0.
+pub(crate) fn text_of_station(alloc: Global, edits: &'static [Edit]) -> Result<Vec<u8>, Fail> {
+    let files = slots_of(alloc, Change::of(edits))?;
+    Ok(published_text(alloc, 0, &files)?)
 }
 
 /// The station of the tests, of which twelve files are there, by worker 0.

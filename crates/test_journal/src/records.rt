@@ -3,14 +3,16 @@
 use venue_hall::Record;
 use venue_types::FeatureId;
 
-// The lift of the station.
-const LIFT: FeatureId = FeatureId(0x4000_8000_0000_0000_0301);
+/// The lift of the station.
+pub(crate) const LIFT: FeatureId = FeatureId(0x4000_8000_0000_0000_0301);
 
-const CLOSING: [u8; 21] = [
+/// The text of `closing`.
+pub(crate) const CLOSING: [u8; 21] = [
     1, 2, 1, 0, 0, 0, 0, 0, 0, 0x40, 0, 0x80, 0, 0, 0, 0, 0, 3, 1, 0, 3,
 ];
 
-const REOPENING: [u8; 21] = [
+/// The text of `reopening`.
+pub(crate) const REOPENING: [u8; 21] = [
     1, 3, 2, 0, 0, 0, 0, 0, 0, 0x40, 0, 0x80, 0, 0, 0, 0, 0, 3, 1, 0, 2,
 ];
 

@@ -3,10 +3,15 @@
 use crate::images::{Images, Moment};
 use crate::law::{Law, Seen};
 use crate::publications::station;
+use crate::readings::{Told, told};
 use crate::records::{closing, reopening};
 use crate::trials::Trial;
+use std::alloc::Global;
 use std::process::Abort;
+use std::sync::Arc;
 use std::test::Fail;
+use test_station::station_settings;
+use venue_types::Settings;
 
 // Behind so many calls a stop leaves the station alone, the station and the closure, the station and the reopening: each of
 // these that is true here, and no other.
@@ -81,7 +86,34 @@ const OF_THE_REOPENING: [Row; 7] = [
     },
 ];
 
-// Draws forty images at each moment of a table.
+// What is told where these are left. A reopening of what isn't closed doesn't fit.
+fn is_told(told: (Told, u64), leaves: Seen) -> bool {
+    let [alone, with_closing, with_reopening, _] = leaves;
+    match told {
+        (Told::Version, 1) => alone,
+        (Told::Version, 2) => with_closing,
+        (Told::Unfit, 2) => with_reopening,
+        _ => false,
+    }
+}
+
+// Reads images of a moment back.
+fn read_each(
+    rt: &impl Abort,
+    alloc: Global,
+    settings: &Arc<Settings>,
+    moment: &Moment<'_>,
+    images: &mut Images,
+    leaves: Seen,
+) -> Result<(), Fail> {
+    for _ in 0..images.each {
+        let image = images.draw(moment)?;
+        assert!(rt; is_told(told(alloc, image, settings)?, leaves));
+    }
+    Ok(())
+}
+
+// Draws forty images at each moment of a table, and forty that are read back.
 fn stop_at_each(rt: &impl Abort, trial: &Trial<'_>, rows: &[Row]) -> Result<(), Fail> {
     let outcome = trial.run(rt, trial.entries.len())?;
     let mut law = Law::first(trial)?;
@@ -89,6 +121,7 @@ fn stop_at_each(rt: &impl Abort, trial: &Trial<'_>, rows: &[Row]) -> Result<(), 
         law.begin(entry.text)?;
     }
     let mut images = Images::new(trial.alloc, 40);
+    let settings = Arc::new(trial.alloc, station_settings(trial.alloc)?)?;
     let mut moment = Moment::first(trial.alloc, &outcome.disk)?;
     let mut passed = 0;
     for row in rows {
@@ -97,6 +130,7 @@ fn stop_at_each(rt: &impl Abort, trial: &Trial<'_>, rows: &[Row]) -> Result<(), 
         }
         passed = row.calls;
         assert_eq!(rt; law.judge(rt, &moment, &mut images)?, row.leaves);
+        read_each(rt, trial.alloc, &settings, &moment, &mut images, row.leaves)?;
     }
     assert_eq!(rt; outcome.disk.calls().len(), passed);
     Ok(())

@@ -109,6 +109,11 @@ fn judge_rows<H: Hall, R: Abort>(
     Ok(())
 }
 
+// Makes a change at a seat, whatever is told of it.
+fn change_at<H: Hall>(seat: &mut H, change: &Change) {
+    let _reply = seat.change(change);
+}
+
 // A stream that takes the front of a reply, then lets another seat publish, and fails.
 #[derive(Drop)]
 struct Interrupted<'a, H> {
@@ -136,7 +141,7 @@ impl<'a, H: Hall> Stream for Interrupted<'a, H> {
 
     fn write(&mut self, piece: &[u8]) -> Result<usize, Failed> {
         if !self.stream.written().is_empty() {
-            let _reply = self.other.change(&self.publication);
+            change_at(self.other, &self.publication);
         }
         self.stream.write(piece)
     }
