@@ -2,9 +2,10 @@
 """Compares `venue verify` with examples/check_route.py over the examples, over what `venue route` prints between places of the station, and
 over some hundred made answers, right and wrong. The costs of the routes are compared with a plain search over the printed table.
 
-usage: compare_checkers.py [PROGRAM]   (without PROGRAM the launcher ./venue, which builds the program if need be)
+usage: compare_checkers.py [PROGRAM]   (without PROGRAM what is built in crates/venue_cli/out, else the launcher ./venue, which builds it)
 It prints one line, and ends with status 1 at a difference.
 """
+import concurrent.futures
 import heapq
 import os
 import random
@@ -14,6 +15,7 @@ import tempfile
 
 TOP = os.path.dirname(os.path.dirname(os.path.abspath(__file__)))
 EXAMPLES = os.path.join(TOP, "examples")
+BUILT = os.path.join(TOP, "crates", "venue_cli", "out", "venue_cli")
 CHECKER = [sys.executable, os.path.join(EXAMPLES, "check_route.py")]
 NODE = "00000000-0000-4000-8000-{:012x}"
 TABLES, ANSWERS = 25, 14
@@ -164,13 +166,14 @@ def made_bases(folder):
 
 
 def main():
-    program = [sys.argv[1]] if len(sys.argv) > 1 else [os.path.join(TOP, "venue")]
+    program = [sys.argv[1] if len(sys.argv) > 1 else BUILT if os.path.isfile(BUILT) else os.path.join(TOP, "venue")]
     seen, differ = {}, 0
     with tempfile.TemporaryDirectory() as folder:
         routes, wrong = station_bases(program, folder, random.Random(11))
         bases = sorted(entry.path for entry in os.scandir(EXAMPLES) if entry.is_dir()) + routes + made_bases(folder)
-        for base in bases:
-            found, wanted = answers_of(program + ["verify"], base), answers_of(CHECKER, base)
+        with concurrent.futures.ThreadPoolExecutor(os.cpu_count()) as pool:
+            told = list(pool.map(lambda base: (answers_of(program + ["verify"], base), answers_of(CHECKER, base)), bases))
+        for base, (found, wanted) in zip(bases, told):
             kind = b" ".join(wanted[0].split()[:2]).decode() if wanted[0] else ""
             seen[kind] = seen.get(kind, 0) + 1
             if found != wanted:

@@ -2,12 +2,14 @@
 """Looks for ways through small venues made by arithmetic, with nothing closed by `route` and with closures for all and for some by `session`, and
 compares each answer with plain rounds over the table of all links that `links` prints, and each closure with sets of profiles.
 
-usage: random_ways.py [PROGRAM [VENUES [FIRST]]]   (without PROGRAM the launcher ./venue, which builds the program if need be)
+usage: random_ways.py [PROGRAM [VENUES [FIRST]]]   (without PROGRAM what is built in crates/venue_cli/out, else the launcher ./venue, which builds it)
+Venues are judged side by side, as many as there are processors.
 The venues have one to three levels of square rooms with doors in their walls, halls that lie over several rooms and share their doors,
 restricted rooms, doors that a wheelchair can't pass, amenities in two units, and passages between units and doors of neighbouring levels:
 directed or not, with an intermediary, twice between one pair, and without anything beside their way. It prints one line, and ends with
 status 1 at a difference.
 """
+import concurrent.futures
 import json
 import os
 import random
@@ -17,6 +19,7 @@ import sys
 import tempfile
 
 HERE = os.path.dirname(os.path.abspath(__file__))
+BUILT = os.path.join(HERE, "..", "crates", "venue_cli", "out", "venue_cli")
 KEY = "desk-key-1"
 ROOM = 10
 FREE = 10**18
@@ -311,19 +314,26 @@ class Check:
             self.judge_session(draw, tables, closables)
 
 
-def main():
-    program = [sys.argv[1]] if len(sys.argv) > 1 else [os.path.join(HERE, "..", "venue")]
-    venues = int(sys.argv[2]) if len(sys.argv) > 2 else 150
-    first = int(sys.argv[3]) if len(sys.argv) > 3 else 1
+def judged(program, seed):
+    """How many ways of a venue were asked for, and how many answers differ."""
     with tempfile.TemporaryDirectory() as base:
         check = Check(program, base)
-        for seed in range(first, first + venues):
-            before = check.differ
-            check.judge_venue(random.Random(seed))
-            if check.differ > before:
-                print(f"venue {seed}", file=sys.stderr)
-    print(f"random_ways: {venues} venues, {check.asked} ways, {check.differ} differences")
-    return 1 if check.differ else 0
+        check.judge_venue(random.Random(seed))
+    if check.differ:
+        print(f"venue {seed}", file=sys.stderr)
+    return check.asked, check.differ
 
 
-sys.exit(main())
+def main():
+    program = [sys.argv[1] if len(sys.argv) > 1 else BUILT if os.path.isfile(BUILT) else os.path.join(HERE, "..", "venue")]
+    venues = int(sys.argv[2]) if len(sys.argv) > 2 else 150
+    first = int(sys.argv[3]) if len(sys.argv) > 3 else 1
+    with concurrent.futures.ProcessPoolExecutor() as pool:
+        told = list(pool.map(judged, [program] * venues, range(first, first + venues)))
+    asked, differ = (sum(column) for column in zip(*told))
+    print(f"random_ways: {venues} venues, {asked} ways, {differ} differences")
+    return 1 if differ else 0
+
+
+if __name__ == "__main__":
+    sys.exit(main())
