@@ -22,7 +22,7 @@ fn read_all<D: Disk>(disk: &mut D, buf: &mut [u8]) -> Option<usize> {
 fn check_reads<D: Disk>(rt: &impl Abort, disk: &mut D, reads: &[u8]) {
     let mut buf = [0; 16];
     let len = read_all(disk, &mut buf).unwrap_or(0);
-    assert_eq!(rt; buf.get(..len).unwrap_or(&[]), reads);
+    assert!(rt; buf.get(..len).unwrap_or(&[]) == reads);
 }
 
 // Writes at a place up to the end.
@@ -129,9 +129,9 @@ fn go<D: Disk>(disk: &mut D, steps: &[Step<'_>]) {
 
 // Compares what a stop may leave with a base, the places that are free in it and the greatest length.
 fn check_images(rt: &impl Abort, images: &Images, base: &[u8], free: &[usize], most: usize) {
-    assert_eq!(rt; images.base.as_slice(), base);
-    assert_eq!(rt; images.free.as_slice(), free);
-    assert_eq!(rt; images.most, most);
+    assert!(rt; images.base.as_slice() == base);
+    assert!(rt; images.free.as_slice() == free);
+    assert!(rt; images.most == most);
 }
 
 #[test]
@@ -159,10 +159,10 @@ fn a_stop_leaves_what_was_synced_torn_by_what_was_written(rt: HostRuntime) -> Re
         let mut disk = disks.open_disk("base", "log").expect(&rt, "a disk");
         go(&mut disk, &steps[..count.min(steps.len())]);
         let images = images_of(alloc, &disk)?;
-        assert_eq!(rt; images.reads.as_slice(), reads);
+        assert!(rt; images.reads.as_slice() == reads);
         check_images(&rt, &images, base, free, most);
         check_reads(&rt, &mut disk, reads);
-        assert_eq!(rt; disk.fault_count(), u64::from(failing != 0));
+        assert!(rt; disk.fault_count() == u64::from(failing != 0));
     }
     read_is_left_law();
     left_law();
@@ -223,9 +223,9 @@ fn exactly_twelve_short_texts_are_left(rt: HostRuntime) -> Result<(), Fail> {
             left = torn;
         }
     }
-    assert_eq!(rt; left.len(), 12);
+    assert!(rt; left.len() == 12);
     for text in &left {
-        assert_eq!(rt; text.first(), Some(&0));
+        assert!(rt; text.first() == Some(&0));
         assert!(rt; text.len() == 3 || text.len() == 4);
     }
     Ok(())
@@ -247,7 +247,7 @@ fn each_call_fails_in_its_turn(rt: HostRuntime) -> Result<(), Fail> {
             if failing == 1 {
                 let _ = disk.len();
             }
-            assert_eq!(rt; disk.fault_count(), 1);
+            assert!(rt; disk.fault_count() == 1);
             let reads: &[u8] = match failing {
                 1 => &[5, 6, 7],
                 2 => torn,
@@ -267,19 +267,19 @@ fn a_disk_without_room_fails(rt: HostRuntime) -> Result<(), Fail> {
     assert!(rt; disks.open_disk("base", "other").is_err());
     let mut disk = disks.open_disk("base", "log").expect(&rt, "a disk");
     assert!(rt; disks.open_disk("base", "log").is_err());
-    assert_eq!(rt; disks.fault_count(), 2);
-    assert_eq!(rt; write_within(&mut disk, 3, &[9, 9]), None);
-    assert_eq!(rt; disk.fault_count(), 1);
+    assert!(rt; disks.fault_count() == 2);
+    assert!(rt; write_within(&mut disk, 3, &[9, 9]) == None);
+    assert!(rt; disk.fault_count() == 1);
     check_reads(&rt, &mut disk, [5, 6, 7].as_slice());
     for _ in 0..28 {
         assert!(rt; disk.sync().is_ok());
     }
     assert!(rt; disk.sync().is_err());
     assert!(rt; disk.len().is_err());
-    assert_eq!(rt; disk.calls().len(), 32);
+    assert!(rt; disk.calls().len() == 32);
     let mut closed = disks_of(alloc, &[5, 6, 7], 64, &[0])?;
     assert!(rt; closed.open_disk("base", "log").is_err());
-    assert_eq!(rt; closed.fault_count(), 1);
+    assert!(rt; closed.fault_count() == 1);
     let mut small = disks_of(alloc, &[5, 6, 7], 2, &[])?;
     assert!(rt; small.open_disk("base", "log").is_err());
     Ok(())
@@ -294,11 +294,11 @@ fn a_real_file_is_a_disk(rt: HostRuntime) -> Result<(), Fail> {
     let mut disk = disks
         .open_disk("disks_of_the_test", "log")
         .expect(&rt, "a disk");
-    assert_eq!(rt; write_within(&mut disk, 2, b"de"), Some(()));
+    assert!(rt; write_within(&mut disk, 2, b"de") == Some(()));
     assert!(rt; disk.sync().is_ok());
     check_reads(&rt, &mut disk, b"abde".as_slice());
     assert!(rt; disk.read(3, &mut buf).is_err());
-    assert_eq!(rt; disk.fault_count(), 1);
+    assert!(rt; disk.fault_count() == 1);
     assert!(rt; disks.open_disk("disks_of_the_test", "log").is_err());
     drop(disk);
     let mut again = disks
@@ -308,16 +308,13 @@ fn a_real_file_is_a_disk(rt: HostRuntime) -> Result<(), Fail> {
     drop(again);
     assert!(rt; disks.open_disk("disks_of_the_test", "folder").is_err());
     assert!(rt; disks.open_disk("disks_of_the_test", "missing").is_err());
-    assert_eq!(rt; disks.fault_count(), 3);
+    assert!(rt; disks.fault_count() == 3);
     assert!(rt; fs::metadata(&rt, "disks_of_the_test/missing.journal").is_err());
     // One without right to write, which the system's first user has all the same.
     let path = "disks_of_the_test/log.journal";
     fs::set_permissions(&rt, path, fs::Permissions::from_mode(0o444))?;
     let may_write = fs::OpenOptions::new().write(true).open(&rt, path).is_ok();
-    assert_eq!(rt;
-        disks.open_disk("disks_of_the_test", "log").is_ok(),
-        may_write
-    );
+    assert!(rt; disks.open_disk("disks_of_the_test", "log").is_ok() == may_write);
     fs::remove_dir_all(&rt, "disks_of_the_test")?;
     Ok(())
 }

@@ -44,7 +44,7 @@ fn writes_texts_between_quotes(rt: HostRuntime) -> Result<(), Fail> {
         ),
     ];
     for (text, wanted) in table {
-        assert_eq!(rt; quoted(rt.alloc(), text)?.as_slice(), wanted);
+        assert!(rt; quoted(rt.alloc(), text)?.as_slice() == wanted);
     }
     Ok(())
 }
@@ -56,11 +56,8 @@ fn keeps_a_text_that_finds_room(rt: HostRuntime) -> Result<(), Fail> {
     draft.append(b"");
     draft.push(b'c');
     draft.append(b"de");
-    assert_eq!(rt; draft.len(), 5);
-    assert_eq!(rt;
-        draft.finish().ok_or(AllocError)?.as_slice(),
-        b"abcde".as_slice()
-    );
+    assert!(rt; draft.len() == 5);
+    assert!(rt; draft.finish().ok_or(AllocError)?.as_slice() == b"abcde".as_slice());
     let empty = Draft::counting(rt.alloc()).finish().ok_or(AllocError)?;
     assert!(rt; empty.is_empty());
     Ok(())
@@ -72,11 +69,8 @@ fn keeps_a_text_that_leaves_room(rt: HostRuntime) -> Result<(), Fail> {
     draft.append(b"abc");
     draft.append(b"def");
     draft.push(b'g');
-    assert_eq!(rt; draft.len(), 7);
-    assert_eq!(rt;
-        draft.finish().ok_or(AllocError)?.as_slice(),
-        b"abcdefg".as_slice()
-    );
+    assert!(rt; draft.len() == 7);
+    assert!(rt; draft.finish().ok_or(AllocError)?.as_slice() == b"abcdefg".as_slice());
     assert!(rt; Draft::with_room(rt.alloc(), usize::MAX).is_err());
     Ok(())
 }
@@ -89,7 +83,7 @@ fn counts_a_text_that_finds_none(rt: HostRuntime) -> Result<(), Fail> {
         draft.append(b"abc");
         draft.append(b"def");
         draft.push(b'g');
-        assert_eq!(rt; draft.len(), 7);
+        assert!(rt; draft.len() == 7);
         assert!(rt; draft.finish().is_none());
     }
     Ok(())

@@ -21,21 +21,21 @@ fn the_real_directory_is_read(rt: HostRuntime) -> Result<(), Fail> {
     let whole = folders
         .read(rt.alloc(), "read_by_the_test", "a.txt", 10)
         .expect(&rt, "a read");
-    assert_eq!(rt; whole.ok_or("missing")?.as_slice(), b"hello".as_slice());
+    assert!(rt; whole.ok_or("missing")?.as_slice() == b"hello".as_slice());
     let cut = folders
         .read(rt.alloc(), "read_by_the_test", "a.txt", 2)
         .expect(&rt, "a read");
-    assert_eq!(rt; cut.ok_or("missing")?.as_slice(), b"hel".as_slice());
+    assert!(rt; cut.ok_or("missing")?.as_slice() == b"hel".as_slice());
     assert!(rt;
         folders
             .read(rt.alloc(), "read_by_the_test", "b.txt", 10)
             .expect(&rt, "a read")
             .is_none()
     );
-    assert_eq!(rt; folders.fault_count(), 0);
+    assert!(rt; folders.fault_count() == 0);
     let unreadable = folders.read(rt.alloc(), ".", "read_by_the_test", 10);
     assert!(rt; matches!(unreadable, Err(ReadFault::Failed)));
-    assert_eq!(rt; folders.fault_count(), 1);
+    assert!(rt; folders.fault_count() == 1);
     fs::remove_dir_all(&rt, "read_by_the_test")?;
     Ok(())
 }
@@ -43,10 +43,10 @@ fn the_real_directory_is_read(rt: HostRuntime) -> Result<(), Fail> {
 #[test]
 fn the_console_is_read_and_written(rt: HostRuntime) -> Result<(), Fail> {
     let mut console = Console::new(&rt);
-    assert_eq!(rt; console.read(&mut [0; 4]).expect(&rt, "an empty input"), 0);
-    assert_eq!(rt; console.write(b"o").expect(&rt, "a write of one byte"), 1);
-    assert_eq!(rt; console.write(b"ut\n").expect(&rt, "a write"), 3);
-    assert_eq!(rt; console.fault_count(), 0);
+    assert!(rt; console.read(&mut [0; 4]).expect(&rt, "an empty input") == 0);
+    assert!(rt; console.write(b"o").expect(&rt, "a write of one byte") == 1);
+    assert!(rt; console.write(b"ut\n").expect(&rt, "a write") == 3);
+    assert!(rt; console.fault_count() == 0);
     Ok(())
 }
 
@@ -56,10 +56,7 @@ fn reports_are_told(rt: HostRuntime) -> Result<(), Fail> {
     fs::write(&rt, "a/b/venue.toml", "kx = 1")?;
     let mut folders = DirFolders::new(&rt);
     let read = folders.read(rt.alloc(), "a/b", "venue.toml", 10);
-    assert_eq!(rt;
-        read.expect(&rt, "a read").ok_or("missing")?.as_slice(),
-        b"kx = 1".as_slice()
-    );
+    assert!(rt; read.expect(&rt, "a read").ok_or("missing")?.as_slice() == b"kx = 1".as_slice());
     fs::remove_dir_all(&rt, "a")?;
     for (kind, fault) in [
         (ErrorKind::NotFound, None),
@@ -68,11 +65,8 @@ fn reports_are_told(rt: HostRuntime) -> Result<(), Fail> {
     ] {
         let mut folders = DirFolders::new(FailingFiles(kind));
         let found = folders.read(rt.alloc(), "a", "b", 10);
-        assert_eq!(rt; found.err(), fault);
-        assert_eq!(rt;
-            folders.fault_count(),
-            u64::from(fault == Some(ReadFault::Failed))
-        );
+        assert!(rt; found.err() == fault);
+        assert!(rt; folders.fault_count() == u64::from(fault == Some(ReadFault::Failed)));
     }
     for (reported, read, write) in [
         (Some(0), Ok(0), Err(Failed)),
@@ -80,12 +74,9 @@ fn reports_are_told(rt: HostRuntime) -> Result<(), Fail> {
         (None, Err(Failed), Err(Failed)),
     ] {
         let mut console = Console::new(Calls(reported));
-        assert_eq!(rt; console.read(&mut [0; 4]), read);
-        assert_eq!(rt; console.write(b"ab"), write);
-        assert_eq!(rt;
-            console.fault_count(),
-            u64::from(read.is_err()) + u64::from(write.is_err())
-        );
+        assert!(rt; console.read(&mut [0; 4]) == read);
+        assert!(rt; console.write(b"ab") == write);
+        assert!(rt; console.fault_count() == u64::from(read.is_err()) + u64::from(write.is_err()));
     }
     Ok(())
 }
@@ -102,9 +93,9 @@ fn the_objects_in_memory_follow_their_plans(rt: HostRuntime) -> Result<(), Fail>
     let failing = Vec::from_slice(alloc, &[2])?;
     let mut folders = MemoryFolders::new(files, failing).expect(&rt, "memory folders");
     for fails in [false, true, false] {
-        assert_eq!(rt; folders.read(alloc, "a", "b", 5).is_err(), fails);
+        assert!(rt; folders.read(alloc, "a", "b", 5).is_err() == fails);
     }
-    assert_eq!(rt; folders.fault_count(), 1);
+    assert!(rt; folders.fault_count() == 1);
 
     let mut stream = MemoryStream::new(
         alloc,
@@ -117,25 +108,22 @@ fn the_objects_in_memory_follow_their_plans(rt: HostRuntime) -> Result<(), Fail>
     .expect(&rt, "a memory stream");
     let mut buf = [0; 8];
     for answer in [Ok(1), Err(Failed), Ok(1), Ok(3), Ok(0)] {
-        assert_eq!(rt; stream.read(&mut buf), answer);
+        assert!(rt; stream.read(&mut buf) == answer);
     }
     for answer in [Err(Failed), Ok(2), Ok(1), Err(Failed)] {
-        assert_eq!(rt; stream.write(b"ab"), answer);
+        assert!(rt; stream.write(b"ab") == answer);
     }
-    assert_eq!(rt; stream.written(), b"aba".as_slice());
-    assert_eq!(rt; stream.fault_count(), 3);
+    assert!(rt; stream.written() == b"aba".as_slice());
+    assert!(rt; stream.fault_count() == 3);
 
     let mut streams = Vec::new(alloc);
     streams.push(stream)?;
     let mut doors = QuietDoors::new(alloc, streams).expect(&rt, "doors");
     doors.bind("127.0.0.1:80").expect(&rt, "a bind");
-    assert_eq!(rt;
-        doors.accept().expect(&rt, "the stream").written(),
-        b"aba".as_slice()
-    );
+    assert!(rt; doors.accept().expect(&rt, "the stream").written() == b"aba".as_slice());
     let mut past = doors.accept().expect(&rt, "an empty stream");
-    assert_eq!(rt; past.read(&mut buf), Ok(0));
-    assert_eq!(rt; past.write(b"ab"), Err(Failed));
+    assert!(rt; past.read(&mut buf) == Ok(0));
+    assert!(rt; past.write(b"ab") == Err(Failed));
     same_files_law();
     Ok(())
 }
@@ -150,7 +138,7 @@ fn check_accept(rt: &impl Abort, doors: &mut MemoryDoors, input: Option<&[u8]>)
         Ok(mut stream) => {
             let mut buf = [0; 8];
             let count = stream.read(&mut buf).expect(rt, "a read");
-            assert_eq!(rt; Some(&buf[..count]), input);
+            assert!(rt; Some(&buf[..count]) == input);
         }
     }
 }
@@ -171,13 +159,13 @@ fn doors_in_memory_follow_their_plans(rt: HostRuntime) -> Result<(), Fail> {
         &rt, "doors",
     );
     assert!(rt; doors.bind("127.0.0.1:80").is_err());
-    assert_eq!(rt; doors.fault_count(), 1);
+    assert!(rt; doors.fault_count() == 1);
     doors.bind("127.0.0.1:81").expect(&rt, "a bind");
-    assert_eq!(rt; doors.fault_count(), 1);
+    assert!(rt; doors.fault_count() == 1);
     check_accept(&rt, &mut doors, Some(b"first"));
     check_accept(&rt, &mut doors, None);
     check_accept(&rt, &mut doors, Some(b"second"));
     check_accept(&rt, &mut doors, Some(b""));
-    assert_eq!(rt; doors.fault_count(), 2);
+    assert!(rt; doors.fault_count() == 2);
     Ok(())
 }

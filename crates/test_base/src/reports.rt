@@ -53,17 +53,14 @@ fn lists_places_once_and_in_order(rt: HostRuntime) -> Result<(), Fail> {
         }
         let report = shortened(in_order(findings));
         let noted = notes_in_order(notes);
-        assert_eq!(rt; report.total, wanted.len() as u64);
-        assert_eq!(rt; report.first.len(), wanted.len());
-        assert_eq!(rt; noted.len(), wanted.len());
+        assert!(rt; report.total == wanted.len() as u64);
+        assert!(rt; report.first.len() == wanted.len());
+        assert!(rt; noted.len() == wanted.len());
         for (finding, place) in report.first.as_slice().iter().zip(wanted) {
-            assert_eq!(rt;
-                (finding.rule, finding.file, finding.index, finding.member),
-                *place
-            );
+            assert!(rt; (finding.rule, finding.file, finding.index, finding.member) == *place);
         }
         for (note, place) in noted.as_slice().iter().zip(wanted) {
-            assert_eq!(rt; (note.note, note.file, note.index, note.member), *place);
+            assert!(rt; (note.note, note.file, note.index, note.member) == *place);
         }
     }
     Ok(())

@@ -137,31 +137,28 @@ fn a_listener_takes_a_connection_and_its_bytes(rt: HostRuntime) -> Result<(), Fa
     let mut link = for_any_thread(doors.accept().expect(&rt, "a connection"));
     let mut buf = [0; 64];
     client.write_all(b"twenty bytes of text")?;
-    assert_eq!(rt; link.read(&mut buf), Ok(20));
-    assert_eq!(rt; link.write(&buf[..20]), Ok(20));
+    assert!(rt; link.read(&mut buf) == Ok(20));
+    assert!(rt; link.write(&buf[..20]) == Ok(20));
     client.write_all(b", seventeen more.")?;
-    assert_eq!(rt; link.read(&mut buf), Ok(17));
-    assert_eq!(rt; link.write(&buf[..17]), Ok(17));
+    assert!(rt; link.read(&mut buf) == Ok(17));
+    assert!(rt; link.write(&buf[..17]) == Ok(17));
     let mut back = [0; 37];
     client.read_exact(&mut back)?;
-    assert_eq!(rt;
-        back.as_slice(),
-        b"twenty bytes of text, seventeen more.".as_slice()
-    );
+    assert!(rt; back.as_slice() == b"twenty bytes of text, seventeen more.".as_slice());
     // A second write that waited for the answer to the first would wait 40 milliseconds in most of these rounds.
     let start = Instant::now(&rt)?;
     for _ in 0..25 {
         client.write_all(b"?")?;
-        assert_eq!(rt; link.read(&mut buf), Ok(1));
-        assert_eq!(rt; link.write(b"a"), Ok(1));
-        assert_eq!(rt; link.write(b"b"), Ok(1));
+        assert!(rt; link.read(&mut buf) == Ok(1));
+        assert!(rt; link.write(b"a") == Ok(1));
+        assert!(rt; link.write(b"b") == Ok(1));
         client.read_exact(&mut back[..2])?;
     }
     assert!(rt; start.elapsed(&rt)? < Duration::from_millis(500));
     drop(client);
-    assert_eq!(rt; link.read(&mut buf), Ok(0));
-    assert_eq!(rt; link.fault_count(), 0);
-    assert_eq!(rt; doors.fault_count(), 0);
+    assert!(rt; link.read(&mut buf) == Ok(0));
+    assert!(rt; link.fault_count() == 0);
+    assert!(rt; doors.fault_count() == 0);
     Ok(())
 }
 
@@ -170,10 +167,10 @@ fn what_the_system_refuses_is_a_fault(rt: HostRuntime) -> Result<(), Fail> {
     let (listener, address) = listen(&rt, rt.alloc())?;
     let mut doors = TcpDoors::new(&rt);
     assert!(rt; doors.bind(address.as_str()).is_err());
-    assert_eq!(rt; doors.fault_count(), 1);
+    assert!(rt; doors.fault_count() == 1);
     drop(listener);
     assert!(rt; doors.bind(address.as_str()).is_ok());
-    assert_eq!(rt; doors.fault_count(), 1);
+    assert!(rt; doors.fault_count() == 1);
     let refusing = Beside {
         rt: &rt,
         clock: NoClock,
@@ -183,7 +180,7 @@ fn what_the_system_refuses_is_a_fault(rt: HostRuntime) -> Result<(), Fail> {
     let mut doors = TcpDoors::new(&refusing);
     doors.bind(free.as_str()).expect(&rt, "a bind");
     assert!(rt; doors.accept().is_err());
-    assert_eq!(rt; doors.fault_count(), 1);
+    assert!(rt; doors.fault_count() == 1);
     Ok(())
 }
 
@@ -239,11 +236,7 @@ fn the_errors_of_a_dead_connection_are_no_fault(rt: HostRuntime) {
         (113, true),
     ] {
         let error = io::Error::from_raw_os_error(code);
-        assert_eq!(rt;
-            is_gone(error.kind(), error.raw_os_error()),
-            gone,
-            "at {code}"
-        );
+        assert!(rt; is_gone(error.kind(), error.raw_os_error()) == gone);
     }
 }
 
@@ -299,7 +292,7 @@ fn a_client_that_is_silent_or_reads_nothing_is_a_fault(rt: HostRuntime) -> Resul
     for (wait, faults, end) in [read?, write?] {
         assert!(rt; wait >= Duration::from_secs(10));
         assert!(rt; wait < Duration::from_secs(20));
-        assert_eq!(rt; faults, 1);
+        assert!(rt; faults == 1);
         // After a fault nothing is waited for.
         assert!(rt; end < Duration::from_secs(1));
     }
@@ -318,13 +311,13 @@ fn reads_together_have_a_limit_that_a_write_starts_anew(rt: HostRuntime) -> Resu
         client.write_all(b"bytes")?;
         for read in 0..5 {
             if writes && read == 3 {
-                assert_eq!(rt; link.write(b"!"), Ok(1));
+                assert!(rt; link.write(b"!") == Ok(1));
             }
             let past = read == 4 && !writes;
             let answer = if past { Err(Failed) } else { Ok(1) };
-            assert_eq!(rt; link.read(&mut [0; 1]), answer, "read {read}");
+            assert!(rt; link.read(&mut [0; 1]) == answer);
         }
-        assert_eq!(rt; link.fault_count(), u64::from(!writes));
+        assert!(rt; link.fault_count() == u64::from(!writes));
     }
     Ok(())
 }
@@ -345,13 +338,13 @@ fn writes_together_have_a_limit_that_a_read_starts_anew(rt: HostRuntime) -> Resu
         }
         for write in 0..8 {
             if write == 6 {
-                assert_eq!(rt; link.read(&mut [0; 1]), Ok(usize::from(gives)));
+                assert!(rt; link.read(&mut [0; 1]) == Ok(usize::from(gives)));
             }
             let past = write == 7 && !gives;
             let answer = if past { Err(Failed) } else { Ok(1) };
-            assert_eq!(rt; link.write(b"!"), answer, "write {write}");
+            assert!(rt; link.write(b"!") == answer);
         }
-        assert_eq!(rt; link.fault_count(), u64::from(!gives));
+        assert!(rt; link.fault_count() == u64::from(!gives));
     }
     Ok(())
 }
@@ -365,9 +358,9 @@ fn a_clock_that_cannot_be_read_is_a_fault(rt: HostRuntime) -> Result<(), Fail> {
     };
     let (mut link, mut client) = connection(&beside, rt.alloc())?;
     client.write_all(b"bytes")?;
-    assert_eq!(rt; link.read(&mut [0; 8]), Err(Failed));
-    assert_eq!(rt; link.write(b"!"), Err(Failed));
-    assert_eq!(rt; link.fault_count(), 2);
+    assert!(rt; link.read(&mut [0; 8]) == Err(Failed));
+    assert!(rt; link.write(b"!") == Err(Failed));
+    assert!(rt; link.fault_count() == 2);
     Ok(())
 }
 
@@ -386,13 +379,10 @@ fn a_client_that_still_sends_reads_all_that_was_written(rt: HostRuntime) -> Resu
     let (mut link, client) = connection(&rt, rt.alloc())?;
     let alloc = rt.alloc();
     let sender = thread::spawn(&rt, move || send_and_read(client, alloc))?;
-    assert_eq!(rt; link.write(b"HTTP/1.1 413 Too Large\r\n\r\nno\n"), Ok(29));
+    assert!(rt; link.write(b"HTTP/1.1 413 Too Large\r\n\r\nno\n") == Ok(29));
     drop(link);
     let got = sender.join(&rt)?;
-    assert_eq!(rt;
-        got.as_slice(),
-        b"HTTP/1.1 413 Too Large\r\n\r\nno\n".as_slice()
-    );
+    assert!(rt; got.as_slice() == b"HTTP/1.1 413 Too Large\r\n\r\nno\n".as_slice());
     Ok(())
 }
 
@@ -404,6 +394,6 @@ fn a_client_that_stays_is_left_after_a_while(rt: HostRuntime) -> Result<(), Fail
     let waited = start.elapsed(&rt)?;
     assert!(rt; waited >= Duration::from_secs(2));
     assert!(rt; waited < Duration::from_secs(4));
-    assert_eq!(rt; client.read(&mut [0; 8])?, 0);
+    assert!(rt; client.read(&mut [0; 8])? == 0);
     Ok(())
 }

@@ -11,13 +11,13 @@ use venue_types::{
 fn sets_of_profiles(rt: HostRuntime) {
     profile_set_law();
     let set = ProfileSet::nobody().with(2).with(0);
-    assert_eq!(rt; set, ProfileSet(5));
+    assert!(rt; set == ProfileSet(5));
     assert!(rt; set.has(0) && !set.has(1) && set.has(2) && !set.has(15));
-    assert_eq!(rt; ProfileSet::of_all(3), ProfileSet(7));
-    assert_eq!(rt; ProfileSet::of_all(1), ProfileSet(1));
-    assert_eq!(rt; ProfileSet::of_all(16), ProfileSet(0xffff));
-    assert_eq!(rt; set.joined(ProfileSet(6)), ProfileSet(7));
-    assert_eq!(rt; set.without(ProfileSet(6)), ProfileSet(1));
+    assert!(rt; ProfileSet::of_all(3) == ProfileSet(7));
+    assert!(rt; ProfileSet::of_all(1) == ProfileSet(1));
+    assert!(rt; ProfileSet::of_all(16) == ProfileSet(0xffff));
+    assert!(rt; set.joined(ProfileSet(6)) == ProfileSet(7));
+    assert!(rt; set.without(ProfileSet(6)) == ProfileSet(1));
     assert!(rt; !set.is_empty() && set.without(set).is_empty());
     assert!(rt; set.has_all_of(ProfileSet(4)) && !set.has_all_of(ProfileSet(6)));
     assert!(rt; set.has_any_of(ProfileSet(6)) && !set.has_any_of(ProfileSet(2)));
@@ -34,35 +34,29 @@ fn values_go_in_and_come_out(rt: HostRuntime) -> Result<(), Fail> {
         "{f81d4fae-7dec-11d0-a765-00a0c91e6bf6}",
         "urn:uuid:f81d4fae-7dec-11d0-a765-00a0c91e6bf6",
     ] {
-        assert_eq!(rt; FeatureId::read(text.as_bytes()), Some(id), "at {text}");
+        assert!(rt; FeatureId::read(text.as_bytes()) == Some(id));
     }
-    assert_eq!(rt;
-        FeatureId::read(b"f81d4fae-7dec-11d0-a765-00a0c91e6bf"),
-        None
-    );
+    assert!(rt; FeatureId::read(b"f81d4fae-7dec-11d0-a765-00a0c91e6bf") == None);
     let written = id.write();
-    assert_eq!(rt;
-        written.as_slice(),
-        b"f81d4fae-7dec-11d0-a765-00a0c91e6bf6".as_slice()
-    );
+    assert!(rt; written.as_slice() == b"f81d4fae-7dec-11d0-a765-00a0c91e6bf6".as_slice());
     let mut list = List::new(rt.alloc());
     assert!(rt; list.is_empty());
     list.push(7u8).expect(&rt, "memory");
-    assert_eq!(rt; list.as_slice(), [7].as_slice());
-    assert_eq!(rt; list.get(0), Some(&7));
-    assert_eq!(rt; list.get(1), None);
-    assert_eq!(rt; list.iter().count(), 1);
-    assert_eq!(rt; List::from_vec(list.into_vec()).len(), 1);
+    assert!(rt; list.as_slice() == [7].as_slice());
+    assert!(rt; list.get(0) == Some(&7));
+    assert!(rt; list.get(1) == None);
+    assert!(rt; list.iter().count() == 1);
+    assert!(rt; List::from_vec(list.into_vec()).len() == 1);
     let bytes = Bytes::from_vec(Vec::from_slice(rt.alloc(), b"ab")?);
-    assert_eq!(rt; bytes.as_slice(), b"ab".as_slice());
-    assert_eq!(rt; bytes.into_vec().len(), 2);
+    assert!(rt; bytes.as_slice() == b"ab".as_slice());
+    assert!(rt; bytes.into_vec().len() == 2);
     let mut items = Vec::new(rt.alloc());
     reserve(&mut items, 1).expect(&rt, "memory");
     push_reserved(&mut items, 7u8);
-    assert_eq!(rt; items.as_slice(), [7].as_slice());
+    assert!(rt; items.as_slice() == [7].as_slice());
     let text = Text::from_string(String::from_str(rt.alloc(), "ab")?);
-    assert_eq!(rt; text.as_str(), "ab");
-    assert_eq!(rt; text.into_string().len(), 2);
+    assert!(rt; text.as_str() == "ab");
+    assert!(rt; text.into_string().len() == 2);
     Ok(())
 }
 
@@ -75,8 +69,8 @@ fn copies_have_what_was_copied(rt: HostRuntime) -> Result<(), Fail> {
         text: name.copy(alloc).expect(&rt, "memory"),
     };
     let copy = label.copy(alloc).expect(&rt, "memory");
-    assert_eq!(rt; copy.tag.as_str(), "wheels");
-    assert_eq!(rt; copy.text.as_str(), "wheels");
+    assert!(rt; copy.tag.as_str() == "wheels");
+    assert!(rt; copy.text.as_str() == "wheels");
     let profile = Profile {
         name,
         elevator: true,
@@ -107,15 +101,15 @@ fn copies_have_what_was_copied(rt: HostRuntime) -> Result<(), Fail> {
         profiles: List::from_vec(vec![in alloc; profile]?),
     };
     let copy = settings.copy(alloc).expect(&rt, "memory");
-    assert_eq!(rt; copy.kx, 7_000_000);
-    assert_eq!(rt; copy.extras, settings.extras);
+    assert!(rt; copy.kx == 7_000_000);
+    assert!(rt; copy.extras == settings.extras);
     for key in copy.staff_keys.iter() {
-        assert_eq!(rt; key.as_str(), "wheels");
+        assert!(rt; key.as_str() == "wheels");
     }
     for profile in copy.profiles.iter() {
-        assert_eq!(rt; profile.name.as_str(), "wheels");
+        assert!(rt; profile.name.as_str() == "wheels");
         assert!(rt; profile.elevator && profile.marked && !profile.stairs);
     }
-    assert_eq!(rt; copy.profiles.len(), 1);
+    assert!(rt; copy.profiles.len() == 1);
     Ok(())
 }

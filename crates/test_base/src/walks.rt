@@ -57,7 +57,7 @@ fn laws_and_steps(rt: HostRuntime) {
         (18_446_744_073_709_551_615, 5, 7, true),
         (0, 18_446_744_073_709_551_615, 4_294_967_295, false),
     ] {
-        assert_eq!(rt; rises_within(start, end, cost), within);
+        assert!(rt; rises_within(start, end, cost) == within);
     }
     let nodes = [2, 5, 4_294_967_295];
     for (node, found) in [
@@ -67,7 +67,7 @@ fn laws_and_steps(rt: HostRuntime) {
         (5, true),
         (4_294_967_295, true),
     ] {
-        assert_eq!(rt; has_node(&nodes, node), found);
+        assert!(rt; has_node(&nodes, node) == found);
     }
     assert!(rt; !has_node(&[], 0));
 }

@@ -18,7 +18,7 @@ fn the_files_of_a_folder_are_read(rt: HostRuntime) -> Result<(), Fail> {
     }
     let mut folders = MemoryFolders::new(stored, Vec::new(alloc)).expect(&rt, "folders");
     let files = files_of(alloc, "base/station", &mut folders).expect(&rt, "the files");
-    assert_eq!(rt; files.slots.len(), 17);
+    assert!(rt; files.slots.len() == 17);
     for (number, slot) in files.slots.as_slice().iter().enumerate() {
         let expected = match number {
             0 => Some(b"manifest.json".as_slice()),
@@ -29,7 +29,7 @@ fn the_files_of_a_folder_are_read(rt: HostRuntime) -> Result<(), Fail> {
             Slot::Absent => None,
             Slot::Held(bytes) => Some(bytes.as_slice()),
         };
-        assert_eq!(rt; found, expected);
+        assert!(rt; found == expected);
     }
     Ok(())
 }

@@ -29,7 +29,7 @@ fn finds_the_first_place(rt: HostRuntime) -> Result<(), Fail> {
             })?;
         }
         let index = Index::of(rt.alloc(), &rows)?;
-        assert_eq!(rt; index.place_of(FeatureId(sought)), want, "{ids:?} {sought}");
+        assert!(rt; index.place_of(FeatureId(sought)) == want);
     }
     Ok(())
 }

@@ -80,7 +80,7 @@ fn the_last_of_forty_levels_crosses_itself(rt: HostRuntime) -> Result<(), Fail> 
             index: 39,
             member: 0,
         };
-        assert_eq!(rt; findings.len(), crosses as usize);
+        assert!(rt; findings.len() == crosses as usize);
         assert!(rt; findings.iter().all(|finding| *finding == only));
     }
     Ok(())

@@ -43,7 +43,7 @@ fn forms_say_what_fits(rt: HostRuntime) -> Result<(), Fail> {
         let arena = Arena::new(rt.alloc());
         let tree = read(&arena, bytes).expect(&rt, "JSON");
         let fit = fits(rt.alloc(), form, Some(&tree)).expect(&rt, "memory");
-        assert_eq!(rt; fit, wanted);
+        assert!(rt; fit == wanted);
     }
     Ok(())
 }
@@ -73,14 +73,14 @@ fn a_feature_has_its_members(rt: HostRuntime) -> Result<(), Fail> {
     for item in items(Some(&tree)).expect(&rt, "a list") {
         has_its_members(&rt, item);
     }
-    assert_eq!(rt; file_of_type(b"kiosk"), Some(File::Kiosk));
+    assert!(rt; file_of_type(b"kiosk") == Some(File::Kiosk));
     file_numbers_law();
-    assert_eq!(rt; File::Kiosk.number(), 9);
-    assert_eq!(rt; File::from_number(9), Some(File::Kiosk));
-    assert_eq!(rt; File::from_number(17), None);
-    assert_eq!(rt; File::Kiosk.name(), "kiosk.geojson");
-    assert_eq!(rt; File::Opening.geometry(), Geometry::Line);
-    assert_eq!(rt; properties().len(), 31);
-    assert_eq!(rt; Property::Name.number(), 16);
+    assert!(rt; File::Kiosk.number() == 9);
+    assert!(rt; File::from_number(9) == Some(File::Kiosk));
+    assert!(rt; File::from_number(17) == None);
+    assert!(rt; File::Kiosk.name() == "kiosk.geojson");
+    assert!(rt; File::Opening.geometry() == Geometry::Line);
+    assert!(rt; properties().len() == 31);
+    assert!(rt; Property::Name.number() == 16);
     Ok(())
 }

@@ -74,16 +74,13 @@ fn judge(rt: &impl Abort, alloc: Global, row: &Row) -> Result<(), Fail> {
         files(alloc, &[(file, bytes), (0, MANIFEST)])?
     };
     let out = read_folder(alloc, &files).expect(rt, "memory");
-    assert_eq!(rt; out.findings.len(), wanted.len(), "at file {file}");
+    assert!(rt; out.findings.len() == wanted.len());
     for (finding, place) in out.findings.as_slice().iter().zip(wanted) {
-        assert_eq!(rt;
-            (finding.rule, finding.file, finding.index, finding.member),
-            *place
-        );
+        assert!(rt; (finding.rule, finding.file, finding.index, finding.member) == *place);
     }
     assert!(rt; out.notes.is_empty());
     if file == 16 && wanted.is_empty() {
-        assert_eq!(rt; out.features.venues.len(), 1);
+        assert!(rt; out.features.venues.len() == 1);
     }
     Ok(())
 }

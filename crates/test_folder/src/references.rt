@@ -87,12 +87,9 @@ fn a_folder_has_its_findings(rt: HostRuntime) -> Result<(), Fail> {
     )?;
     let features = sound_rows(alloc, &files)?;
     let findings = reference_findings(alloc, &features)?;
-    assert_eq!(rt; findings.len(), WANTED.len());
+    assert!(rt; findings.len() == WANTED.len());
     for (finding, place) in findings.as_slice().iter().zip(&WANTED) {
-        assert_eq!(rt;
-            (finding.rule, finding.file, finding.index, finding.member),
-            *place
-        );
+        assert!(rt; (finding.rule, finding.file, finding.index, finding.member) == *place);
     }
     Ok(())
 }

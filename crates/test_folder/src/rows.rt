@@ -34,8 +34,8 @@ fn numbered(number: u128) -> FeatureId {
 }
 
 fn judge_label(rt: &impl Abort, label: &Label, tag: &str, text: &str) {
-    assert_eq!(rt; label.tag.as_str(), tag);
-    assert_eq!(rt; label.text.as_str(), text);
+    assert!(rt; label.tag.as_str() == tag);
+    assert!(rt; label.text.as_str() == text);
 }
 
 #[test]
@@ -50,9 +50,9 @@ fn a_level(rt: HostRuntime) -> Result<(), Fail> {
     passages_law();
     push_row(rt.alloc(), &mut rows, &item, Figure::Nothing)?;
     let row: &LevelRow = rows.first().ok_or("level")?;
-    assert_eq!(rt; row.address, Some(numbered(0x1)));
-    assert_eq!(rt; row.ordinal, -1);
-    assert_eq!(rt; ordinal(Some(&item)), None);
+    assert!(rt; row.address == Some(numbered(0x1)));
+    assert!(rt; row.ordinal == -1);
+    assert!(rt; ordinal(Some(&item)) == None);
     Ok(())
 }
 
@@ -63,9 +63,9 @@ fn an_opening(rt: HostRuntime) -> Result<(), Fail> {
     let item = read(&arena, OPENING)?;
     push_row(rt.alloc(), &mut rows, &item, Figure::Nothing)?;
     let row: &OpeningRow = rows.first().ok_or("opening")?;
-    assert_eq!(rt; row.level, numbered(0x10));
-    assert_eq!(rt; (row.revolving, row.turnstile), (false, true));
-    assert_eq!(rt; (row.marked, row.out), (true, false));
+    assert!(rt; row.level == numbered(0x10));
+    assert!(rt; (row.revolving, row.turnstile) == (false, true));
+    assert!(rt; (row.marked, row.out) == (true, false));
     Ok(())
 }
 
@@ -76,23 +76,23 @@ fn a_relationship(rt: HostRuntime) -> Result<(), Fail> {
     let item = read(&arena, RELATIONSHIP)?;
     push_row(rt.alloc(), &mut rows, &item, Figure::Nothing)?;
     let row: &RelationshipRow = rows.first().ok_or("relationship")?;
-    assert_eq!(rt; row.kind, Some(Kind::Stairs));
-    assert_eq!(rt; (row.directed, row.destination), (true, None));
-    assert_eq!(rt;
-        row.origin,
-        Some(Ref {
-            id: numbered(0x301),
-            feature_type: 15
-        })
+    assert!(rt; row.kind == Some(Kind::Stairs));
+    assert!(rt; (row.directed, row.destination) == (true, None));
+    assert!(rt;
+        row.origin
+            == Some(Ref {
+                id: numbered(0x301),
+                feature_type: 15
+            })
     );
-    assert_eq!(rt; row.between.len(), 2);
+    assert!(rt; row.between.len() == 2);
     let first = row.between.as_slice().first().ok_or("between")?;
-    assert_eq!(rt;
-        *first,
-        Ref {
-            id: numbered(0x102),
-            feature_type: 12
-        }
+    assert!(rt;
+        *first
+            == Ref {
+                id: numbered(0x102),
+                feature_type: 12
+            }
     );
     Ok(())
 }
@@ -104,15 +104,15 @@ fn a_unit(rt: HostRuntime) -> Result<(), Fail> {
     let item = read(&arena, UNIT)?;
     push_row(rt.alloc(), &mut rows, &item, Figure::Nothing)?;
     let row: &UnitRow = rows.first().ok_or("unit")?;
-    assert_eq!(rt; row.id, numbered(0x300));
-    assert_eq!(rt; row.category.as_str(), "room");
-    assert_eq!(rt; row.restricted, true);
-    assert_eq!(rt;
-        row.display,
-        Some(Point {
-            x: 10_000_220_000,
-            y: 50_000_040_000
-        })
+    assert!(rt; row.id == numbered(0x300));
+    assert!(rt; row.category.as_str() == "room");
+    assert!(rt; row.restricted == true);
+    assert!(rt;
+        row.display
+            == Some(Point {
+                x: 10_000_220_000,
+                y: 50_000_040_000
+            })
     );
     let [first, second] = row.name.as_slice() else {
         return Err("two labels".into());

@@ -22,11 +22,11 @@ fn told(fault: &SettingsFault) -> (u8, &str) {
 // 0 stands for settings without a fault.
 fn judge(rt: &impl Abort, alloc: Global, bytes: &[u8], number: u8, key: &str) {
     match read_settings(alloc, bytes) {
-        Ok(_) => assert_eq!(rt; number, 0),
+        Ok(_) => assert!(rt; number == 0),
         Err(fault) => {
             let (found, at) = told(&fault);
-            assert_eq!(rt; found, number, "at {key}");
-            assert_eq!(rt; at, key);
+            assert!(rt; found == number);
+            assert!(rt; at == key);
         }
     }
 }
@@ -40,25 +40,25 @@ fn repeated(alloc: Global, front: &str, item: &str, count: u8) -> Result<String,
 }
 
 fn judge_station(rt: &impl Abort, settings: &Settings) {
-    assert_eq!(rt; settings.kx, 10_000_000);
-    assert_eq!(rt; settings.ky, 10_000_000);
-    assert_eq!(rt; settings.border_tol, 1_000);
-    assert_eq!(rt; settings.contain_tol, 5_000);
-    assert_eq!(rt; settings.last_version, 4_294_967_295);
-    assert_eq!(rt; settings.extras.elevator, 3_000);
-    assert_eq!(rt; settings.extras.escalator, 800);
-    assert_eq!(rt; settings.extras.movingwalkway, 0);
-    assert_eq!(rt; settings.extras.ramp, 2_000);
-    assert_eq!(rt; settings.extras.stairs, 1_500);
-    assert_eq!(rt; settings.extras.traversal, 0);
+    assert!(rt; settings.kx == 10_000_000);
+    assert!(rt; settings.ky == 10_000_000);
+    assert!(rt; settings.border_tol == 1_000);
+    assert!(rt; settings.contain_tol == 5_000);
+    assert!(rt; settings.last_version == 4_294_967_295);
+    assert!(rt; settings.extras.elevator == 3_000);
+    assert!(rt; settings.extras.escalator == 800);
+    assert!(rt; settings.extras.movingwalkway == 0);
+    assert!(rt; settings.extras.ramp == 2_000);
+    assert!(rt; settings.extras.stairs == 1_500);
+    assert!(rt; settings.extras.traversal == 0);
     let keys = settings.staff_keys.as_slice();
-    assert_eq!(rt; keys.len(), 1);
-    assert_eq!(rt; keys[0].as_str(), "desk-key-1");
+    assert!(rt; keys.len() == 1);
+    assert!(rt; keys[0].as_str() == "desk-key-1");
     let profiles = settings.profiles.as_slice();
-    assert_eq!(rt; profiles.len(), 3);
-    assert_eq!(rt; profiles[0].name.as_str(), "walk");
-    assert_eq!(rt; profiles[1].name.as_str(), "wheelchair");
-    assert_eq!(rt; profiles[2].name.as_str(), "night-staff_1");
+    assert!(rt; profiles.len() == 3);
+    assert!(rt; profiles[0].name.as_str() == "walk");
+    assert!(rt; profiles[1].name.as_str() == "wheelchair");
+    assert!(rt; profiles[2].name.as_str() == "night-staff_1");
     assert!(rt; profiles[2].restricted && profiles[2].marked && !profiles[2].stairs);
 }
 

@@ -23,18 +23,15 @@ static WANTED: [(u128, Option<u32>, Option<u32>); 10] = [
 
 fn judge(rt: &impl Abort, nodes: &Nodes) {
     for (tail, node, closable) in &WANTED {
-        assert_eq!(rt; nodes.node_of(id(*tail)), *node, "{tail}");
-        assert_eq!(rt; nodes.closable(id(*tail)), *closable, "{tail}");
+        assert!(rt; nodes.node_of(id(*tail)) == *node);
+        assert!(rt; nodes.closable(id(*tail)) == *closable);
     }
-    assert_eq!(rt; nodes.len(), 31);
-    assert_eq!(rt; nodes.closables(), 33);
+    assert!(rt; nodes.len() == 31);
+    assert!(rt; nodes.closables() == 33);
     let hall = nodes.node(19);
-    assert_eq!(rt; hall.id, id(0x300));
-    assert_eq!(rt;
-        (hall.spot.x, hall.spot.y),
-        (20_001_000_000, 100_000_500_000)
-    );
-    assert_eq!(rt; nodes.closable_id(16), id(0x21));
+    assert!(rt; hall.id == id(0x300));
+    assert!(rt; (hall.spot.x, hall.spot.y) == (20_001_000_000, 100_000_500_000));
+    assert!(rt; nodes.closable_id(16) == id(0x21));
 }
 
 #[test]

@@ -118,9 +118,9 @@ fn touched_at_station(
 }
 
 fn judge_rows(rt: &impl Abort, rows: &[List<u32>], wanted: &[&[u32]]) {
-    assert_eq!(rt; rows.len(), wanted.len());
+    assert!(rt; rows.len() == wanted.len());
     for (row, want) in rows.iter().zip(wanted) {
-        assert_eq!(rt; row.as_slice(), *want);
+        assert!(rt; row.as_slice() == *want);
     }
 }
 
@@ -311,11 +311,11 @@ fn many_doors(alloc: Global) -> Result<String, AllocError> {
 
 /// Holds the rows against all pairs, and counts the touches.
 fn judge_slowly(rt: &impl Abort, alloc: Global, rows: &[List<u32>]) -> Result<usize, Fail> {
-    assert_eq!(rt; rows.len(), DOORS as usize);
+    assert!(rt; rows.len() == DOORS as usize);
     let mut count: usize = 0;
     for (i, row) in (0..DOORS).zip(rows) {
         let want = touching_squares(alloc, i)?;
-        assert_eq!(rt; row.as_slice(), want.as_slice());
+        assert!(rt; row.as_slice() == want.as_slice());
         count = count.saturating_add(want.len());
     }
     Ok(count)
@@ -328,6 +328,6 @@ fn rows_are_those_of_all_pairs(rt: HostRuntime) -> Result<(), Fail> {
     let touches = touches_of(alloc, &files, 30)?;
     let count = judge_slowly(&rt, alloc, touches.rows.as_slice())?;
     // 42 openings touch two squares and 16 one, by a count in exact fractions outside.
-    assert_eq!(rt; count, 100);
+    assert!(rt; count == 100);
     Ok(())
 }

@@ -33,7 +33,7 @@ enum Deed {
 }
 
 // What is then told, without its lists.
-#[derive(Clone, Copy, Debug, PartialEq, Eq)]
+#[derive(Clone, Copy, PartialEq, Eq)]
 enum Told<'t> {
     // The number of the version after a change.
     Changed(u32),
@@ -205,19 +205,19 @@ fn steps_in(reply: &Reply) -> &[StepRow] {
 
 fn judge_closed(rt: &impl Abort, found: &[ClosedRow], listed: &[u128]) {
     for (found, tail) in found.iter().zip(listed) {
-        assert_eq!(rt; found.id, id(*tail));
+        assert!(rt; found.id == id(*tail));
         assert!(rt; found.profiles.is_none());
     }
 }
 
 fn judge_listed(rt: &impl Abort, found: &[FeatureId], listed: &[u128]) {
     for (found, tail) in found.iter().zip(listed) {
-        assert_eq!(rt; *found, id(*tail));
+        assert!(rt; *found == id(*tail));
     }
 }
 
 fn judge_steps(rt: &impl Abort, found: &[StepRow], steps: &[Step]) {
-    assert_eq!(rt; found.len(), steps.len());
+    assert!(rt; found.len() == steps.len());
     for (found, (to, via, cost, kind)) in found.iter().zip(steps) {
         let step = StepRow {
             to: id(*to),
@@ -225,14 +225,14 @@ fn judge_steps(rt: &impl Abort, found: &[StepRow], steps: &[Step]) {
             cost: *cost,
             kind: *kind,
         };
-        assert_eq!(rt; *found, step);
+        assert!(rt; *found == step);
     }
 }
 
 fn judge_reply(rt: &impl Abort, reply: &Reply, row: &Row) {
-    assert_eq!(rt; told_of(reply), row.told);
+    assert!(rt; told_of(reply) == row.told);
     let (closed, listed) = (closed_in(reply), listed_in(reply));
-    assert_eq!(rt; closed.len().max(listed.len()), row.listed.len());
+    assert!(rt; closed.len().max(listed.len()) == row.listed.len());
     judge_closed(rt, closed, row.listed);
     judge_listed(rt, listed, row.listed);
     judge_steps(rt, steps_in(reply), row.steps);
@@ -272,13 +272,13 @@ fn judge_change(rt: &impl Abort, alloc: Global, board: &mut Board, act: Act, row
     match board.prepare(alloc, act, 1) {
         Ok(mut ready) => {
             judge_listed(rt, ready.dropped().as_slice(), row.listed);
-            assert_eq!(rt; ready.entry().worker, 1);
+            assert!(rt; ready.entry().worker == 1);
             board.apply(&mut ready);
-            assert_eq!(rt; Told::Changed(board.number()), row.told);
+            assert!(rt; Told::Changed(board.number()) == row.told);
             board.apply(&mut ready);
-            assert_eq!(rt; Told::Changed(board.number()), row.told);
+            assert!(rt; Told::Changed(board.number()) == row.told);
         }
-        Err(unready) => assert_eq!(rt; Told::Unready(unready), row.told),
+        Err(unready) => assert!(rt; Told::Unready(unready) == row.told),
     }
 }
 

@@ -27,7 +27,7 @@ enum Deed {
 }
 
 // What is then told.
-#[derive(Clone, Copy, Debug, PartialEq, Eq)]
+#[derive(Clone, Copy, PartialEq, Eq)]
 enum Told {
     // The number of the version after a change, and how many closed features it drops.
     Changed(u32, usize),
@@ -94,9 +94,9 @@ fn judge_names(rt: &impl Abort, found: &Option<List<Text>>, names: &[&str]) {
     match found {
         Some(found) => {
             assert!(rt; !names.is_empty());
-            assert_eq!(rt; found.len(), names.len());
+            assert!(rt; found.len() == names.len());
             for (found, name) in found.as_slice().iter().zip(names) {
-                assert_eq!(rt; found.as_str(), *name);
+                assert!(rt; found.as_str() == *name);
             }
         }
         None => assert!(rt; names.is_empty()),
@@ -104,15 +104,15 @@ fn judge_names(rt: &impl Abort, found: &Option<List<Text>>, names: &[&str]) {
 }
 
 pub(crate) fn judge_rows_of(rt: &impl Abort, found: &[ClosedRow], closed: &[Closed]) {
-    assert_eq!(rt; found.len(), closed.len());
+    assert!(rt; found.len() == closed.len());
     for (found, (tail, names)) in found.iter().zip(closed) {
-        assert_eq!(rt; found.id, id(*tail));
+        assert!(rt; found.id == id(*tail));
         judge_names(rt, &found.profiles, names);
     }
 }
 
 fn judge_reply(rt: &impl Abort, reply: &Reply, row: &Row) {
-    assert_eq!(rt; told_of(reply), row.told);
+    assert!(rt; told_of(reply) == row.told);
     match reply {
         Reply::Place(told) => match row.closed.first() {
             Some((_, names)) => judge_names(rt, &told.profiles, names),
@@ -135,9 +135,9 @@ fn judge_change(rt: &impl Abort, alloc: Global, board: &mut Board, act: Act, row
         Ok(mut ready) => {
             let dropped = ready.dropped().len();
             board.apply(&mut ready);
-            assert_eq!(rt; Told::Changed(board.number(), dropped), row.told);
+            assert!(rt; Told::Changed(board.number(), dropped) == row.told);
         }
-        Err(unready) => assert_eq!(rt; Told::Unready(unready), row.told),
+        Err(unready) => assert!(rt; Told::Unready(unready) == row.told),
     }
 }
 

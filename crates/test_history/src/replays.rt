@@ -128,23 +128,23 @@ fn judge(
     ensures board { IfOk result (λ _. board.new.settings ≡ settings.now) }
 {
     let (deed, worker, is_made) = *row;
-    assert_eq!(rt; replayed(alloc, settings, history, deed, worker)?, is_made);
+    assert!(rt; replayed(alloc, settings, history, deed, worker)? == is_made);
     if worker >= 1 && worker <= 16 {
-        assert_eq!(rt; done(alloc, settings, board, deed, worker)?, is_made);
+        assert!(rt; done(alloc, settings, board, deed, worker)? == is_made);
     }
     Ok(())
 }
 
 // The number of the version, and what is closed at it.
 fn judge_end(rt: &impl Abort, alloc: Global, board: &Board, number: u32, closed: &[Closed]) {
-    assert_eq!(rt; board.number(), number);
+    assert!(rt; board.number() == number);
     let query = Query {
         since: None,
         what: Ask::Closures,
     };
     match board.ask(alloc, &query) {
         Reply::Closures(told) => {
-            assert_eq!(rt; told.number, number);
+            assert!(rt; told.number == number);
             judge_rows_of(rt, told.closed.as_slice(), closed);
         }
         _ => assert!(rt; false),

@@ -48,7 +48,7 @@ enum Deed {
 }
 
 // What is then told, or seen.
-#[derive(Clone, Copy, Debug, PartialEq, Eq)]
+#[derive(Clone, Copy, PartialEq, Eq)]
 enum Told {
     // The number, whether the feature is closed, whether that changed.
     Closure(u32, bool, bool),
@@ -150,7 +150,7 @@ fn judge_rows<H: Hall, R: Abort>(
             Who::One => done(alloc, one, deed)?,
             Who::Other => done(alloc, other, deed)?,
         };
-        assert_eq!(rt; found, told);
+        assert!(rt; found == told);
     }
     Ok(())
 }
@@ -236,8 +236,8 @@ fn judge<R: Abort + Wait>(
     let copies = copies_of(rt, alloc, last_version, 2)?;
     let folders = no_folders(alloc)?;
     let closed = rows_at(rt, alloc, copies, folders, base(alloc)?, rows)?;
-    assert_eq!(rt; closed.number, number);
-    assert_eq!(rt; closed.changes, changes);
+    assert!(rt; closed.number == number);
+    assert!(rt; closed.changes == changes);
     Ok(())
 }
 
@@ -253,9 +253,9 @@ fn judge_folders<R: Abort + Wait>(
     let copies = copies_of(rt, alloc, u32::MAX, 2)?;
     let folders = folders(alloc, failing)?;
     let closed = rows_at(rt, alloc, copies, folders, base(alloc)?, rows)?;
-    assert_eq!(rt; closed.number, number);
-    assert_eq!(rt; closed.changes, changes);
-    assert_eq!(rt; closed.folders.fault_count(), u64::from(failing > 0));
+    assert!(rt; closed.number == number);
+    assert!(rt; closed.changes == changes);
+    assert!(rt; closed.folders.fault_count() == u64::from(failing > 0));
     Ok(())
 }
 
@@ -408,7 +408,7 @@ fn work<H: Hall, R: Abort>(rt: &R, seat: &mut H, tail: u128, times: u32)
         let found = numbered(asked(seat));
         let opened = numbered(closure(seat, tail, false));
         assert!(rt; before < closed && closed <= found && found < opened);
-        assert_eq!(rt; seat.number(), opened);
+        assert!(rt; seat.number() == opened);
     }
 }
 
@@ -517,8 +517,8 @@ fn workers_close_doors_side_by_side(rt: HostRuntime) -> Result<(), Fail> {
     let copies = copies_of(&rt, alloc, u32::MAX, 4)?;
     let folders = no_folders(alloc)?;
     let closed = work_at(&rt, alloc, copies, folders, base(alloc)?, 4)?;
-    assert_eq!(rt; closed.number, 1_601);
-    assert_eq!(rt; closed.changes, 1_600);
+    assert!(rt; closed.number == 1_601);
+    assert!(rt; closed.changes == 1_600);
     Ok(())
 }
 
@@ -578,8 +578,8 @@ fn a_hall_opens_over_three_entries(rt: HostRuntime) -> Result<(), Fail> {
         ),
     ];
     let closed = rows_at(&rt, alloc, copies, folders, base(alloc)?, &rows)?;
-    assert_eq!(rt; closed.number, 4);
-    assert_eq!(rt; closed.changes, 1);
+    assert!(rt; closed.number == 4);
+    assert!(rt; closed.changes == 1);
     Ok(())
 }
 

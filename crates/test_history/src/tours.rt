@@ -11,7 +11,7 @@ use venue_state::Board;
 use venue_types::{Ask, FeatureId, Leg, List, Query, Reply, Text, TourQuery, TourTold, Which};
 
 // What is told of a tour.
-#[derive(Clone, Copy, Debug, PartialEq, Eq)]
+#[derive(Clone, Copy, PartialEq, Eq)]
 enum Told {
     // What all of it costs.
     Tour(u64),
@@ -98,16 +98,16 @@ fn steps_cost(leg: &Leg) -> u64 {
 }
 
 fn judge_legs(rt: &impl Abort, tour: &TourTold, row: &Row) {
-    assert_eq!(rt; tour.legs.len(), row.stops.len().wrapping_add(1));
+    assert!(rt; tour.legs.len() == row.stops.len().wrapping_add(1));
     let mut sum: u64 = 0;
     for leg in tour.legs.as_slice() {
-        assert_eq!(rt; steps_cost(leg), leg.cost);
+        assert!(rt; steps_cost(leg) == leg.cost);
         sum = sum.wrapping_add(leg.cost);
     }
-    assert_eq!(rt; sum, tour.cost);
+    assert!(rt; sum == tour.cost);
     if !row.legs.is_empty() {
         for (leg, wanted) in tour.legs.as_slice().iter().zip(row.legs) {
-            assert_eq!(rt; leg.cost, *wanted);
+            assert!(rt; leg.cost == *wanted);
         }
     }
 }
@@ -117,31 +117,31 @@ fn judge_order(rt: &impl Abort, alloc: Global, tour: &TourTold, row: &Row) -> Re
     let mut wanted = Vec::from_slice(alloc, row.stops)?;
     wanted.sort_unstable();
     let found = tails(alloc, tour.order.as_slice())?;
-    assert_eq!(rt; found.as_slice(), wanted.as_slice());
+    assert!(rt; found.as_slice() == wanted.as_slice());
     for (found, wanted) in tour.order.as_slice().iter().zip(row.order) {
-        assert_eq!(rt; *found, id(*wanted));
+        assert!(rt; *found == id(*wanted));
     }
     Ok(())
 }
 
 fn judge_reply(rt: &impl Abort, alloc: Global, reply: &Reply, row: &Row) -> Result<(), Fail> {
-    assert_eq!(rt; told_of(reply), row.told);
+    assert!(rt; told_of(reply) == row.told);
     match reply {
         Reply::Tour(tour) => {
-            assert_eq!(rt; tour.from, id(row.from));
-            assert_eq!(rt; tour.to, id(row.to));
-            assert_eq!(rt; tour.profile.as_str(), row.profile);
+            assert!(rt; tour.from == id(row.from));
+            assert!(rt; tour.to == id(row.to));
+            assert!(rt; tour.profile.as_str() == row.profile);
             judge_legs(rt, tour, row);
             judge_order(rt, alloc, tour, row)?;
         }
         Reply::NoTour(none) => {
-            assert_eq!(rt; none.from, id(row.from));
-            assert_eq!(rt; none.to, id(row.to));
-            assert_eq!(rt; none.profile.as_str(), row.profile);
+            assert!(rt; none.from == id(row.from));
+            assert!(rt; none.to == id(row.to));
+            assert!(rt; none.profile.as_str() == row.profile);
             for (found, wanted) in none.stops.as_slice().iter().zip(row.stops) {
-                assert_eq!(rt; *found, id(*wanted));
+                assert!(rt; *found == id(*wanted));
             }
-            assert_eq!(rt; none.stops.len(), row.stops.len());
+            assert!(rt; none.stops.len() == row.stops.len());
         }
         _ => {}
     }

@@ -128,9 +128,9 @@ fn sessions_read_when_all_is_answered(rt: HostRuntime) -> Result<(), Fail> {
         (REFUSED, End::Refused(400), 1),
     ] {
         let mut client = Patient::new(turns);
-        assert_eq!(rt; serve_session(alloc, &mut hall, &front, &mut client), end);
-        assert_eq!(rt; client.reads, reads);
-        assert_eq!(rt; client.written, client.due);
+        assert!(rt; serve_session(alloc, &mut hall, &front, &mut client) == end);
+        assert!(rt; client.reads == reads);
+        assert!(rt; client.written == client.due);
     }
     Ok(())
 }

@@ -167,7 +167,7 @@ fn sees(
     let mut text = head_of(alloc, told)?;
     text.push_str(whole(alloc, body)?.as_str())?;
     let bytes = reply_bytes(alloc, reply, close).expect(rt, "memory");
-    assert!(rt; bytes.as_slice() == text.as_bytes(), "{text}");
+    assert!(rt; bytes.as_slice() == text.as_bytes());
     Ok(())
 }
 
@@ -180,9 +180,9 @@ fn sees_refusal(
     body: &str,
 ) -> Result<(), AllocError> {
     let mut text = head_of(alloc, told)?;
-    assert!(rt; bare_bytes(refusal, false) == text.as_bytes(), "{text}");
+    assert!(rt; bare_bytes(refusal, false) == text.as_bytes());
     text.push_str(body)?;
-    assert!(rt; refusal_bytes(refusal, false) == text.as_bytes(), "{text}");
+    assert!(rt; refusal_bytes(refusal, false) == text.as_bytes());
     Ok(())
 }
 
@@ -385,12 +385,12 @@ fn answers_have_their_bytes(rt: HostRuntime) -> Result<(), Fail> {
             places: 33,
         };
         let written = reply_bytes(alloc, &version, close).expect(&rt, "memory");
-        assert_eq!(rt; written.as_slice(), bytes);
+        assert!(rt; written.as_slice() == bytes);
     }
     let bytes =
         b"HTTP/1.1 503 Service Unavailable\r\ncontent-type: application/json\r\ncontent-length: 26\r\nconnection: close\r\n\r\n{\"error\":\"want_of_memory\"}";
-    assert_eq!(rt; want_of_memory(true), bytes.as_slice());
-    assert_eq!(rt; want_of_memory(false).len(), 114);
+    assert!(rt; want_of_memory(true) == bytes.as_slice());
+    assert!(rt; want_of_memory(false).len() == 114);
     let table = [
         (
             Reply::NoProfile,

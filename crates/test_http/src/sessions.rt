@@ -183,12 +183,8 @@ fn judge_session(
     let mut link = stream(alloc, row, size)?;
     let end = serve_session(alloc, hall, front, &mut link);
     let written = joined(alloc, row.written, 0)?;
-    assert!(rt;
-        link.written() == written.as_slice(),
-        "{} in pieces of {size}",
-        row.name
-    );
-    assert_eq!(rt; end, row.end, "{} in pieces of {size}", row.name);
+    assert!(rt; link.written() == written.as_slice());
+    assert!(rt; end == row.end);
     Ok(())
 }
 

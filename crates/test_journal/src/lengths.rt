@@ -83,7 +83,7 @@ fn appended(rt: &impl Abort, trial: &Trial<'_>) -> Result<(usize, usize), Fail> 
     let appends = trial.entries.len();
     let mut outcome = trial.run(rt, appends)?;
     let calls = outcome.disk.calls().len();
-    assert_eq!(rt; outcome.count, appends as u64);
+    assert!(rt; outcome.count == appends as u64);
     assert!(rt; outcome.is_kept);
     let bytes = content(trial.alloc, &mut outcome.disk)?;
     assert!(rt; bytes == text_of(trial)?);
@@ -95,7 +95,7 @@ fn a_closure_on_each_beginning(rt: HostRuntime) -> Result<(), Fail> {
     let entries = [closing()];
     for row in &ROWS {
         let trial = Trial::over(rt.alloc(), row.first, &entries);
-        assert_eq!(rt; appended(&rt, &trial)?, (row.length, row.calls));
+        assert!(rt; appended(&rt, &trial)? == (row.length, row.calls));
     }
     one_journal();
     Ok(())
@@ -105,7 +105,7 @@ fn a_closure_on_each_beginning(rt: HostRuntime) -> Result<(), Fail> {
 fn a_closure_and_a_reopening(rt: HostRuntime) -> Result<(), Fail> {
     let entries = [closing(), reopening()];
     let trial = Trial::over(rt.alloc(), &[], &entries);
-    assert_eq!(rt; appended(&rt, &trial)?, (43, 10));
+    assert!(rt; appended(&rt, &trial)? == (43, 10));
     Ok(())
 }
 
@@ -115,9 +115,9 @@ fn the_station_and_a_closure(rt: HostRuntime) -> Result<(), Fail> {
     let station = station(alloc)?;
     let entries = [station.entry(), closing()];
     let trial = Trial::over(alloc, &[], &entries);
-    assert_eq!(rt; appended(&rt, &trial)?, (12_455, 34));
-    assert_eq!(rt; station.text.len(), 12_433);
-    assert_eq!(rt; sum_of(&station.text), 0x3388_b1e7_0294_1034);
+    assert!(rt; appended(&rt, &trial)? == (12_455, 34));
+    assert!(rt; station.text.len() == 12_433);
+    assert!(rt; sum_of(&station.text) == 0x3388_b1e7_0294_1034);
     Ok(())
 }
 
@@ -127,7 +127,7 @@ fn a_small_folder(rt: HostRuntime) -> Result<(), Fail> {
     let small = small(alloc)?;
     let entries = [small.entry()];
     let trial = Trial::over(alloc, &[], &entries);
-    assert_eq!(rt; appended(&rt, &trial)?, (50, 10));
-    assert_eq!(rt; small.text.as_slice(), SMALL.as_slice());
+    assert!(rt; appended(&rt, &trial)? == (50, 10));
+    assert!(rt; small.text.as_slice() == SMALL.as_slice());
     Ok(())
 }

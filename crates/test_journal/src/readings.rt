@@ -24,7 +24,7 @@ pub(crate) const TALL_STATION: &[u8] = b"tall station";
 pub(crate) const CUT: &[u8] = b"cut";
 
 /// What is told of a journal.
-#[derive(Clone, Copy, Debug, PartialEq, Eq)]
+#[derive(Clone, Copy, PartialEq, Eq)]
 pub(crate) enum Told {
     New,
     Version,
@@ -138,10 +138,7 @@ fn is_closed_for(rows: &[ClosedRow], names: &[&str]) -> bool {
 
 // Judges a board by its number and by what is closed.
 fn judge_board(rt: &impl Abort, alloc: Global, board: &Board, row: &Row) {
-    assert_eq!(rt;
-        (Told::Version, u64::from(board.number())),
-        (row.told, row.number)
-    );
+    assert!(rt; (Told::Version, u64::from(board.number())) == (row.told, row.number));
     let query = Query {
         since: None,
         what: Ask::Closures,
@@ -160,10 +157,10 @@ fn judge_restored(
     row: &Row,
 ) -> Journal<MemoryDisk> {
     match &restored.resumed {
-        None => assert_eq!(rt; row.told, Told::New),
+        None => assert!(rt; row.told == Told::New),
         Some(resumed) => judge_board(rt, alloc, &resumed.held.board, row),
     }
-    assert_eq!(rt; restored.journal.record_count(), row.number);
+    assert!(rt; restored.journal.record_count() == row.number);
     restored.journal
 }
 
@@ -178,7 +175,7 @@ pub(crate) fn judge(
     let mut disk = match read_back(alloc, &bytes, &[], settings)? {
         Ok(restored) => judge_restored(rt, alloc, restored, row).into_disk(),
         Err(Unrestored { disk, fault }) => {
-            assert_eq!(rt; told_of(fault), (row.told, row.number));
+            assert!(rt; told_of(fault) == (row.told, row.number));
             disk
         }
     };

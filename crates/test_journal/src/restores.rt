@@ -451,10 +451,10 @@ fn each_front_of_a_journal_tells(rt: HostRuntime) -> Result<(), Fail> {
     let alloc = rt.alloc();
     let settings = Arc::new(alloc, station_settings(alloc)?)?;
     let bytes = journal_of(alloc, &THREE)?;
-    assert_eq!(rt; bytes.len(), 12_476);
+    assert!(rt; bytes.len() == 12_476);
     for length in 0..=bytes.len() {
         let front = bytes.get(..length).unwrap_or(&[]);
-        assert_eq!(rt; told(alloc, front, &settings)?, of_front(length));
+        assert!(rt; told(alloc, front, &settings)? == of_front(length));
     }
     Ok(())
 }
@@ -469,11 +469,11 @@ fn fails_at(
     let bytes = journal_of(alloc, &THREE)?;
     match read_back(alloc, &bytes, &[call], settings)? {
         Ok(restored) => {
-            assert_eq!(rt; restored.journal.record_count(), 3);
+            assert!(rt; restored.journal.record_count() == 3);
             Ok(false)
         }
         Err(Unrestored { mut disk, fault }) => {
-            assert_eq!(rt; told_of(fault), (Told::Failed, 0));
+            assert!(rt; told_of(fault) == (Told::Failed, 0));
             assert!(rt; content(alloc, &mut disk)? == bytes);
             Ok(true)
         }
@@ -503,7 +503,7 @@ fn a_journal_goes_on_where_it_ends(rt: HostRuntime) -> Result<(), Fail> {
     };
     let mut journal = restored.journal;
     assert!(rt; append(&rt, &mut journal, &closing()));
-    assert_eq!(rt; journal.record_count(), 3);
+    assert!(rt; journal.record_count() == 3);
     bytes.truncate(24_866);
     bytes.extend_from_slice(&CLOSING)?;
     bytes.push(0)?;

@@ -67,7 +67,7 @@ fn small_tables(rt: HostRuntime) {
             Some(9),
         ),
     ] {
-        assert_eq!(rt; found, wanted);
+        assert!(rt; found == wanted);
     }
 }
 
@@ -80,7 +80,7 @@ fn no_order(rt: HostRuntime) {
         answer(2, &[0, NO, NO, 1, 1, 0, 1, 1, 1, 1, 0, 1, 1, 1, 1, 0]),
         answer(2, &[0, 1, NO, 1, 1, 0, 2, 1, 1, 1, 0, NO, 1, 1, 1, 0]),
     ] {
-        assert_eq!(rt; found, None);
+        assert!(rt; found == None);
     }
 }
 
@@ -99,6 +99,6 @@ fn eight_stops(rt: HostRuntime) {
             Some(39_582_418_599_927),
         ),
     ] {
-        assert_eq!(rt; found, wanted);
+        assert!(rt; found == wanted);
     }
 }

@@ -95,7 +95,7 @@ fn sides(rt: HostRuntime) {
         ((-FAR, -FAR), (FAR, FAR), (FAR, FAR - 1), -200_000_000),
     ];
     for (a, b, p, want) in table {
-        assert_eq!(rt; side_at(a, b, p), want, "{a:?} {b:?} {p:?}");
+        assert!(rt; side_at(a, b, p) == want);
     }
 }
 
@@ -129,7 +129,7 @@ fn crossings(rt: HostRuntime) {
         ),
     ];
     for (a, b, c, d, want) in table {
-        assert_eq!(rt; crosses_at(a, b, c, d), want, "{a:?} {b:?} {c:?} {d:?}");
+        assert!(rt; crosses_at(a, b, c, d) == want);
     }
 }
 
@@ -162,7 +162,7 @@ fn distances(rt: HostRuntime) {
         ((-FAR, FAR), (FAR, -FAR), (FAR, -FAR), 1_000_000, false),
     ];
     for (p, a, b, t, want) in table {
-        assert_eq!(rt; near_edge_at(p, a, b, t), want, "{p:?} {a:?} {b:?} {t}");
+        assert!(rt; near_edge_at(p, a, b, t) == want);
     }
 }
 
@@ -198,7 +198,7 @@ fn lengths(rt: HostRuntime) {
         ((2 * FAR, 2 * FAR), (-2 * FAR, -2 * FAR), 1, 1, 1),
     ];
     for (a, b, kx, ky, want) in table {
-        assert_eq!(rt; length_at(a, b, kx, ky), want, "{a:?} {b:?}");
+        assert!(rt; length_at(a, b, kx, ky) == want);
         assert_shortest(&rt, a, b, kx, ky);
     }
 }
@@ -220,13 +220,10 @@ fn assert_shortest(rt: &impl Abort, a: (i64, i64), b: (i64, i64), kx: u32, ky: u
     let square = stretched(a.0, b.0, kx).wrapping_add(stretched(a.1, b.1, ky));
     let c = length_at(a, b, kx, ky);
     let less = c.saturating_sub(1);
-    assert!(rt; square <= square_of(c), "{a:?} {b:?} {kx} {ky}");
-    assert!(rt; c == 0 || square_of(less) < square, "{a:?} {b:?} {kx} {ky}");
-    assert!(rt; spans_at(a, b, kx, ky, c), "{a:?} {b:?} {kx} {ky}");
-    assert!(rt;
-        c == 0 || !spans_at(a, b, kx, ky, less),
-        "{a:?} {b:?} {kx} {ky}"
-    );
+    assert!(rt; square <= square_of(c));
+    assert!(rt; c == 0 || square_of(less) < square);
+    assert!(rt; spans_at(a, b, kx, ky, c));
+    assert!(rt; c == 0 || !spans_at(a, b, kx, ky, less));
 }
 
 /// A number up to 2^31 by arithmetic alone, which moves the state on.
@@ -337,16 +334,8 @@ fn shapes(rt: HostRuntime) -> Result<(), Fail> {
         for (y, line) in (-10..=10i64).rev().zip(PICTURE) {
             for (x, mark) in (-10..=10i64).zip(line) {
                 let p = (x.saturating_mul(scale), y.saturating_mul(scale));
-                assert_eq!(rt;
-                    inside_at(p, &shape),
-                    *mark == b'i' || *mark == b'x',
-                    "{x} {y}"
-                );
-                assert_eq!(rt;
-                    near_at(p, &shape, 0),
-                    *mark == b'o' || *mark == b'x',
-                    "{x} {y}"
-                );
+                assert!(rt; inside_at(p, &shape) == (*mark == b'i' || *mark == b'x'));
+                assert!(rt; near_at(p, &shape, 0) == (*mark == b'o' || *mark == b'x'));
             }
         }
     }
@@ -364,7 +353,7 @@ fn shapes(rt: HostRuntime) -> Result<(), Fail> {
         ((-900, -900), 99, false),
     ];
     for (p, t, want) in table {
-        assert_eq!(rt; near_at(p, &shape, t), want, "{p:?} {t}");
+        assert!(rt; near_at(p, &shape, t) == want);
     }
     Ok(())
 }

@@ -59,7 +59,7 @@ fn row(alloc: Global, more: &[(i64, i64)]) -> Result<Shape, AllocError>
     })
 }
 
-#[derive(Clone, Copy, Debug)]
+#[derive(Clone, Copy)]
 enum Form {
     Staircase,
     Comb,
@@ -241,13 +241,13 @@ fn forms(rt: HostRuntime) -> Result<(), Fail> {
             for p in [*point, middle(before, *point), (point.0, before.1)] {
                 for step in STEPS {
                     let q = (p.0.wrapping_add(step.0), p.1.wrapping_add(step.1));
-                    assert!(rt; agree(&one, &bands, q), "{form:?} {q:?}");
-                    assert!(rt; agree_on_ring(&outer, &ring_bands, q), "{form:?} {q:?}");
+                    assert!(rt; agree(&one, &bands, q));
+                    assert!(rt; agree_on_ring(&outer, &ring_bands, q));
                 }
             }
             before = *point;
         }
-        assert!(rt; !crosses_at(alloc, points.as_slice())?, "{form:?}");
+        assert!(rt; !crosses_at(alloc, points.as_slice())?);
     }
     Ok(())
 }
@@ -261,21 +261,21 @@ fn crosses_at(alloc: Global, points: &[(i64, i64)]) -> Result<bool, Fail> {
 fn rings_that_cross(rt: HostRuntime) -> Result<(), Fail> {
     let alloc = rt.alloc();
     let mut stairs = drawn(alloc, Form::Staircase)?;
-    assert!(rt; !crosses_at(alloc, stairs.as_slice())?, "stairs");
+    assert!(rt; !crosses_at(alloc, stairs.as_slice())?);
     if let Some(place) = stairs.get_mut(198) {
         *place = (0, 500);
     }
-    assert!(rt; crosses_at(alloc, stairs.as_slice())?, "stairs crossed");
+    assert!(rt; crosses_at(alloc, stairs.as_slice())?);
     // A star of five points; rings that touch themselves, go there and back, stay in one place, or have no edge.
     let star = [(0, 5), (3, -4), (-5, 2), (5, 2), (-3, -4), (0, 5)];
-    assert!(rt; crosses_at(alloc, &star)?, "star");
+    assert!(rt; crosses_at(alloc, &star)?);
     let touch = [(0, 0), (4, 0), (4, 4), (2, 0), (0, 4), (0, 0)];
-    assert!(rt; !crosses_at(alloc, &touch)?, "touch");
+    assert!(rt; !crosses_at(alloc, &touch)?);
     let back = [(0, 0), (9, 9), (3, 3), (9, 9), (0, 0)];
-    assert!(rt; !crosses_at(alloc, &back)?, "back");
-    assert!(rt; !crosses_at(alloc, &[(7, 7); 30])?, "one place");
-    assert!(rt; !crosses_at(alloc, &[(7, 7)])?, "one point");
-    assert!(rt; !crosses_at(alloc, &[])?, "no point");
+    assert!(rt; !crosses_at(alloc, &back)?);
+    assert!(rt; !crosses_at(alloc, &[(7, 7); 30])?);
+    assert!(rt; !crosses_at(alloc, &[(7, 7)])?);
+    assert!(rt; !crosses_at(alloc, &[])?);
     let wide = [
         (-FAR, -FAR),
         (FAR, FAR),
@@ -283,7 +283,7 @@ fn rings_that_cross(rt: HostRuntime) -> Result<(), Fail> {
         (FAR, -FAR),
         (-FAR, -FAR),
     ];
-    assert!(rt; crosses_at(alloc, &wide)?, "wide");
+    assert!(rt; crosses_at(alloc, &wide)?);
     Ok(())
 }
 
@@ -305,18 +305,14 @@ fn many_rings(rt: HostRuntime) -> Result<(), Fail> {
             ((40_500, 500), true),
         ];
         for (p, want) in table {
-            assert_eq!(rt;
-                inside_at(&many, &bands, p),
-                want != (open && p.0 < 50_000),
-                "{p:?}"
-            );
+            assert!(rt; inside_at(&many, &bands, p) == (want != (open && p.0 < 50_000)));
         }
         for x in -2..130i64 {
             for y in -2..9i64 {
                 let p = (x.wrapping_mul(500), y.wrapping_mul(500));
                 for step in STEPS {
                     let q = (p.0.wrapping_add(step.0), p.1.wrapping_add(step.1));
-                    assert!(rt; agree(&many, &bands, q), "{q:?}");
+                    assert!(rt; agree(&many, &bands, q));
                 }
             }
         }
@@ -333,16 +329,10 @@ fn many_rings(rt: HostRuntime) -> Result<(), Fail> {
         &[],
     )?;
     let bands = Bands::of(alloc, &wide)?;
-    assert!(rt; inside_at(&wide, &bands, (-FAR, -FAR)), "corner");
-    assert!(rt; !inside_at(&wide, &bands, (FAR, FAR)), "far corner");
-    assert!(rt; near_at(&wide, &bands, (FAR, FAR), 0), "far corner");
-    assert!(rt;
-        near_at(&wide, &bands, (FAR - 1_000_000, 0), 1_000_000),
-        "near"
-    );
-    assert!(rt;
-        !near_at(&wide, &bands, (FAR - 1_000_001, 0), 1_000_000),
-        "not near"
-    );
+    assert!(rt; inside_at(&wide, &bands, (-FAR, -FAR)));
+    assert!(rt; !inside_at(&wide, &bands, (FAR, FAR)));
+    assert!(rt; near_at(&wide, &bands, (FAR, FAR), 0));
+    assert!(rt; near_at(&wide, &bands, (FAR - 1_000_000, 0), 1_000_000));
+    assert!(rt; !near_at(&wide, &bands, (FAR - 1_000_001, 0), 1_000_000));
     Ok(())
 }

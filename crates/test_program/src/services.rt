@@ -124,12 +124,12 @@ fn judge<R: Abort + Threads + Wait + Sync>(
         &mut console,
     );
     for client in &clients {
-        assert_eq!(rt; client.ending(), (0, false, false));
+        assert!(rt; client.ending() == (0, false, false));
     }
-    assert_eq!(rt; str::from_utf8(console.written()), Ok(text));
-    assert_eq!(rt; status.code(), 0);
-    assert_eq!(rt; doors.accepted(), clients.len() as u64);
-    assert_eq!(rt; doors.fault_count(), 0);
+    assert!(rt; str::from_utf8(console.written()) == Ok(text));
+    assert!(rt; status.code() == 0);
+    assert!(rt; doors.accepted() == clients.len() as u64);
+    assert!(rt; doors.fault_count() == 0);
     Ok(())
 }
 

@@ -36,10 +36,7 @@ fn begins(
     wanted: &[&str],
 ) -> Result<(), Fail> {
     let wanted = plain(alloc, wanted)?;
-    assert!(rt;
-        text_at(files, file).starts_with(wanted.as_bytes()),
-        "{wanted}"
-    );
+    assert!(rt; text_at(files, file).starts_with(wanted.as_bytes()));
     Ok(())
 }
 
@@ -61,7 +58,7 @@ fn lengths(rt: HostRuntime) -> Result<(), Fail> {
         (VENUE, 348),
     ];
     for (file, length) in table {
-        assert_eq!(rt; text_at(&files, file).len(), length);
+        assert!(rt; text_at(&files, file).len() == length);
     }
     for file in [DETAIL, FIXTURE, GEOFENCE, KIOSK, SECTION] {
         assert!(rt; matches!(files.slots.get(file), Some(Slot::Absent)));
@@ -114,12 +111,12 @@ fn texts(rt: HostRuntime) -> Result<(), Fail> {
 fn written_twice(rt: HostRuntime) -> Result<(), Fail> {
     let alloc = rt.alloc();
     let once = written(alloc)?;
-    assert_eq!(rt; once.slots.len(), 17);
+    assert!(rt; once.slots.len() == 17);
     let read = read_folder(alloc, &once)?;
     assert!(rt; read.findings.is_empty());
     let twice = write_folder(alloc, &read.features)?;
     for file in MANIFEST..=VENUE {
-        assert_eq!(rt; text_at(&twice, file), text_at(&once, file));
+        assert!(rt; text_at(&twice, file) == text_at(&once, file));
     }
     Ok(())
 }

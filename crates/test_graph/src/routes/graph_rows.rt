@@ -8,7 +8,6 @@ pub type Passage = (u128, u128, u128, u32, Kind);
 
 /// A changed station, and its links.
 pub struct Row {
-    pub name: &'static str,
     pub edits: &'static [Edit],
     /// How many links there are.
     pub listed: usize,
@@ -33,8 +32,8 @@ const PASSAGES: [Passage; 7] = [
 ];
 
 pub static ROWS: [Row; 5] = [
+    // The station.
     Row {
-        name: "the station",
         edits: &[],
         listed: 243,
         first: 1_700,
@@ -72,8 +71,8 @@ pub static ROWS: [Row; 5] = [
         ],
         passages: &PASSAGES,
     },
+    // An opening of three units.
     Row {
-        name: "an opening of three units",
         edits: &[
             (
                 UNIT,
@@ -94,8 +93,8 @@ pub static ROWS: [Row; 5] = [
         by: &[(0x0300, 182), (0x0305, 12), (0x0306, 2)],
         passages: &PASSAGES,
     },
+    // A chain with a level in it, to an occupant.
     Row {
-        name: "a chain with a level in it, to an occupant",
         edits: &[(
             RELATIONSHIP,
             "@0102",
@@ -116,8 +115,8 @@ pub static ROWS: [Row; 5] = [
             (0x0204, 0x0104, 0x0024, 2_000, Kind::Ramp),
         ],
     },
+    // An amenity of two units.
     Row {
-        name: "an amenity of two units",
         edits: &[
             (AMENITY, "@0031", "(30,25)", "(25,10)"),
             (AMENITY, "@0031", "'@0300'", "'@0300','@0305'"),
@@ -128,8 +127,8 @@ pub static ROWS: [Row; 5] = [
         by: &[(0x0300, 182), (0x0305, 12)],
         passages: &PASSAGES,
     },
+    // An amenity that names its unit twice.
     Row {
-        name: "an amenity that names its unit twice",
         edits: &[(AMENITY, "@0031", "'@0300'", "'@0300','@0300'")],
         listed: 243,
         first: 1_700,

@@ -43,14 +43,14 @@ fn count_by(links: &[Link], via: u32) -> usize {
 }
 
 fn judge_counts(rt: &impl Abort, graph: &Graph, links: &[Link], row: &Row) {
-    assert!(rt; links.len() == row.listed, "{}", row.name);
+    assert!(rt; links.len() == row.listed);
     for (tail, count) in row.out {
         let n = node(rt, graph, *tail);
-        assert!(rt; graph.out_count(n) == *count, "{}", row.name);
+        assert!(rt; graph.out_count(n) == *count);
     }
     for (tail, count) in row.by {
         let k = closable(rt, graph, *tail);
-        assert!(rt; count_by(links, k) == *count, "{}", row.name);
+        assert!(rt; count_by(links, k) == *count);
     }
 }
 
@@ -77,7 +77,7 @@ fn judge_passages(rt: &impl Abort, graph: &Graph, links: &[Link], row: &Row) {
     let mut place = links.len().saturating_sub(row.passages.len());
     for passage in row.passages {
         let wanted = link_of(rt, graph, passage);
-        assert!(rt; is_link(links, place, &wanted), "{}", row.name);
+        assert!(rt; is_link(links, place, &wanted));
         place = place.saturating_add(1);
     }
 }

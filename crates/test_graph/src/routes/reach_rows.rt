@@ -17,7 +17,6 @@ pub enum Left {
 /// A question with several ends, while some features are closed.
 #[derive(Clone, Copy)]
 pub struct ReachRow {
-    pub name: &'static str,
     pub closed: &'static [u128],
     pub ends: &'static [u128],
     pub count: u32,
@@ -34,48 +33,48 @@ const UPSTAIRS: FoundEnd = (
 );
 
 pub static REACH_ROWS: [ReachRow; 6] = [
+    // The first of one.
     ReachRow {
-        name: "the first of one",
         closed: &[],
         ends: &[0x0031],
         count: 1,
         found: &[RESTROOM],
         left: Left::Bound,
     },
+    // Both of two.
     ReachRow {
-        name: "both of two",
         closed: &[],
         ends: &[0x0031, 0x0042],
         count: 2,
         found: &[RESTROOM, UPSTAIRS],
         left: Left::Bound,
     },
+    // Three of two.
     ReachRow {
-        name: "three of two",
         closed: &[],
         ends: &[0x0031, 0x0042],
         count: 3,
         found: &[RESTROOM, UPSTAIRS],
         left: Left::Reached(BOTH),
     },
+    // The start itself.
     ReachRow {
-        name: "the start itself",
         closed: &[],
         ends: &[0x0041],
         count: 1,
         found: &[(0x0041, 0, &[])],
         left: Left::Bound,
     },
+    // A closed door before it.
     ReachRow {
-        name: "a closed door before it",
         closed: &[0x0105],
         ends: &[0x0031],
         count: 1,
         found: &[],
         left: Left::Reached(&[0x0041, 0x0305]),
     },
+    // No end at all.
     ReachRow {
-        name: "no end at all",
         closed: &[],
         ends: &[],
         count: 1,

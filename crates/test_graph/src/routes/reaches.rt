@@ -56,10 +56,10 @@ fn search<L: Ledger>(
     )?)
 }
 
-fn judge_walk(rt: &impl Abort, graph: &Graph, walk: &[Link], stops: &[u128], name: &str) {
-    assert!(rt; walk.len() == stops.len(), "{name}");
+fn judge_walk(rt: &impl Abort, graph: &Graph, walk: &[Link], stops: &[u128]) {
+    assert!(rt; walk.len() == stops.len());
     for (link, tail) in walk.iter().zip(stops) {
-        assert!(rt; graph.node_of(id(*tail)) == Some(link.to), "{name}");
+        assert!(rt; graph.node_of(id(*tail)) == Some(link.to));
     }
 }
 
@@ -69,15 +69,14 @@ fn judge_end(
     graph: &Graph,
     known: &Reach,
     end: &FoundEnd,
-    name: &str,
 ) -> Result<(), Fail> {
     let (tail, wanted, stops) = end;
     let n = node(rt, graph, *tail);
     match known.cost(n) {
         Some(cost) => {
-            assert!(rt; cost == *wanted, "{name}");
+            assert!(rt; cost == *wanted);
             let walk = known.walk(alloc, n)?;
-            judge_walk(rt, graph, walk.as_slice(), stops, name);
+            judge_walk(rt, graph, walk.as_slice(), stops);
             Ok(())
         }
         None => Err(Fail::new("an end without a cost")),
@@ -94,13 +93,13 @@ fn judge_left(
     match (known.bound(), row.left) {
         (Some(bound), Left::Bound) => {
             for (_, cost, _) in row.found {
-                assert!(rt; bound > *cost, "{}", row.name);
+                assert!(rt; bound > *cost);
             }
             Ok(())
         }
         (None, Left::Reached(wanted)) => {
             let reached = known.reached(alloc)?;
-            judge_reached(rt, graph, reached.as_slice(), wanted, row.name);
+            judge_reached(rt, graph, reached.as_slice(), wanted);
             Ok(())
         }
         _ => Err(Fail::new("a bound where none is wanted, or none")),
@@ -118,7 +117,7 @@ fn judge_row<L: Ledger>(
     let marks = marks_of(rt, alloc, graph, row.closed)?;
     let known = search(rt, alloc, graph, &marks, profile, row, steps)?;
     for end in row.found {
-        judge_end(rt, alloc, graph, &known, end, row.name)?;
+        judge_end(rt, alloc, graph, &known, end)?;
     }
     judge_left(rt, alloc, graph, &known, row)
 }

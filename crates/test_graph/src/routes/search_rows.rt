@@ -10,7 +10,6 @@ pub enum Wanted {
 /// A way that is looked for while some features are closed.
 #[derive(Clone, Copy)]
 pub struct Row {
-    pub name: &'static str,
     pub closed: &'static [u128],
     /// The place of the profile in the settings: `walk` is the first, `wheelchair` the second.
     pub profile: usize,
@@ -37,104 +36,104 @@ pub(super) const BOTH: &[u128] = &[
 ];
 
 pub static ROWS: [Row; 13] = [
+    // By the lift.
     Row {
-        name: "by the lift",
         closed: &[],
         profile: WHEELCHAIR,
         from: 0x0041,
         to: 0x0042,
         found: Wanted::Route(9_040, &[0x0305, 0x0300, 0x0301, 0x0021, 0x0401, 0x0400]),
     },
+    // By the stairs.
     Row {
-        name: "by the stairs",
         closed: &[],
         profile: WALK,
         from: 0x0041,
         to: 0x0042,
         found: Wanted::Route(8_683, &[0x0305, 0x0300, 0x0022, 0x0400]),
     },
+    // By the ramp.
     Row {
-        name: "by the ramp",
         closed: &[0x0301],
         profile: WHEELCHAIR,
         from: 0x0041,
         to: 0x0042,
         found: Wanted::Route(14_023, &[0x0305, 0x0300, 0x0024, 0x0400]),
     },
+    // No way up.
     Row {
-        name: "no way up",
         closed: &[0x0301, 0x0024],
         profile: WHEELCHAIR,
         from: 0x0041,
         to: 0x0042,
         found: Wanted::Cut(LOWER),
     },
+    // The stairs stay.
     Row {
-        name: "the stairs stay",
         closed: &[0x0301, 0x0024],
         profile: WALK,
         from: 0x0041,
         to: 0x0042,
         found: Wanted::Route(8_683, &[0x0305, 0x0300, 0x0022, 0x0400]),
     },
+    // Nowhere from a closed room.
     Row {
-        name: "nowhere from a closed room",
         closed: &[0x0305],
         profile: WALK,
         from: 0x0041,
         to: 0x0041,
         found: Wanted::Route(0, &[]),
     },
+    // Out of a closed room.
     Row {
-        name: "out of a closed room",
         closed: &[0x0305],
         profile: WALK,
         from: 0x0041,
         to: 0x0105,
         found: Wanted::Cut(&[0x0041]),
     },
+    // Down the escalator.
     Row {
-        name: "down the escalator",
         closed: &[],
         profile: WALK,
         from: 0x0103,
         to: 0x0203,
         found: Wanted::Route(800, &[0x0023]),
     },
+    // Not up it.
     Row {
-        name: "not up it",
         closed: &[],
         profile: WALK,
         from: 0x0203,
         to: 0x0103,
         found: Wanted::Route(3_500, &[0x0400, 0x0022, 0x0300]),
     },
+    // Out of what a wheelchair can't pass.
     Row {
-        name: "out of what a wheelchair can't pass",
         closed: &[],
         profile: WHEELCHAIR,
         from: 0x0107,
         to: 0x0031,
         found: Wanted::Cut(&[0x0107]),
     },
+    // To where a wheelchair can't go.
     Row {
-        name: "to where a wheelchair can't go",
         closed: &[],
         profile: WHEELCHAIR,
         from: 0x0041,
         to: 0x0302,
         found: Wanted::Cut(BOTH),
     },
+    // From an occupant.
     Row {
-        name: "from an occupant",
         closed: &[],
         profile: WHEELCHAIR,
         from: 0x0051,
         to: 0x0052,
         found: Wanted::Route(9_040, &[0x0305, 0x0300, 0x0301, 0x0021, 0x0401, 0x0400]),
     },
+    // To a closed place.
     Row {
-        name: "to a closed place",
         closed: &[0x0201],
         profile: WHEELCHAIR,
         from: 0x0041,

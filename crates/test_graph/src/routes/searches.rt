@@ -127,36 +127,30 @@ fn is_way(graph: &Graph, link: &Link, tail: u128) -> bool {
     graph.closable(id(tail)) == Some(link.via)
 }
 
-fn judge_walk(rt: &impl Abort, graph: &Graph, walk: &[Link], ways: &[u128], name: &str) {
-    assert!(rt; walk.len() == ways.len(), "{name}");
+fn judge_walk(rt: &impl Abort, graph: &Graph, walk: &[Link], ways: &[u128]) {
+    assert!(rt; walk.len() == ways.len());
     for (link, way) in walk.iter().zip(ways) {
-        assert!(rt; is_way(graph, link, *way), "{name}");
+        assert!(rt; is_way(graph, link, *way));
     }
 }
 
-pub(super) fn judge_reached(
-    rt: &impl Abort,
-    graph: &Graph,
-    reached: &[u32],
-    wanted: &[u128],
-    name: &str,
-) {
-    assert!(rt; reached.len() == wanted.len(), "{name}");
+pub(super) fn judge_reached(rt: &impl Abort, graph: &Graph, reached: &[u32], wanted: &[u128]) {
+    assert!(rt; reached.len() == wanted.len());
     for (n, tail) in reached.iter().zip(wanted) {
-        assert!(rt; graph.node_of(id(*tail)) == Some(*n), "{name}");
+        assert!(rt; graph.node_of(id(*tail)) == Some(*n));
     }
 }
 
 fn judge_found(rt: &impl Abort, graph: &Graph, found: &Found, row: &Row) {
     match (found, row.found) {
         (Found::Route { walk, cost, .. }, Wanted::Route(wanted, ways)) => {
-            assert!(rt; *cost == wanted, "{}", row.name);
-            judge_walk(rt, graph, walk.as_slice(), ways, row.name);
+            assert!(rt; *cost == wanted);
+            judge_walk(rt, graph, walk.as_slice(), ways);
         }
         (Found::Cut { reached }, Wanted::Cut(wanted)) => {
-            judge_reached(rt, graph, reached.as_slice(), wanted, row.name);
+            judge_reached(rt, graph, reached.as_slice(), wanted);
         }
-        _ => assert!(rt; false, "{}", row.name),
+        _ => assert!(rt; false),
     }
 }
 

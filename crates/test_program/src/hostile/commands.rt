@@ -176,14 +176,10 @@ pub(super) fn the_disk_or_the_console_fails(
         let input = joined(alloc, &[VERSION])?;
         let failing = [*read, 0, *write];
         let ended = run_without_doors(rt, alloc, words, files, input, failing, *room)?;
-        assert_eq!(rt;
-            str::from_utf8(ended.text.as_slice()),
-            Ok(*text),
-            "at {text}, read {read}"
-        );
-        assert_eq!(rt; ended.status, *status, "at {text}, read {read}");
+        assert!(rt; str::from_utf8(ended.text.as_slice()) == Ok(*text));
+        assert!(rt; ended.status == *status);
         let faults = u64::from(*read > 0 && *status == 3);
-        assert_eq!(rt; ended.folder_faults, faults, "at {text}, read {read}");
+        assert!(rt; ended.folder_faults == faults);
     }
     Ok(())
 }
@@ -207,12 +203,8 @@ pub(super) fn a_session_fails(
     for (failing, sent, written, status) in &SESSIONS {
         let ended = run_session(rt, alloc, sent, *failing)?;
         let written = joined(alloc, written)?;
-        assert_eq!(rt;
-            str::from_utf8(ended.text.as_slice()),
-            str::from_utf8(written.as_slice()),
-            "at {failing:?}"
-        );
-        assert_eq!(rt; ended.status, *status, "at {failing:?}");
+        assert!(rt; str::from_utf8(ended.text.as_slice()) == str::from_utf8(written.as_slice()));
+        assert!(rt; ended.status == *status);
     }
     Ok(())
 }
@@ -228,11 +220,8 @@ pub(super) fn each_write_of_a_session_fails(
             assert!(rt; write > 1 && ended.text.as_slice() == whole.as_slice());
             return Ok(());
         }
-        assert_eq!(rt; ended.status, 3, "at write {write}");
-        assert!(rt;
-            whole.as_slice().starts_with(ended.text.as_slice()),
-            "at write {write}"
-        );
+        assert!(rt; ended.status == 3);
+        assert!(rt; whole.as_slice().starts_with(ended.text.as_slice()));
     }
     Err(Fail::new("no session ends"))
 }
@@ -246,13 +235,9 @@ pub(super) fn each_read_of_a_publication_fails(
     // The settings and the 17 files of the folder are read before.
     for read in 19..=35 {
         let ended = run_session(rt, alloc, &sent, [read, 0, 0])?;
-        assert_eq!(rt;
-            str::from_utf8(ended.text.as_slice()),
-            str::from_utf8(whole.as_slice()),
-            "at read {read}"
-        );
-        assert_eq!(rt; ended.status, 0, "at read {read}");
-        assert_eq!(rt; ended.folder_faults, 1, "at read {read}");
+        assert!(rt; str::from_utf8(ended.text.as_slice()) == str::from_utf8(whole.as_slice()));
+        assert!(rt; ended.status == 0);
+        assert!(rt; ended.folder_faults == 1);
     }
     Ok(())
 }

@@ -24,7 +24,6 @@ const CUT_CLOSURE: &str =
 // What comes in a session for which nothing is written, and how it ends.
 #[derive(Drop)]
 struct Row {
-    name: &'static str,
     input: &'static str,
     // The sizes of pieces in which the input comes, in turn; 0 where it comes whole.
     pieces: &'static [usize],
@@ -59,13 +58,13 @@ fn judge_session(
     hall: &mut Alone<MemoryFolders>,
     front: &Front,
     link: MemoryStream,
-    row: (&str, &str, End),
+    row: (&str, End),
 ) -> Result<(), Fail> {
-    let (name, written, end) = row;
+    let (written, end) = row;
     let mut link = link;
     let ended = serve_session(alloc, hall, front, &mut link);
-    assert_eq!(rt; str::from_utf8(link.written()), Ok(written), "at {name}");
-    assert_eq!(rt; ended, end, "at {name}");
+    assert!(rt; str::from_utf8(link.written()) == Ok(written));
+    assert!(rt; ended == end);
     Ok(())
 }
 
@@ -80,17 +79,10 @@ fn judge(
 ) -> Result<(), Fail> {
     let input = joined(alloc, &[row.input])?;
     let link = stream(alloc, input, piece, 1_000, row.failing)?;
-    judge_session(rt, alloc, hall, front, link, (row.name, "", row.end))?;
+    judge_session(rt, alloc, hall, front, link, ("", row.end))?;
     let version = joined(alloc, &[VERSION])?;
     let link = stream(alloc, version, piece, 1_000, [0, 0])?;
-    judge_session(
-        rt,
-        alloc,
-        hall,
-        front,
-        link,
-        (row.name, row.later, End::Done),
-    )
+    judge_session(rt, alloc, hall, front, link, (row.later, End::Done))
 }
 
 // A row over a hall of its own for each size of pieces.
@@ -116,24 +108,24 @@ pub(super) fn links_fail_or_end(rt: &impl Abort, alloc: Global) -> Result<(), Fa
     let venue = venue_of(alloc, &settings)?;
     let front = Front::new(alloc, &settings.staff_keys)?;
     for row in &[
+        // The second read fails.
         Row {
-            name: "the second read fails",
             input: VERSION,
             pieces: &[10],
             failing: [2, 0],
             end: End::LinkFault,
             later: FIRST,
         },
+        // A closure untold.
         Row {
-            name: "a closure untold",
             input: CLOSURE,
             pieces: &[0, 1, 7],
             failing: [0, 1],
             end: End::LinkFault,
             later: CLOSED_LIFT,
         },
+        // A closure but for its last byte.
         Row {
-            name: "a closure but for its last byte",
             input: CUT_CLOSURE,
             pieces: &[0],
             failing: [0, 0],

@@ -84,8 +84,8 @@ fn judge_session<H: Hall, R: Abort>(
     let input = joined(alloc, &[input])?;
     let mut link = stream(alloc, input, 0, 1_000, [0, failing])?;
     let ended = serve_session(alloc, hall, front, &mut link);
-    assert_eq!(rt; str::from_utf8(link.written()), Ok(written));
-    assert_eq!(rt; ended, end);
+    assert!(rt; str::from_utf8(link.written()) == Ok(written));
+    assert!(rt; ended == end);
     Ok(())
 }
 
@@ -174,11 +174,11 @@ fn judge_interrupted<H: Hall, R: Abort>(
     front: &Front,
 ) -> Result<(), Fail> {
     let (end, written) = interrupt(alloc, one, other, front)?;
-    assert_eq!(rt; end, End::LinkFault);
-    assert_eq!(rt; written.len(), 71);
+    assert!(rt; end == End::LinkFault);
+    assert!(rt; written.len() == 71);
     assert!(rt; FIRST.as_bytes().starts_with(written.as_slice()));
-    assert_eq!(rt; one.number(), 1);
-    assert_eq!(rt; other.number(), 2);
+    assert!(rt; one.number() == 1);
+    assert!(rt; other.number() == 2);
     judge_rows(rt, alloc, one, other, front, &PUBLISHED_MEANWHILE)
 }
 
@@ -218,8 +218,8 @@ fn judge_under<N: HallName, F: Folders + Drop, R: Abort + Wait>(
     passes.push(one.leave())?;
     passes.push(other.leave())?;
     let closed = close_hall(rt, office, passes);
-    assert_eq!(rt; closed.changes, case.changes);
-    assert_eq!(rt; closed.folders.fault_count(), case.folder_faults);
+    assert!(rt; closed.changes == case.changes);
+    assert!(rt; closed.folders.fault_count() == case.folder_faults);
     Ok(())
 }
 
