@@ -366,193 +366,212 @@ fn sees_findings(rt: &impl Abort, alloc: Global) -> Result<(), AllocError> {
     sees(rt, alloc, &Reply::Rejected(report), false, told, body)
 }
 
-#[test]
-fn answers_have_their_bytes(rt: HostRuntime) -> Result<(), Fail> {
-    let alloc = rt.alloc();
-    for (close, bytes) in [
-        (
-            false,
-            b"HTTP/1.1 200 OK\r\ncontent-type: application/json\r\ncontent-length: 36\r\n\r\n{\"closed\":0,\"places\":33,\"version\":1}".as_slice(),
-        ),
-        (
-            true,
-            b"HTTP/1.1 200 OK\r\ncontent-type: application/json\r\ncontent-length: 36\r\nconnection: close\r\n\r\n{\"closed\":0,\"places\":33,\"version\":1}".as_slice(),
-        ),
+// A reply of another status, without further lines, in a session that goes on.
+fn tells(
+    rt: &impl Abort,
+    alloc: Global,
+    reply: Reply,
+    status: &str,
+    body: &str,
+) -> Result<(), AllocError> {
+    sees(rt, alloc, &reply, false, Told(status, body.len(), ""), body)
+}
+
+fn sees_what_is_not_there(rt: &impl Abort, alloc: Global) -> Result<(), AllocError> {
+    let status = "404 Not Found";
+    tells(
+        rt,
+        alloc,
+        Reply::NoProfile,
+        status,
+        r#"{"error":"no_such_profile"}"#,
+    )?;
+    tells(
+        rt,
+        alloc,
+        Reply::NoFeature,
+        status,
+        r#"{"error":"no_such_feature"}"#,
+    )?;
+    for (which, body) in [
+        (Which::From, r#"{"error":"no_such_place","which":"from"}"#),
+        (Which::To, r#"{"error":"no_such_place","which":"to"}"#),
+        (Which::Id, r#"{"error":"no_such_place","which":"id"}"#),
+        (Which::Stop, r#"{"error":"no_such_place","which":"stop"}"#),
     ] {
-        let version = Reply::Version {
-            number: 1,
-            closed: 0,
-            places: 33,
-        };
-        let written = reply_bytes(alloc, &version, close).expect(&rt, "memory");
-        assert!(rt; written.as_slice() == bytes);
+        tells(rt, alloc, Reply::NoPlace(which), status, body)?;
     }
+    Ok(())
+}
+
+fn sees_what_cannot_be(rt: &impl Abort, alloc: Global) -> Result<(), AllocError> {
+    let reply = Reply::FolderFault {
+        before: 1,
+        after: 2,
+    };
+    tells(
+        rt,
+        alloc,
+        reply,
+        "502 Bad Gateway",
+        r#"{"error":"folder_fault"}"#,
+    )?;
+    let reply = Reply::Ahead {
+        since: 9,
+        number: 3,
+    };
+    let body = r#"{"error":"version_ahead","since":9,"version":3}"#;
+    tells(rt, alloc, reply, "409 Conflict", body)?;
+    let body = r#"{"error":"history_full","version":2}"#;
+    tells(
+        rt,
+        alloc,
+        Reply::HistoryFull { number: 2 },
+        "409 Conflict",
+        body,
+    )?;
+    let body = r#"{"error":"want_of_memory"}"#;
+    tells(
+        rt,
+        alloc,
+        Reply::OutOfMemory,
+        "503 Service Unavailable",
+        body,
+    )
+}
+
+fn sees_versions(rt: &impl Abort, alloc: Global) {
+    let version = Reply::Version {
+        number: 1,
+        closed: 0,
+        places: 33,
+    };
+    let bytes =
+        b"HTTP/1.1 200 OK\r\ncontent-type: application/json\r\ncontent-length: 36\r\n\r\n{\"closed\":0,\"places\":33,\"version\":1}";
+    let written = reply_bytes(alloc, &version, false).expect(rt, "memory");
+    assert!(rt; written.as_slice() == bytes.as_slice());
+    let bytes =
+        b"HTTP/1.1 200 OK\r\ncontent-type: application/json\r\ncontent-length: 36\r\nconnection: close\r\n\r\n{\"closed\":0,\"places\":33,\"version\":1}";
+    let written = reply_bytes(alloc, &version, true).expect(rt, "memory");
+    assert!(rt; written.as_slice() == bytes.as_slice());
+}
+
+fn sees_want_of_memory(rt: &impl Abort) {
     let bytes =
         b"HTTP/1.1 503 Service Unavailable\r\ncontent-type: application/json\r\ncontent-length: 26\r\nconnection: close\r\n\r\n{\"error\":\"want_of_memory\"}";
     assert!(rt; want_of_memory(true) == bytes.as_slice());
     assert!(rt; want_of_memory(false).len() == 114);
-    let table = [
-        (
-            Reply::NoProfile,
-            "404 Not Found",
-            27,
-            r#"{"error":"no_such_profile"}"#,
-        ),
-        (
-            Reply::NoPlace(Which::From),
-            "404 Not Found",
-            40,
-            r#"{"error":"no_such_place","which":"from"}"#,
-        ),
-        (
-            Reply::NoPlace(Which::To),
-            "404 Not Found",
-            38,
-            r#"{"error":"no_such_place","which":"to"}"#,
-        ),
-        (
-            Reply::NoPlace(Which::Id),
-            "404 Not Found",
-            38,
-            r#"{"error":"no_such_place","which":"id"}"#,
-        ),
-        (
-            Reply::NoPlace(Which::Stop),
-            "404 Not Found",
-            40,
-            r#"{"error":"no_such_place","which":"stop"}"#,
-        ),
-        (
-            Reply::NoFeature,
-            "404 Not Found",
-            27,
-            r#"{"error":"no_such_feature"}"#,
-        ),
-        (
-            Reply::FolderFault {
-                before: 1,
-                after: 2,
-            },
-            "502 Bad Gateway",
-            24,
-            r#"{"error":"folder_fault"}"#,
-        ),
-        (
-            Reply::Ahead {
-                since: 9,
-                number: 3,
-            },
-            "409 Conflict",
-            47,
-            r#"{"error":"version_ahead","since":9,"version":3}"#,
-        ),
-        (
-            Reply::HistoryFull { number: 2 },
-            "409 Conflict",
-            36,
-            r#"{"error":"history_full","version":2}"#,
-        ),
-        (
-            Reply::OutOfMemory,
-            "503 Service Unavailable",
-            26,
-            r#"{"error":"want_of_memory"}"#,
-        ),
-    ];
-    for (answer, status, length, body) in &table {
-        sees(&rt, alloc, answer, false, Told(status, *length, ""), body)?;
+}
+
+const CLOSE: &str = "connection: close\r\n";
+
+const REFUSALS: [(Refusal, &str, &str, &str); 11] = [
+    (
+        Refusal::HeadTooLarge,
+        "431 Request Header Fields Too Large",
+        CLOSE,
+        r#"{"error":"head_too_large"}"#,
+    ),
+    (
+        Refusal::BadHead,
+        "400 Bad Request",
+        CLOSE,
+        r#"{"error":"bad_head"}"#,
+    ),
+    (
+        Refusal::TransferCoding,
+        "501 Not Implemented",
+        CLOSE,
+        r#"{"error":"transfer_coding"}"#,
+    ),
+    (
+        Refusal::BodyTooLarge,
+        "413 Payload Too Large",
+        CLOSE,
+        r#"{"error":"body_too_large"}"#,
+    ),
+    (
+        Refusal::NoPath,
+        "404 Not Found",
+        "",
+        r#"{"error":"no_such_path"}"#,
+    ),
+    (
+        Refusal::Method(Methods::Get),
+        "405 Method Not Allowed",
+        "allow: GET\r\n",
+        r#"{"error":"method"}"#,
+    ),
+    (
+        Refusal::Method(Methods::Post),
+        "405 Method Not Allowed",
+        "allow: POST\r\n",
+        r#"{"error":"method"}"#,
+    ),
+    (
+        Refusal::Method(Methods::Both),
+        "405 Method Not Allowed",
+        "allow: GET, POST\r\n",
+        r#"{"error":"method"}"#,
+    ),
+    (
+        Refusal::NotStaff,
+        "403 Forbidden",
+        "",
+        r#"{"error":"not_staff"}"#,
+    ),
+    (
+        Refusal::BadBody,
+        "400 Bad Request",
+        "",
+        r#"{"error":"bad_body"}"#,
+    ),
+    (
+        Refusal::BadQuery,
+        "400 Bad Request",
+        "",
+        r#"{"error":"bad_query"}"#,
+    ),
+];
+
+#[test]
+fn answers_have_their_bytes(rt: HostRuntime) -> Result<(), Fail> {
+    let alloc = rt.alloc();
+    sees_versions(&rt, alloc);
+    sees_want_of_memory(&rt);
+    sees_what_is_not_there(&rt, alloc)?;
+    sees_what_cannot_be(&rt, alloc)?;
+    sees_findings(&rt, alloc)?;
+    for (refusal, status, lines, body) in &REFUSALS {
+        sees_refusal(&rt, alloc, *refusal, Told(status, body.len(), lines), body)?;
     }
-    for (refusal, status, length, lines, body) in [
-        (
-            Refusal::HeadTooLarge,
-            "431 Request Header Fields Too Large",
-            26,
-            "connection: close\r\n",
-            r#"{"error":"head_too_large"}"#,
-        ),
-        (
-            Refusal::BadHead,
-            "400 Bad Request",
-            20,
-            "connection: close\r\n",
-            r#"{"error":"bad_head"}"#,
-        ),
-        (
-            Refusal::TransferCoding,
-            "501 Not Implemented",
-            27,
-            "connection: close\r\n",
-            r#"{"error":"transfer_coding"}"#,
-        ),
-        (
-            Refusal::BodyTooLarge,
-            "413 Payload Too Large",
-            26,
-            "connection: close\r\n",
-            r#"{"error":"body_too_large"}"#,
-        ),
-        (
-            Refusal::NoPath,
-            "404 Not Found",
-            24,
-            "",
-            r#"{"error":"no_such_path"}"#,
-        ),
-        (
-            Refusal::Method(Methods::Get),
-            "405 Method Not Allowed",
-            18,
-            "allow: GET\r\n",
-            r#"{"error":"method"}"#,
-        ),
-        (
-            Refusal::Method(Methods::Post),
-            "405 Method Not Allowed",
-            18,
-            "allow: POST\r\n",
-            r#"{"error":"method"}"#,
-        ),
-        (
-            Refusal::Method(Methods::Both),
-            "405 Method Not Allowed",
-            18,
-            "allow: GET, POST\r\n",
-            r#"{"error":"method"}"#,
-        ),
-        (
-            Refusal::NotStaff,
-            "403 Forbidden",
-            21,
-            "",
-            r#"{"error":"not_staff"}"#,
-        ),
-        (
-            Refusal::BadBody,
-            "400 Bad Request",
-            20,
-            "",
-            r#"{"error":"bad_body"}"#,
-        ),
-        (
-            Refusal::BadQuery,
-            "400 Bad Request",
-            21,
-            "",
-            r#"{"error":"bad_query"}"#,
-        ),
-    ] {
-        sees_refusal(&rt, alloc, refusal, Told(status, length, lines), body)?;
-    }
+    Ok(())
+}
+
+#[test]
+fn closures_have_their_bytes(rt: HostRuntime) -> Result<(), Fail> {
+    let alloc = rt.alloc();
     sees_changes(&rt, alloc)?;
     sees_closures(&rt, alloc)?;
     sees_closures_for_some(&rt, alloc)?;
+    Ok(())
+}
+
+#[test]
+fn ways_have_their_bytes(rt: HostRuntime) -> Result<(), Fail> {
+    let alloc = rt.alloc();
     sees_walks(&rt, alloc)?;
     sees_that_none_is(&rt, alloc)?;
     sees_tours(&rt, alloc)?;
+    Ok(())
+}
+
+#[test]
+fn places_have_their_bytes(rt: HostRuntime) -> Result<(), Fail> {
+    let alloc = rt.alloc();
     sees_a_place(&rt, alloc)?;
     sees_a_place_for_some(&rt, alloc)?;
     sees_names(&rt, alloc)?;
     sees_places(&rt, alloc)?;
-    sees_findings(&rt, alloc)?;
     Ok(())
 }
