@@ -125,6 +125,7 @@ fn folder(
         restricted: false,
         name: List::new(alloc),
     };
+    let units = List::from_vec(vec![in alloc; unit]?);
     Ok(Features {
         addresses: List::new(alloc),
         amenities: List::new(alloc),
@@ -140,7 +141,7 @@ fn folder(
         openings: List::new(alloc),
         relationships: List::new(alloc),
         sections: List::new(alloc),
-        units: List::from_vec(vec![in alloc; unit]?),
+        units,
         venues: List::new(alloc),
     })
 }

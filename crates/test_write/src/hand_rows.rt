@@ -3,8 +3,8 @@
 use std::alloc::{AllocError, Global};
 use venue_types::{
     AmenityRow, AnchorRow, BuildingRow, DetailRow, FeatureId, Features, FixtureRow, FootprintRow,
-    Kind, KioskRow, Label, LevelRow, Line, List, OccupantRow, OpeningRow, Part, PlainRow, Point,
-    Ref, RelationshipRow, Ring, Shape, Text, UnitRow, VenueRow,
+    Kind, KioskRow, Label, LevelRow, Line, List, OccupantRow, OpeningRow, OutOfMemory, Part,
+    PlainRow, Point, Ref, RelationshipRow, Ring, Shape, Text, UnitRow, VenueRow,
 };
 
 /// The identifier that ends in these digits.
@@ -210,12 +210,6 @@ fn venue(alloc: Global) -> Result<VenueRow, AllocError> {
     })
 }
 
-// A row of the identifier alone.
-fn plain_row(alloc: Global, last: u16) -> Result<List<PlainRow>, AllocError> {
-    let row = PlainRow { id: id(last) };
-    Ok(List::from_vec(vec![in alloc; row]?))
-}
-
 fn anchor() -> AnchorRow {
     AnchorRow {
         id: id(0x41),
@@ -247,24 +241,58 @@ fn detail() -> DetailRow {
     }
 }
 
+fn no_rows(alloc: Global) -> Features {
+    Features {
+        addresses: List::new(alloc),
+        amenities: List::new(alloc),
+        anchors: List::new(alloc),
+        buildings: List::new(alloc),
+        details: List::new(alloc),
+        fixtures: List::new(alloc),
+        footprints: List::new(alloc),
+        geofences: List::new(alloc),
+        kiosks: List::new(alloc),
+        levels: List::new(alloc),
+        occupants: List::new(alloc),
+        openings: List::new(alloc),
+        relationships: List::new(alloc),
+        sections: List::new(alloc),
+        units: List::new(alloc),
+        venues: List::new(alloc),
+    }
+}
+
+// Rows of the identifier alone.
+fn add_plain_rows(features: &mut Features) -> Result<(), OutOfMemory> {
+    features.addresses.push(PlainRow { id: id(1) })?;
+    features.geofences.push(PlainRow { id: id(0x503) })?;
+    features.sections.push(PlainRow { id: id(0x505) })
+}
+
+fn add_rows_without_shapes(alloc: Global, features: &mut Features) -> Result<(), OutOfMemory> {
+    features.amenities.push(amenity(alloc)?)?;
+    features.anchors.push(anchor())?;
+    features.buildings.push(building())?;
+    features.details.push(detail())?;
+    features.kiosks.push(kiosk())?;
+    features.occupants.push(occupant(alloc))?;
+    features.relationships.push(relationship(alloc, None)?)
+}
+
+fn add_rows_with_shapes(alloc: Global, features: &mut Features) -> Result<(), OutOfMemory> {
+    features.fixtures.push(fixture(alloc)?)?;
+    features.footprints.push(footprint(alloc)?)?;
+    features.levels.push(level(alloc)?)?;
+    features.openings.push(marked_opening(alloc)?)?;
+    features.units.push(unit(alloc)?)?;
+    features.venues.push(venue(alloc)?)
+}
+
 /// A row of every kind, a list with each.
-pub(crate) fn every_kind(alloc: Global) -> Result<Features, AllocError> {
-    Ok(Features {
-        addresses: plain_row(alloc, 1)?,
-        amenities: List::from_vec(vec![in alloc; amenity(alloc)?]?),
-        anchors: List::from_vec(vec![in alloc; anchor()]?),
-        buildings: List::from_vec(vec![in alloc; building()]?),
-        details: List::from_vec(vec![in alloc; detail()]?),
-        fixtures: List::from_vec(vec![in alloc; fixture(alloc)?]?),
-        footprints: List::from_vec(vec![in alloc; footprint(alloc)?]?),
-        geofences: plain_row(alloc, 0x503)?,
-        kiosks: List::from_vec(vec![in alloc; kiosk()]?),
-        levels: List::from_vec(vec![in alloc; level(alloc)?]?),
-        occupants: List::from_vec(vec![in alloc; occupant(alloc)]?),
-        openings: List::from_vec(vec![in alloc; marked_opening(alloc)?]?),
-        relationships: List::from_vec(vec![in alloc; relationship(alloc, None)?]?),
-        sections: plain_row(alloc, 0x505)?,
-        units: List::from_vec(vec![in alloc; unit(alloc)?]?),
-        venues: List::from_vec(vec![in alloc; venue(alloc)?]?),
-    })
+pub(crate) fn every_kind(alloc: Global) -> Result<Features, OutOfMemory> {
+    let mut features = no_rows(alloc);
+    add_plain_rows(&mut features)?;
+    add_rows_without_shapes(alloc, &mut features)?;
+    add_rows_with_shapes(alloc, &mut features)?;
+    Ok(features)
 }
