@@ -127,37 +127,76 @@ fn connection<'a, R: Net<Listener = TcpListener, Stream = TcpStream> + Clock + S
     }
 }
 
+// A client sends a text, which is read in one piece and written back.
+fn give_back<L: Stream>(
+    rt: &impl Abort,
+    link: &mut L,
+    client: &mut TcpStream,
+    text: &[u8],
+) -> Result<(), Fail> {
+    let mut buf = [0; 64];
+    client.write_all(text)?;
+    assert!(rt; link.read(&mut buf) == Ok(text.len()));
+    assert!(rt; link.write(buf.get(..text.len()).unwrap_or(&[])) == Ok(text.len()));
+    Ok(())
+}
+
+// A client sends a byte, and gets two that are written one after the other.
+fn answer_twice<L: Stream>(
+    rt: &impl Abort,
+    link: &mut L,
+    client: &mut TcpStream,
+) -> Result<(), Fail> {
+    let mut buf = [0; 64];
+    client.write_all(b"?")?;
+    assert!(rt; link.read(&mut buf) == Ok(1));
+    assert!(rt; link.write(b"a") == Ok(1));
+    assert!(rt; link.write(b"b") == Ok(1));
+    client.read_exact(&mut buf[..2])?;
+    Ok(())
+}
+
+// A second write that waited for the answer to the first would wait 40 milliseconds in most of these rounds.
+fn answer_at_once<L: Stream, R: Abort + Clock>(
+    rt: &R,
+    link: &mut L,
+    client: &mut TcpStream,
+) -> Result<(), Fail> {
+    let start = Instant::now(rt)?;
+    for _ in 0..25 {
+        answer_twice(rt, link, client)?;
+    }
+    assert!(rt; start.elapsed(rt)? < Duration::from_millis(500));
+    Ok(())
+}
+
+// All that is asked of a connection, up to its end.
+fn exchange<L: Stream, R: Abort + Clock>(
+    rt: &R,
+    mut link: L,
+    mut client: TcpStream,
+) -> Result<(), Fail> {
+    give_back(rt, &mut link, &mut client, b"twenty bytes of text")?;
+    give_back(rt, &mut link, &mut client, b", seventeen more.")?;
+    let mut back = [0; 37];
+    client.read_exact(&mut back)?;
+    assert!(rt; back.as_slice() == b"twenty bytes of text, seventeen more.".as_slice());
+    answer_at_once(rt, &mut link, &mut client)?;
+    drop(client);
+    assert!(rt; link.read(&mut [0; 64]) == Ok(0));
+    assert!(rt; link.fault_count() == 0);
+    Ok(())
+}
+
 #[test]
 fn a_listener_takes_a_connection_and_its_bytes(rt: HostRuntime) -> Result<(), Fail> {
     let address = free_address(&rt, rt.alloc())?;
     let mut doors = for_any_thread(TcpDoors::new(&rt));
     doors.bind(address.as_str()).expect(&rt, "a bind");
-    let mut client = TcpStream::connect(&rt, address.as_str())?;
+    let client = TcpStream::connect(&rt, address.as_str())?;
     client.set_read_timeout(Some(Duration::from_secs(5)))?;
-    let mut link = for_any_thread(doors.accept().expect(&rt, "a connection"));
-    let mut buf = [0; 64];
-    client.write_all(b"twenty bytes of text")?;
-    assert!(rt; link.read(&mut buf) == Ok(20));
-    assert!(rt; link.write(&buf[..20]) == Ok(20));
-    client.write_all(b", seventeen more.")?;
-    assert!(rt; link.read(&mut buf) == Ok(17));
-    assert!(rt; link.write(&buf[..17]) == Ok(17));
-    let mut back = [0; 37];
-    client.read_exact(&mut back)?;
-    assert!(rt; back.as_slice() == b"twenty bytes of text, seventeen more.".as_slice());
-    // A second write that waited for the answer to the first would wait 40 milliseconds in most of these rounds.
-    let start = Instant::now(&rt)?;
-    for _ in 0..25 {
-        client.write_all(b"?")?;
-        assert!(rt; link.read(&mut buf) == Ok(1));
-        assert!(rt; link.write(b"a") == Ok(1));
-        assert!(rt; link.write(b"b") == Ok(1));
-        client.read_exact(&mut back[..2])?;
-    }
-    assert!(rt; start.elapsed(&rt)? < Duration::from_millis(500));
-    drop(client);
-    assert!(rt; link.read(&mut buf) == Ok(0));
-    assert!(rt; link.fault_count() == 0);
+    let link = for_any_thread(doors.accept().expect(&rt, "a connection"));
+    exchange(&rt, link, client)?;
     assert!(rt; doors.fault_count() == 0);
     Ok(())
 }

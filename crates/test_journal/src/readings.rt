@@ -97,7 +97,7 @@ pub(crate) fn told_of(fault: RestoreFault) -> (Told, u64) {
 }
 
 /// What a journal tells, with the number or the place.
-pub(crate) fn told(
+pub(crate) fn tells(
     alloc: Global,
     bytes: &[u8],
     settings: &Arc<Settings>,

@@ -4,7 +4,7 @@
 use crate::disks::content;
 use crate::journals::append;
 use crate::readings::{
-    CUT, Row, STATION, TALL_STATION, Told, journal_of, judge, read_back, told, told_of,
+    CUT, Row, STATION, TALL_STATION, Told, journal_of, judge, read_back, tells, told_of,
 };
 use crate::records::{CLOSING, REOPENING, closing};
 use journal_restore::Unrestored;
@@ -454,7 +454,7 @@ fn each_front_of_a_journal_tells(rt: HostRuntime) -> Result<(), Fail> {
     assert!(rt; bytes.len() == 12_476);
     for length in 0..=bytes.len() {
         let front = bytes.get(..length).unwrap_or(&[]);
-        assert!(rt; told(alloc, front, &settings)? == of_front(length));
+        assert!(rt; tells(alloc, front, &settings)? == of_front(length));
     }
     Ok(())
 }

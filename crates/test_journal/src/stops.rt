@@ -3,7 +3,7 @@
 use crate::images::{Images, Moment};
 use crate::law::{Law, Seen};
 use crate::publications::station;
-use crate::readings::{Told, told};
+use crate::readings::{Told, tells};
 use crate::records::{closing, reopening};
 use crate::trials::Trial;
 use std::alloc::Global;
@@ -108,7 +108,7 @@ fn read_each(
 ) -> Result<(), Fail> {
     for _ in 0..images.each {
         let image = images.draw(moment)?;
-        assert!(rt; is_told(told(alloc, image, settings)?, leaves));
+        assert!(rt; is_told(tells(alloc, image, settings)?, leaves));
     }
     Ok(())
 }
