@@ -8,6 +8,7 @@ use route_certificate::{
     table_law, verdict_law, verify, walk_law, write_answer, write_table,
 };
 use std::alloc::Global;
+use std::process::Abort;
 use venue_types::Bytes;
 
 const THREE: &str = "imdf-links 1
@@ -82,38 +83,50 @@ fn rewritten(alloc: Global, text: &str, table: &Table) -> Result<(Bytes, Verdict
     }
 }
 
-#[test]
-fn judges_texts(rt: HostRuntime) {
-    let alloc = rt.alloc();
-    for (text, line) in [
-        ("", 1),
-        ("imdf-links 1", 1),
-        ("imdf-links 2\nend\n", 1),
-        ("imdf-links 1\n", 2),
-        ("imdf-links 1\nend", 2),
-        ("imdf-links 1\nend\n\n", 3),
-        ("imdf-links 1\nend\nx", 3),
-        (
-            "imdf-links 1\nlink 0 0 5 00000000-0000-4000-8000-000000000009\nend\n",
-            2,
-        ),
-        (
-            "imdf-links 1\nnode 00000000-0000-4000-8000-00000000000A\nend\n",
-            2,
-        ),
-        (ONE, 3),
-    ] {
-        assert!(rt; matches!(table_of(alloc, text), Err(n) if n == line));
+// Texts that are no table, and the line where each isn't one.
+const NO_TABLES: [(&str, u64); 10] = [
+    ("", 1),
+    ("imdf-links 1", 1),
+    ("imdf-links 2\nend\n", 1),
+    ("imdf-links 1\n", 2),
+    ("imdf-links 1\nend", 2),
+    ("imdf-links 1\nend\n\n", 3),
+    ("imdf-links 1\nend\nx", 3),
+    (
+        "imdf-links 1\nlink 0 0 5 00000000-0000-4000-8000-000000000009\nend\n",
+        2,
+    ),
+    (
+        "imdf-links 1\nnode 00000000-0000-4000-8000-00000000000A\nend\n",
+        2,
+    ),
+    (ONE, 3),
+];
+
+fn refuse_tables(rt: &impl Abort, alloc: Global) {
+    for (text, line) in &NO_TABLES {
+        assert!(rt; matches!(table_of(alloc, text), Err(n) if n == *line));
     }
     for link in BAD_LINKS {
-        let text = format!(in alloc; "{ONE}{link}end\n").expect(&rt, "memory");
+        let text = format!(in alloc; "{ONE}{link}end\n").expect(rt, "memory");
         assert!(rt; matches!(table_of(alloc, &text), Err(3)));
     }
-    let empty = table_of(alloc, "imdf-links 1\nend\n").expect(&rt, "a table");
+}
+
+// A table without nodes, and one as it is written.
+fn judge_tables(rt: &impl Abort, alloc: Global, table: &Table)
+    requires { FitsTable table.now }
+{
+    let empty = table_of(alloc, "imdf-links 1\nend\n").expect(rt, "a table");
     assert!(rt; priced(alloc, "imdf-walk 1\nfrom 0\nend\n", &empty) == Err(1));
-    let table = table_of(alloc, THREE).expect(&rt, "a table");
-    let written = write_table(alloc, &table).expect(&rt, "memory");
+    let written = write_table(alloc, table).expect(rt, "memory");
     assert!(rt; written.as_slice() == THREE.as_bytes());
+}
+
+fn judge_prices(rt: &impl Abort, alloc: Global, table: &Table)
+    requires fits { FitsTable table.now }
+    requires few { length table.now.links < 2 ^ 32 }
+{
     for (text, want) in [
         (
             "imdf-walk 1\nfrom 0\nstep 0\nstep 1\nend\n",
@@ -131,16 +144,32 @@ fn judges_texts(rt: HostRuntime) {
         ("imdf-walk 1\nfrom 0\nstep 0\n", Err(4)),
         ("imdf-walk 1\nfrom 0\nstep 0\nend\nend\n", Err(5)),
     ] {
-        assert!(rt; priced(alloc, text, &table) == want);
+        assert!(rt; priced(alloc, text, table) == want);
     }
+}
+
+fn judge_answers(rt: &impl Abort, alloc: Global, table: &Table)
+    requires fits { FitsTable table.now }
+    requires few { length table.now.links < 2 ^ 32 }
+{
     for text in [
         "imdf-answer 1\nfrom 2\nto 0\nnone\nreach 2\nend\n",
         "imdf-answer 1\nfrom 0\nto 2\nroute 833\nstep 0\nstep 1\nat 0 0\nat 1 633\nend\n",
     ] {
-        let (bytes, verdict) = rewritten(alloc, text, &table).expect(&rt, "an answer");
+        let (bytes, verdict) = rewritten(alloc, text, table).expect(rt, "an answer");
         assert!(rt; bytes.as_slice() == text.as_bytes());
         assert!(rt; verdict == Verdict::Proved);
     }
+}
+
+#[test]
+fn judges_texts(rt: HostRuntime) {
+    let alloc = rt.alloc();
+    refuse_tables(&rt, alloc);
+    let table = table_of(alloc, THREE).expect(&rt, "a table");
+    judge_tables(&rt, alloc, &table);
+    judge_prices(&rt, alloc, &table);
+    judge_answers(&rt, alloc, &table);
     table_law();
     verdict_law();
     walk_law();
