@@ -171,7 +171,7 @@ fn answer_at_once<L: Stream, R: Abort + Clock>(
 }
 
 // All that is asked of a connection, up to its end.
-fn exchange<L: Stream, R: Abort + Clock>(
+fn exchange<L: Stream + Drop, R: Abort + Clock>(
     rt: &R,
     mut link: L,
     mut client: TcpStream,
