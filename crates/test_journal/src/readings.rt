@@ -96,18 +96,24 @@ pub(crate) fn told_of(fault: RestoreFault) -> (Told, u64) {
     }
 }
 
+fn told_of_restored(restored: &Restored<MemoryDisk>) -> (Told, u64) {
+    let told = match &restored.resumed {
+        None => Told::New,
+        Some(_) => Told::Version,
+    };
+    (told, restored.journal.record_count())
+}
+
 /// What a journal tells, with the number or the place.
 pub(crate) fn tells(
     alloc: Global,
     bytes: &[u8],
     settings: &Arc<Settings>,
 ) -> Result<(Told, u64), Fail> {
-    Ok(match read_back(alloc, bytes, &[], settings)? {
-        Ok(Restored { journal, resumed }) => match resumed {
-            None => (Told::New, journal.record_count()),
-            Some(_) => (Told::Version, journal.record_count()),
-        },
-        Err(Unrestored { fault, .. }) => told_of(fault),
+    let read = read_back(alloc, bytes, &[], settings)?;
+    Ok(match &read {
+        Ok(restored) => told_of_restored(restored),
+        Err(unrestored) => told_of(unrestored.fault),
     })
 }
 
