@@ -1,9 +1,11 @@
 //! The real directory, the console and what is made of their reports, and the objects in memory, each call once.
 
-ghost use Rattle.std.specs.Prelude.{◌≡◌, true};
+ghost use Rattle.std.specs.Prelude.{◌≡◌, IfOk, false, true};
 ghost use Rattle.venue_ports.specs.Doors.{doors_ready};
+ghost use Rattle.venue_ports.specs.Quiet.{quiet_ready};
 
 use crate::reporters::{Calls, FailingFiles};
+use std::alloc::Global;
 use std::fs;
 use std::io::ErrorKind;
 use std::process::Abort;
@@ -81,31 +83,45 @@ fn reports_are_told(rt: HostRuntime) -> Result<(), Fail> {
     Ok(())
 }
 
-#[test]
-fn the_objects_in_memory_follow_their_plans(rt: HostRuntime) -> Result<(), Fail> {
-    let alloc = rt.alloc();
+// A folder with a file of five bytes, of which the second read fails.
+fn folders_of(alloc: Global) -> Result<MemoryFolders, Fail> {
     let mut files = Vec::new(alloc);
     files.push(MemoryFile {
         folder: String::from_str(alloc, "a")?,
         file: String::from_str(alloc, "b")?,
         bytes: Vec::from_slice(alloc, b"hello")?,
     })?;
-    let failing = Vec::from_slice(alloc, &[2])?;
-    let mut folders = MemoryFolders::new(files, failing).expect(&rt, "memory folders");
+    match MemoryFolders::new(files, Vec::from_slice(alloc, &[2])?) {
+        Ok(folders) => Ok(folders),
+        Err(_) => Err(Fail::new("no folders")),
+    }
+}
+
+#[test]
+fn folders_in_memory_follow_their_plans(rt: HostRuntime) -> Result<(), Fail> {
+    let alloc = rt.alloc();
+    let mut folders = folders_of(alloc)?;
     for fails in [false, true, false] {
         assert!(rt; folders.read(alloc, "a", "b", 5).is_err() == fails);
     }
     assert!(rt; folders.fault_count() == 1);
+    same_files_law();
+    Ok(())
+}
 
-    let mut stream = MemoryStream::new(
-        alloc,
-        Vec::from_slice(alloc, b"hello")?,
-        Vec::from_slice(alloc, &[1, 9, 0])?,
-        3,
-        Vec::from_slice(alloc, &[2])?,
-        Vec::from_slice(alloc, &[1])?,
-    )
-    .expect(&rt, "a memory stream");
+// Five bytes in pieces of one, nine and none, of which the second read fails; room for three, where the first write fails.
+fn stream_of(alloc: Global) -> Result<MemoryStream, Fail> {
+    let input = Vec::from_slice(alloc, b"hello")?;
+    let pieces = Vec::from_slice(alloc, &[1, 9, 0])?;
+    let reads = Vec::from_slice(alloc, &[2])?;
+    let writes = Vec::from_slice(alloc, &[1])?;
+    match MemoryStream::new(alloc, input, pieces, 3, reads, writes) {
+        Ok(stream) => Ok(stream),
+        Err(_) => Err(Fail::new("no stream")),
+    }
+}
+
+fn follow_the_plan(rt: &impl Abort, stream: &mut MemoryStream) {
     let mut buf = [0; 8];
     for answer in [Ok(1), Err(Failed), Ok(1), Ok(3), Ok(0)] {
         assert!(rt; stream.read(&mut buf) == answer);
@@ -115,16 +131,31 @@ fn the_objects_in_memory_follow_their_plans(rt: HostRuntime) -> Result<(), Fail>
     }
     assert!(rt; stream.written() == b"aba".as_slice());
     assert!(rt; stream.fault_count() == 3);
+}
 
+// Doors to which these streams come in turn.
+fn quiet_doors(alloc: Global, stream: MemoryStream) -> Result<QuietDoors, Fail>
+    ensures { IfOk result (λ doors. quiet_ready doors ≡ false) }
+{
     let mut streams = Vec::new(alloc);
     streams.push(stream)?;
-    let mut doors = QuietDoors::new(alloc, streams).expect(&rt, "doors");
+    match QuietDoors::new(alloc, streams) {
+        Ok(doors) => Ok(doors),
+        Err(_) => Err(Fail::new("no doors")),
+    }
+}
+
+#[test]
+fn the_objects_in_memory_follow_their_plans(rt: HostRuntime) -> Result<(), Fail> {
+    let alloc = rt.alloc();
+    let mut stream = stream_of(alloc)?;
+    follow_the_plan(&rt, &mut stream);
+    let mut doors = quiet_doors(alloc, stream)?;
     doors.bind("127.0.0.1:80").expect(&rt, "a bind");
     assert!(rt; doors.accept().expect(&rt, "the stream").written() == b"aba".as_slice());
     let mut past = doors.accept().expect(&rt, "an empty stream");
-    assert!(rt; past.read(&mut buf) == Ok(0));
+    assert!(rt; past.read(&mut [0; 8]) == Ok(0));
     assert!(rt; past.write(b"ab") == Err(Failed));
-    same_files_law();
     Ok(())
 }
 
