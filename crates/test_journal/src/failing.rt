@@ -95,23 +95,32 @@ fn texts_there<'a>(trial: &Trial<'a>) -> Result<Vec<&'a [u8]>, AllocError> {
     Ok(texts)
 }
 
+// Appends a closure of which a call fails. A read gives it all the same, or not.
+fn judge_failed(
+    rt: &impl Abort,
+    trial: &Trial<'_>,
+    is_read: bool,
+    texts: &mut Vec<&[u8]>,
+) -> Result<(), Fail> {
+    let count = texts.len() as u64;
+    let mut failed = trial.run(rt, 1)?;
+    assert!(rt; !failed.is_kept && failed.count == count);
+    if is_read {
+        texts.push(closing().text)?;
+    }
+    read(rt, trial.alloc, &mut failed.disk, texts)?;
+    if !is_read {
+        texts.push(closing().text)?;
+    }
+    Ok(())
+}
+
 // Appends a closure of which a call fails, and once more: the length then.
 fn fail_once(rt: &impl Abort, trial: &Trial<'_>, row: &Row) -> Result<usize, Fail> {
     let mut texts = texts_there(trial)?;
-    let count = texts.len() as u64;
-    let mut failed = trial.run(rt, 1)?;
-    assert!(rt; !failed.is_kept);
-    assert!(rt; failed.count == count);
-    if !row.is_read {
-        read(rt, trial.alloc, &mut failed.disk, &texts)?;
-    }
-    texts.push(closing().text)?;
-    if row.is_read {
-        read(rt, trial.alloc, &mut failed.disk, &texts)?;
-    }
+    judge_failed(rt, trial, row.is_read, &mut texts)?;
     let mut again = trial.run(rt, 2)?;
-    assert!(rt; again.is_kept);
-    assert!(rt; again.count == count.saturating_add(1));
+    assert!(rt; again.is_kept && again.count == texts.len() as u64);
     assert!(rt; again.disk.calls().len() == row.again);
     read(rt, trial.alloc, &mut again.disk, &texts)
 }
