@@ -108,7 +108,7 @@ fn judge_failed(
     if is_read {
         texts.push(closing().text)?;
     }
-    read(rt, trial.alloc, &mut failed.disk, texts)?;
+    read(rt, trial.alloc, &mut failed.disk, texts.as_slice())?;
     if !is_read {
         texts.push(closing().text)?;
     }
