@@ -156,7 +156,7 @@ fn frames(rt: HostRuntime) -> Result<(), Fail> {
         (greatest.as_slice(), BAD),
         (late.as_slice(), LARGE),
     ];
-    for (bytes, want) in &table {
+    for (bytes, want) in table {
         assert!(rt; come_to(bytes) == *want);
     }
     Ok(())
