@@ -484,13 +484,14 @@ fn fails_at(
 fn each_call_fails(rt: HostRuntime) -> Result<(), Fail> {
     let alloc = rt.alloc();
     let settings = Arc::new(alloc, station_settings(alloc)?)?;
-    let mut call = 1;
-    while call < 1_000 && fails_at(&rt, alloc, call, &settings)? {
-        call += 1;
+    for call in 1..1_000 {
+        if !fails_at(&rt, alloc, call, &settings)? {
+            // A sync, the length, and a read at least.
+            assert!(rt; call > 3);
+            return Ok(());
+        }
     }
-    // A sync, the length, and a read at least.
-    assert!(rt; call > 3 && call < 1_000);
-    Ok(())
+    Err(Fail::new("so many calls"))
 }
 
 #[test]
