@@ -133,11 +133,14 @@ fn give_back<L: Stream>(
     link: &mut L,
     client: &mut TcpStream,
     text: &[u8],
-) -> Result<(), Fail> {
+) -> Result<(), Fail>
+    requires { 1 ≤ length text.now }
+{
     let mut buf = [0; 64];
     client.write_all(text)?;
     assert!(rt; link.read(&mut buf) == Ok(text.len()));
-    assert!(rt; link.write(buf.get(..text.len()).unwrap_or(&[])) == Ok(text.len()));
+    assert!(rt; buf.get(..text.len()) == Some(text));
+    assert!(rt; link.write(text) == Ok(text.len()));
     Ok(())
 }
 
