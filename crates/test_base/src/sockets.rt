@@ -1,6 +1,6 @@
 //! The real listener and its connections, on this machine's own address. Every wait in here ends by itself.
 
-ghost use Rattle.std.specs.Prelude.{◌≡◌, ℕ, ◌≤◌, ◌↔◌, Contains, IfOk, IsTrue, length, string_bytes};
+ghost use Rattle.std.specs.Prelude.{◌≡◌, ℕ, ◌≤◌, ◌<◌, ◌↔◌, Contains, IfOk, IsTrue, length, string_bytes};
 ghost use Rattle.venue_ports.specs.Sockets.{IsGone, gone_codes, gone_kinds};
 
 use std::alloc::Global;
@@ -134,7 +134,7 @@ fn give_back<L: Stream>(
     client: &mut TcpStream,
     text: &[u8],
 ) -> Result<(), Fail>
-    requires { 1 ≤ length text.now }
+    requires { 0 < length text.now }
 {
     let mut buf = [0; 64];
     client.write_all(text)?;
