@@ -117,7 +117,6 @@ static PIECES: [usize; 3] = [0, 1, 7];
 // What comes, what is written for it, and how the session then ends.
 #[derive(Clone, Copy)]
 struct Row {
-    name: &'static str,
     input: &'static [&'static str],
     // How many letters stand for the sign `*` in the input.
     fill: usize,
@@ -127,21 +126,155 @@ struct Row {
     end: End,
 }
 
-fn telling(
-    name: &'static str,
-    input: &'static [&'static str],
-    written: &'static [&'static str],
-    end: End,
-) -> Row {
+// Whole sessions.
+const ROWS: [Row; 16] = [
+    // Nothing.
     Row {
-        name,
-        input,
+        input: &[],
         fill: 0,
         failing_write: 0,
-        written,
-        end,
-    }
-}
+        written: &[],
+        end: End::Done,
+    },
+    // A version.
+    Row {
+        input: &[VERSION],
+        fill: 0,
+        failing_write: 0,
+        written: &[FIRST],
+        end: End::Done,
+    },
+    // Two versions.
+    Row {
+        input: &[VERSION, VERSION],
+        fill: 0,
+        failing_write: 0,
+        written: &[FIRST, FIRST],
+        end: End::Done,
+    },
+    // Ten bytes more.
+    Row {
+        input: &[VERSION, VERSION, "GET /v1/ve"],
+        fill: 0,
+        failing_write: 0,
+        written: &[FIRST, FIRST],
+        end: End::Cut(10),
+    },
+    // A line end more.
+    Row {
+        input: &[VERSION, "\n"],
+        fill: 0,
+        failing_write: 0,
+        written: &[FIRST],
+        end: End::Cut(1),
+    },
+    // Behind the last.
+    Row {
+        input: &[LAST, VERSION],
+        fill: 0,
+        failing_write: 0,
+        written: &[FIRST_LAST],
+        end: End::Done,
+    },
+    // A version behind HEAD.
+    Row {
+        input: &[HEAD, VERSION],
+        fill: 0,
+        failing_write: 0,
+        written: &[BARE],
+        end: End::Done,
+    },
+    // A head of 16,385 bytes.
+    Row {
+        input: &[PADDED, "*", "\r\n\r\n"],
+        fill: 16_343,
+        failing_write: 0,
+        written: &[TOO_LARGE],
+        end: End::Refused(431),
+    },
+    // A head of 16,384 bytes.
+    Row {
+        input: &[PADDED, "*", "\r\n\r\n"],
+        fill: 16_342,
+        failing_write: 0,
+        written: &[FIRST],
+        end: End::Done,
+    },
+    // Two hosts.
+    Row {
+        input: &[VERSION, TWICE, VERSION],
+        fill: 0,
+        failing_write: 0,
+        written: &[FIRST, BAD_HEAD],
+        end: End::Refused(400),
+    },
+    // A closure.
+    Row {
+        input: &[CLOSURE, LIFT, VERSION, CLOSURE, LIFT],
+        fill: 0,
+        failing_write: 0,
+        written: &[CLOSED, SECOND, AS_ASKED],
+        end: End::Done,
+    },
+    // A closure for some.
+    Row {
+        input: &[
+            CLOSURE_FOR_SOME,
+            CLOSURES,
+            PLACE,
+            CLOSURE_FOR_UNKNOWN,
+            CLOSURE,
+            LIFT,
+            CLOSURES,
+        ],
+        fill: 0,
+        failing_write: 0,
+        written: &[
+            CLOSED_FOR_SOME,
+            ONE_CLOSED,
+            PLACE_FOR_SOME,
+            NO_PROFILE,
+            CLOSED_FOR_ALL,
+            ALL_CLOSED,
+        ],
+        end: End::Done,
+    },
+    // A later version.
+    Row {
+        input: &[SINCE],
+        fill: 0,
+        failing_write: 0,
+        written: &[AHEAD],
+        end: End::Done,
+    },
+    // A body cut.
+    Row {
+        input: &[
+            CLOSURE,
+            "{\"feature\":\"00000000-0000-4000-8000-000000000301\",\"closed\":true",
+        ],
+        fill: 0,
+        failing_write: 0,
+        written: &[],
+        end: End::Cut(147),
+    },
+    // The first write fails.
+    Row {
+        input: &[VERSION, VERSION],
+        fill: 0,
+        failing_write: 1,
+        written: &[],
+        end: End::LinkFault,
+    },
+    // The second write fails.
+    Row {
+        input: &[VERSION, VERSION],
+        fill: 0,
+        failing_write: 2,
+        written: &[FIRST],
+        end: End::LinkFault,
+    },
+];
 
 fn joined(alloc: Global, texts: &[&'static str], fill: usize) -> Result<Vec<u8>, Fail> {
     let mut bytes = Vec::new(alloc);
@@ -232,115 +365,8 @@ fn sessions_end(rt: HostRuntime) -> Result<(), Fail> {
     let settings = Arc::new(alloc, station_settings(alloc)?)?;
     let venue = venue_of(alloc, &settings)?;
     let front = Front::new(alloc, &settings.staff_keys)?;
-    for row in [
-        telling("nothing", &[], &[], End::Done),
-        telling("a version", &[VERSION], &[FIRST], End::Done),
-        telling(
-            "two versions",
-            &[VERSION, VERSION],
-            &[FIRST, FIRST],
-            End::Done,
-        ),
-        telling(
-            "ten bytes more",
-            &[VERSION, VERSION, "GET /v1/ve"],
-            &[FIRST, FIRST],
-            End::Cut(10),
-        ),
-        telling("a line end more", &[VERSION, "\n"], &[FIRST], End::Cut(1)),
-        telling(
-            "behind the last",
-            &[LAST, VERSION],
-            &[FIRST_LAST],
-            End::Done,
-        ),
-        telling(
-            "a version behind HEAD",
-            &[HEAD, VERSION],
-            &[BARE],
-            End::Done,
-        ),
-        Row {
-            fill: 16_343,
-            ..telling(
-                "a head of 16,385 bytes",
-                &[PADDED, "*", "\r\n\r\n"],
-                &[TOO_LARGE],
-                End::Refused(431),
-            )
-        },
-        Row {
-            fill: 16_342,
-            ..telling(
-                "a head of 16,384 bytes",
-                &[PADDED, "*", "\r\n\r\n"],
-                &[FIRST],
-                End::Done,
-            )
-        },
-        telling(
-            "two hosts",
-            &[VERSION, TWICE, VERSION],
-            &[FIRST, BAD_HEAD],
-            End::Refused(400),
-        ),
-        telling(
-            "a closure",
-            &[CLOSURE, LIFT, VERSION, CLOSURE, LIFT],
-            &[CLOSED, SECOND, AS_ASKED],
-            End::Done,
-        ),
-        telling(
-            "a closure for some",
-            &[
-                CLOSURE_FOR_SOME,
-                CLOSURES,
-                PLACE,
-                CLOSURE_FOR_UNKNOWN,
-                CLOSURE,
-                LIFT,
-                CLOSURES,
-            ],
-            &[
-                CLOSED_FOR_SOME,
-                ONE_CLOSED,
-                PLACE_FOR_SOME,
-                NO_PROFILE,
-                CLOSED_FOR_ALL,
-                ALL_CLOSED,
-            ],
-            End::Done,
-        ),
-        telling("a later version", &[SINCE], &[AHEAD], End::Done),
-        telling(
-            "a body cut",
-            &[
-                CLOSURE,
-                "{\"feature\":\"00000000-0000-4000-8000-000000000301\",\"closed\":true",
-            ],
-            &[],
-            End::Cut(147),
-        ),
-        Row {
-            failing_write: 1,
-            ..telling(
-                "the first write fails",
-                &[VERSION, VERSION],
-                &[],
-                End::LinkFault,
-            )
-        },
-        Row {
-            failing_write: 2,
-            ..telling(
-                "the second write fails",
-                &[VERSION, VERSION],
-                &[FIRST],
-                End::LinkFault,
-            )
-        },
-    ] {
-        judge(&rt, alloc, &settings, &venue, &front, &row)?;
+    for row in &ROWS {
+        judge(&rt, alloc, &settings, &venue, &front, row)?;
     }
     Ok(())
 }
