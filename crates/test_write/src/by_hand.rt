@@ -64,92 +64,94 @@ fn judge(
     Ok(())
 }
 
+// A file of each kind: its geometry, the identifier of its one feature, and its properties.
+const KINDS: [(File, &[&str], &str, &[&str]); 16] = [
+    (File::Address, &NULL, "#0001", &[]),
+    (
+        File::Amenity,
+        &["{'coordinates':[10.000300000,50.000250000],'type':'Point'}"],
+        "#0031",
+        &[
+            "'address_id':'#0001','category':'restroom','name':{'en':'Rest'},'unit_ids':['#0300','#0301']",
+        ],
+    ),
+    (
+        File::Anchor,
+        &["{'coordinates':[10.000220000,50.000040000],'type':'Point'}"],
+        "#0041",
+        &["'address_id':'#0001','unit_id':'#0305'"],
+    ),
+    (File::Building, &NULL, "#0003", &["'address_id':null"]),
+    (File::Detail, &NULL, "#0501", &["'level_id':'#0010'"]),
+    (
+        File::Fixture,
+        &HOLED,
+        "#0502",
+        &["'anchor_id':'#0041','level_id':null"],
+    ),
+    (
+        File::Footprint,
+        &TWO,
+        "#0004",
+        &["'building_ids':['#0003','#0005']"],
+    ),
+    (File::Geofence, &NULL, "#0503", &[]),
+    (
+        File::Kiosk,
+        &NULL,
+        "#0504",
+        &["'anchor_id':null,'level_id':'#0010'"],
+    ),
+    (
+        File::Level,
+        &POLYGON,
+        "#0010",
+        &["'address_id':null,'building_ids':[],'ordinal':-12"],
+    ),
+    (
+        File::Occupant,
+        &NULL,
+        "#0051",
+        &["'anchor_id':'#0041','name':null"],
+    ),
+    (
+        File::Opening,
+        &[
+            "{'coordinates':[[10.000210000,50.000400000],[10.000230000,50.000400000]],'type':'LineString'}",
+        ],
+        "#0101",
+        &[
+            "'access_control':['outofservice'],'accessibility':['wheelchair'],'door':{'type':'revolving'},'level_id':'#0010'",
+        ],
+    ),
+    (
+        File::Relationship,
+        &NULL,
+        "#0021",
+        &[
+            "'category':'none','destination':{'feature_type':'unit','id':'#0401'},'direction':'directed',",
+            "'intermediary':[{'feature_type':'opening','id':'#0104'}],'origin':null",
+        ],
+    ),
+    (File::Section, &NULL, "#0505", &[]),
+    (
+        File::Unit,
+        &HOLED,
+        "#0300",
+        &[
+            "'category':'room','display_point':{'coordinates':[10.000500000,50.000200000],'type':'Point'},'level_id':'#0010',",
+            "'name':{'de':'','en':'a\\'b\\\\c/\\u0001\\u001f\\u000a\\u0000d\u{7f}\u{1F600}'},'restriction':'restricted'",
+        ],
+    ),
+    (File::Venue, &TWO, "#0002", &["'address_id':'#0001'"]),
+];
+
 #[test]
 fn a_row_of_every_kind(rt: HostRuntime) -> Result<(), Fail> {
     let alloc = rt.alloc();
-    let table: [(File, &[&str], &str, &[&str]); 16] = [
-        (File::Address, &NULL, "#0001", &[]),
-        (
-            File::Amenity,
-            &["{'coordinates':[10.000300000,50.000250000],'type':'Point'}"],
-            "#0031",
-            &[
-                "'address_id':'#0001','category':'restroom','name':{'en':'Rest'},'unit_ids':['#0300','#0301']",
-            ],
-        ),
-        (
-            File::Anchor,
-            &["{'coordinates':[10.000220000,50.000040000],'type':'Point'}"],
-            "#0041",
-            &["'address_id':'#0001','unit_id':'#0305'"],
-        ),
-        (File::Building, &NULL, "#0003", &["'address_id':null"]),
-        (File::Detail, &NULL, "#0501", &["'level_id':'#0010'"]),
-        (
-            File::Fixture,
-            &HOLED,
-            "#0502",
-            &["'anchor_id':'#0041','level_id':null"],
-        ),
-        (
-            File::Footprint,
-            &TWO,
-            "#0004",
-            &["'building_ids':['#0003','#0005']"],
-        ),
-        (File::Geofence, &NULL, "#0503", &[]),
-        (
-            File::Kiosk,
-            &NULL,
-            "#0504",
-            &["'anchor_id':null,'level_id':'#0010'"],
-        ),
-        (
-            File::Level,
-            &POLYGON,
-            "#0010",
-            &["'address_id':null,'building_ids':[],'ordinal':-12"],
-        ),
-        (
-            File::Occupant,
-            &NULL,
-            "#0051",
-            &["'anchor_id':'#0041','name':null"],
-        ),
-        (
-            File::Opening,
-            &[
-                "{'coordinates':[[10.000210000,50.000400000],[10.000230000,50.000400000]],'type':'LineString'}",
-            ],
-            "#0101",
-            &[
-                "'access_control':['outofservice'],'accessibility':['wheelchair'],'door':{'type':'revolving'},'level_id':'#0010'",
-            ],
-        ),
-        (
-            File::Relationship,
-            &NULL,
-            "#0021",
-            &[
-                "'category':'none','destination':{'feature_type':'unit','id':'#0401'},'direction':'directed',",
-                "'intermediary':[{'feature_type':'opening','id':'#0104'}],'origin':null",
-            ],
-        ),
-        (File::Section, &NULL, "#0505", &[]),
-        (
-            File::Unit,
-            &HOLED,
-            "#0300",
-            &[
-                "'category':'room','display_point':{'coordinates':[10.000500000,50.000200000],'type':'Point'},'level_id':'#0010',",
-                "'name':{'de':'','en':'a\\'b\\\\c/\\u0001\\u001f\\u000a\\u0000d\u{7f}\u{1F600}'},'restriction':'restricted'",
-            ],
-        ),
-        (File::Venue, &TWO, "#0002", &["'address_id':'#0001'"]),
-    ];
     let features = every_kind(alloc)?;
-    for (file, geometry, id, properties) in table {
-        judge(&rt, alloc, &features, file, geometry, id, properties)?;
+    for (file, geometry, id, properties) in &KINDS {
+        judge(&rt, alloc, &features, *file, geometry, id, properties)?;
     }
     Ok(())
 }
