@@ -1,5 +1,9 @@
 //! Units and amenities beside what is to hold them, worked out by hand.
 
+ghost use Rattle.std.specs.Prelude.{IfOk};
+ghost use Rattle.imdf_read.specs.Rows.{HaveOwnIds};
+ghost use Rattle.imdf_read.specs.Sound.{AreSound};
+
 use crate::small_folders::{
     Corner, MANIFEST, VENUE, collection, files, named_rows, point, polygons, push_feature,
 };
@@ -7,18 +11,17 @@ use contain_rules::add_hold_findings;
 use ring_rules::is_spread;
 use std::alloc::{AllocError, Global};
 use std::test::Fail;
-use venue_types::Finding;
+use venue_types::{Features, Finding};
 
-// What isn't held in a folder of a level, a unit on it, and amenities of the unit.
-fn findings(
-    alloc: Global,
-    level: &str,
-    tolerance: u32,
-    unit: &str,
-    amenities: &[Corner],
-) -> Result<Vec<Finding>, Fail> {
+// The file of a level of this shape.
+fn level_file(alloc: Global, level: &str) -> Result<String, Fail> {
     let mut levels = String::new(alloc);
     push_feature(alloc, &mut levels, "level", 1, level, "\"ordinal\":0")?;
+    Ok(collection(alloc, levels.as_str())?)
+}
+
+// The file of a unit of this shape on it.
+fn unit_file(alloc: Global, unit: &str) -> Result<String, Fail> {
     let mut units = String::new(alloc);
     push_feature(
         alloc,
@@ -28,6 +31,11 @@ fn findings(
         unit,
         "\"category\":\"room\",\"level_id\":\"00000000-0000-4000-8000-000000000001\"",
     )?;
+    Ok(collection(alloc, units.as_str())?)
+}
+
+// The file of amenities of the unit.
+fn amenity_file(alloc: Global, amenities: &[Corner]) -> Result<String, Fail> {
     let mut points = String::new(alloc);
     for (number, corner) in (3..90u32).zip(amenities) {
         push_feature(
@@ -39,9 +47,14 @@ fn findings(
             "\"category\":\"restroom\",\"unit_ids\":[\"00000000-0000-4000-8000-000000000002\"]",
         )?;
     }
-    let levels = collection(alloc, levels.as_str())?;
-    let units = collection(alloc, units.as_str())?;
-    let points = collection(alloc, points.as_str())?;
+    Ok(collection(alloc, points.as_str())?)
+}
+
+// The rows of a folder of these files.
+fn rows_of(alloc: Global, levels: &str, units: &str, points: &str) -> Result<Features, Fail>
+    ensures sound { IfOk result AreSound }
+    ensures own_ids { IfOk result HaveOwnIds }
+{
     let files = files(
         alloc,
         &[
@@ -52,7 +65,21 @@ fn findings(
             (16, VENUE),
         ],
     )?;
-    let features = named_rows(alloc, &files)?;
+    named_rows(alloc, &files)
+}
+
+// What isn't held in a folder of a level, a unit on it, and amenities of the unit.
+fn findings(
+    alloc: Global,
+    level: &str,
+    tolerance: u32,
+    unit: &str,
+    amenities: &[Corner],
+) -> Result<Vec<Finding>, Fail> {
+    let levels = level_file(alloc, level)?;
+    let units = unit_file(alloc, unit)?;
+    let points = amenity_file(alloc, amenities)?;
+    let features = rows_of(alloc, levels.as_str(), units.as_str(), points.as_str())?;
     if is_spread(&features) {
         return Err(Fail::new("positions far apart"));
     }

@@ -201,7 +201,25 @@ fn judge_search<L: Ledger>(
     Ok(known.bound().is_some())
 }
 
-// Eight searches of each of eight venues, of which some have a bound and some none.
+// Eight searches of a venue: how many have a bound.
+fn judge_venue<L: Ledger>(
+    rt: &impl Abort,
+    alloc: Global,
+    seed: u64,
+    steps: &mut Steps<L>,
+) -> Result<u32, Fail> {
+    let mut state = seed;
+    let venue = made_venue(alloc, &mut state)?;
+    let mut bounds = 0u32;
+    for k in 0..8u32 {
+        if judge_search(rt, alloc, &venue, k, &mut state, steps)? {
+            bounds = bounds.saturating_add(1);
+        }
+    }
+    Ok(bounds)
+}
+
+// Eight venues, of whose searches some have a bound and some none.
 fn judge_venues<L: Ledger>(rt: &impl Abort, alloc: Global, blank: Blank) -> Result<(), Fail>
     requires some { 0 < L.parts }
     requires name { blank.name ≡ L.name }
@@ -210,13 +228,7 @@ fn judge_venues<L: Ledger>(rt: &impl Abort, alloc: Global, blank: Blank) -> Resu
     let mut steps = Steps::<L>::begin(blank);
     let mut bounds = 0u32;
     for seed in 0..8u64 {
-        let mut state = seed;
-        let venue = made_venue(alloc, &mut state)?;
-        for k in 0..8u32 {
-            if judge_search(rt, alloc, &venue, k, &mut state, &mut steps)? {
-                bounds = bounds.saturating_add(1);
-            }
-        }
+        bounds = bounds.saturating_add(judge_venue(rt, alloc, seed, &mut steps)?);
     }
     assert!(rt; 0 < bounds && bounds < 64);
     Ok(())
