@@ -51,7 +51,12 @@ fn amenity_file(alloc: Global, amenities: &[Corner]) -> Result<String, Fail> {
 }
 
 // The rows of a folder of these files.
-fn rows_of(alloc: Global, levels: &str, units: &str, points: &str) -> Result<Features, Fail>
+fn rows_of<'a>(
+    alloc: Global,
+    levels: &'a str,
+    units: &'a str,
+    points: &'a str,
+) -> Result<Features, Fail>
     ensures sound { IfOk result AreSound }
     ensures own_ids { IfOk result HaveOwnIds }
 {
