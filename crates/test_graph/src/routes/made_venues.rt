@@ -6,6 +6,7 @@ use crate::folders::{Folder, Place, add, between, feature, moved, name, opening,
 use crate::members::{LEVEL, level};
 use crate::station::venue_in;
 use std::alloc::{AllocError, Global};
+use std::sync::Arc;
 use std::test::Fail;
 use venue_build::Venue;
 
@@ -80,7 +81,7 @@ fn add_doors(
 }
 
 /// A venue, as drawn.
-pub(super) fn made_venue(alloc: Global, state: &mut u64) -> Result<Venue, Fail> {
+pub(super) fn made_venue(alloc: Global, state: &mut u64) -> Result<Arc<Venue>, Fail> {
     let mut folder = Folder::empty(alloc);
     folder.levels = level(alloc)?;
     let around = between((0, 0), (4 * SIDE, 2 * SIDE));
