@@ -5,8 +5,11 @@ use crate::notation::{file_text, plain};
 use imdf_write::{write_file, write_folder};
 use std::alloc::Global;
 use std::process::Abort;
+use std::sync::Arc;
 use std::test::Fail;
-use venue_types::{ALL_FILES, Features, File, Kind, List, Point, Slot};
+use venue_types::{
+    ALL_FILES, Features, File, Kind, List, OpeningRow, Point, RelationshipRow, Slot,
+};
 
 const TRIANGLE: &str =
     "[[10.000000000,50.000000000],[10.000100000,50.000000000],[10.000100000,50.000100000],[10.000000000,50.000000000]]";
@@ -45,6 +48,27 @@ fn text_of(slot: &Slot) -> Option<&[u8]> {
         Slot::Absent => None,
         Slot::Held(bytes) => Some(bytes.as_slice()),
     }
+}
+
+// Rows of every kind.
+fn rows(alloc: Global) -> Result<Arc<Features>, Fail> {
+    Ok(Arc::new(alloc, every_kind(alloc)?)?)
+}
+
+// The same with this opening alone.
+fn rows_with_opening(alloc: Global, row: OpeningRow) -> Result<Arc<Features>, Fail> {
+    let openings = List::from_vec(vec![in alloc; row]?);
+    let mut features = every_kind(alloc)?;
+    features.openings = openings;
+    Ok(Arc::new(alloc, features)?)
+}
+
+// The same with this relationship alone.
+fn rows_with_relationship(alloc: Global, row: RelationshipRow) -> Result<Arc<Features>, Fail> {
+    let relationships = List::from_vec(vec![in alloc; row]?);
+    let mut features = every_kind(alloc)?;
+    features.relationships = relationships;
+    Ok(Arc::new(alloc, features)?)
 }
 
 // A file of one feature is written so.
@@ -149,7 +173,7 @@ const KINDS: [(File, &[&str], &str, &[&str]); 16] = [
 #[test]
 fn a_row_of_every_kind(rt: HostRuntime) -> Result<(), Fail> {
     let alloc = rt.alloc();
-    let features = every_kind(alloc)?;
+    let features = rows(alloc)?;
     for (file, geometry, id, properties) in &KINDS {
         judge(&rt, alloc, &features, *file, geometry, id, properties)?;
     }
@@ -159,7 +183,7 @@ fn a_row_of_every_kind(rt: HostRuntime) -> Result<(), Fail> {
 #[test]
 fn a_folder_is_its_files(rt: HostRuntime) -> Result<(), Fail> {
     let alloc = rt.alloc();
-    let features = every_kind(alloc)?;
+    let features = rows(alloc)?;
     let files = write_folder(alloc, &features)?;
     assert!(rt; files.slots.len() == 17);
     for (slot, file) in files.slots.iter().zip(&ALL_FILES) {
@@ -188,9 +212,7 @@ fn odd_line() -> [Point; 3] {
 #[test]
 fn odd_coordinates(rt: HostRuntime) -> Result<(), Fail> {
     let alloc = rt.alloc();
-    let mut features = every_kind(alloc)?;
-    let row = opening(alloc, &odd_line(), false, false)?;
-    features.openings = List::from_vec(vec![in alloc; row]?);
+    let features = rows_with_opening(alloc, opening(alloc, &odd_line(), false, false)?)?;
     let geometry =
         "{'coordinates':[[-180.000000000,180.000000000],[0.000000000,-0.000000001],[-0.500000000,1.000000000]],'type':'LineString'}";
     let properties = "'access_control':null,'accessibility':null,'door':null,'level_id':'#0010'";
@@ -214,10 +236,9 @@ fn doors(rt: HostRuntime) -> Result<(), Fail> {
         (true, false, "{'type':'revolving'}"),
     ];
     let geometry = "{'coordinates':[[10.000000000,50.000010000]],'type':'LineString'}";
-    let mut features = every_kind(alloc)?;
     for (revolving, turnstile, door) in table {
         let row = opening(alloc, &[at(0, 1)], revolving, turnstile)?;
-        features.openings = List::from_vec(vec![in alloc; row]?);
+        let features = rows_with_opening(alloc, row)?;
         let properties = [
             "'access_control':null,'accessibility':null,'door':",
             door,
@@ -248,10 +269,9 @@ fn passages(rt: HostRuntime) -> Result<(), Fail> {
         (Kind::Stairs, "stairs"),
         (Kind::Traversal, "traversal"),
     ];
-    let mut features = every_kind(alloc)?;
     for (kind, category) in table {
         let row = relationship(alloc, Some(kind))?;
-        features.relationships = List::from_vec(vec![in alloc; row]?);
+        let features = rows_with_relationship(alloc, row)?;
         let properties = [
             "'category':'",
             category,

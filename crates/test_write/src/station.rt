@@ -1,10 +1,13 @@
 //! The station in the fixed form. Its lengths and texts were worked out by a program in Python from the definitions.
 
+ghost use Rattle.std.specs.Prelude.{◌≡◌, length};
+
 use crate::notation::plain;
 use imdf_read::read_folder;
 use imdf_write::write_folder;
 use std::alloc::Global;
 use std::process::Abort;
+use std::sync::Arc;
 use std::test::Fail;
 use test_station::{
     ADDRESS, AMENITY, ANCHOR, BUILDING, Change, DETAIL, FIXTURE, FOOTPRINT, GEOFENCE, KIOSK, LEVEL,
@@ -23,7 +26,17 @@ fn text_at(files: &Files, file: usize) -> &[u8] {
 // The station, read and written.
 fn written(alloc: Global) -> Result<Files, Fail> {
     let files = slots_of(alloc, Change::of(&[]))?;
-    let read = read_folder(alloc, &files)?;
+    again(alloc, &files)
+}
+
+// What is written of these files once they are read.
+fn again(alloc: Global, files: &Files) -> Result<Files, Fail>
+    requires { length files.now.slots ≡ 17 }
+{
+    let read = Arc::new(alloc, read_folder(alloc, files)?)?;
+    if !read.findings.is_empty() {
+        return Err(Fail::new("a finding"));
+    }
     Ok(write_folder(alloc, &read.features)?)
 }
 
@@ -112,9 +125,7 @@ fn written_twice(rt: HostRuntime) -> Result<(), Fail> {
     let alloc = rt.alloc();
     let once = written(alloc)?;
     assert!(rt; once.slots.len() == 17);
-    let read = read_folder(alloc, &once)?;
-    assert!(rt; read.findings.is_empty());
-    let twice = write_folder(alloc, &read.features)?;
+    let twice = again(alloc, &once)?;
     for file in MANIFEST..=VENUE {
         assert!(rt; text_at(&twice, file) == text_at(&once, file));
     }
