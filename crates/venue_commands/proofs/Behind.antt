@@ -96,6 +96,7 @@ behind_change enters shelf id h k (reply.Route number from to name start cost st
 behind_change enters shelf id h k (reply.NoRoute number from to name reached) some is v w room before behind = absurd is.cause.1
 behind_change enters shelf id h k (reply.Tour it) some is v w room before behind = absurd is.cause.1
 behind_change enters shelf id h k (reply.NoTour it) some is v w room before behind = absurd is.cause.1
+behind_change enters shelf id h k (reply.Nearest it) some is v w room before behind = absurd is.cause.1
 behind_change enters shelf id h k reply.NoProfile some is v w room before behind = absurd (cc is.cause)
 behind_change enters shelf id h k (reply.NoPlace end) some is v w room before behind = absurd is.cause.1
 behind_change enters shelf id h k (reply.Ahead since number) some is v w room before behind = absurd is.cause.1

@@ -56,6 +56,7 @@ told_cost v name from to (reply.Place it) some (now, never) = absurd never
 told_cost v name from to (reply.Closures it) some (now, never) = absurd never
 told_cost v name from to (reply.Tour it) some (now, never) = absurd never
 told_cost v name from to (reply.NoTour it) some (now, never) = absurd never
+told_cost v name from to (reply.Nearest it) some (now, never) = absurd never
 told_cost v name from to (reply.ClosureDone done) some (now, never) = absurd never
 told_cost v name from to (reply.Published number dropped) some (now, never) = absurd never
 told_cost v name from to reply.NoFeature some (now, never) = absurd never

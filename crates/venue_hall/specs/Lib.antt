@@ -19,6 +19,7 @@ pub use Rattle.venue_history.specs.Views
 pub use Rattle.venue_history.specs.Built
 pub use Rattle.venue_history.specs.Answers
 pub use Rattle.venue_history.specs.Tours
+pub use Rattle.venue_history.specs.Nearest
 pub use Rattle.venue_history.specs.Ways
 pub use Rattle.venue_history.specs.Links
 pub use Rattle.venue_history.specs.BuiltType

@@ -12,6 +12,7 @@ use Rattle.venue_types.specs.declared.reply.Reply.{Reply}
 use Rattle.venue_types.specs.declared.reply.Reply.TheVariants as reply
 use Rattle.venue_types.specs.declared.reply.Which.TheVariants as which
 use Rattle.venue_types.specs.declared.settings.Profile.{Profile}
+use Rattle.venue_types.specs.Nearest.{Nearest}
 use Rattle.venue_types.specs.Tours.{Tour}
 use Rattle.walk_laws.specs.Walks.{HasNoWalk, IsLeast}
 use Rattle.venue_build.specs.Views.{link_view}
@@ -60,6 +61,12 @@ data TourCause (v : Version) (asked : Tour) : ReplyKind → Type 0 where
   toured : (order : List FeatureId) (cost : ℕ) (legs : List Leg) → IsTour v asked order cost legs → TourCause v asked kind.tour
   not_so : IsNoTour v asked → TourCause v asked kind.no_tour
 
+-- what the kind of a reply on the nearest says
+data NearCause (v : Version) (asked : Nearest) : ReplyKind → Type 0 where
+  for_nobody : LacksProfile v asked.profile → NearCause v asked kind.no_profile
+  out_of_nowhere : HasProfile v asked.profile → IsNoPlace v asked.from → NearCause v asked (kind.no_place which.From)
+  listed : HasProfile v asked.profile → IsPlace v asked.from → NearCause v asked kind.nearest
+
 version_kind : (v : Version) (r : Reply) → AnswersAsk v ask.Version r → kind_of r ≡ kind.version
 version_kind v (reply.Version number closed count) is = refl
 version_kind v _ is = absurd is
@@ -95,6 +102,12 @@ tour_cause v asked (reply.NoPlace which.Stop) is = by_nowhere is.0 is.1 is.2 is.
 tour_cause v asked (reply.Tour it) is = toured it.order it.cost it.legs is.2
 tour_cause v asked (reply.NoTour it) is = not_so is.3
 tour_cause v asked _ is = absurd is
+
+near_cause : (v : Version) (asked : Nearest) (r : Reply) → AnswersAsk v (ask.Nearest asked) r → NearCause v asked (kind_of r)
+near_cause v asked reply.NoProfile is = for_nobody is
+near_cause v asked (reply.NoPlace which.From) is = out_of_nowhere is.0 is.1
+near_cause v asked (reply.Nearest it) is = listed (is.2.profile, is.2.trip.has_profile) (is.2.a, is.2.trip.has_from)
+near_cause v asked _ is = absurd is
 
 one_place : (v : Version) (id : FeatureId) (k l : ReplyKind) → PlaceCause v id k → PlaceCause v id l → k ≡ l
 one_place v id _ _ (nowhere e) (nowhere f) = refl
@@ -167,6 +180,17 @@ one_tour v asked _ _ (not_so is) (by_nowhere p' f' t' x' c' n') = absurd (stop_s
 one_tour v asked _ _ (not_so is) (toured o' k' l' is') = absurd (not_toured v asked o' k' l' is' is)
 one_tour v asked _ _ (not_so is) (not_so is') = refl
 
+one_near : (v : Version) (asked : Nearest) (k l : ReplyKind) → NearCause v asked k → NearCause v asked l → k ≡ l
+one_near v asked _ _ (for_nobody e) (for_nobody e') = refl
+one_near v asked _ _ (for_nobody e) (out_of_nowhere p' n') = absurd (cc (e, p'.1))
+one_near v asked _ _ (for_nobody e) (listed p' f') = absurd (cc (e, p'.1))
+one_near v asked _ _ (out_of_nowhere p n) (for_nobody e') = absurd (cc (p.1, e'))
+one_near v asked _ _ (out_of_nowhere p n) (out_of_nowhere p' n') = refl
+one_near v asked _ _ (out_of_nowhere p n) (listed p' f') = absurd (cc (n, f'.1))
+one_near v asked _ _ (listed p f) (for_nobody e') = absurd (cc (p.1, e'))
+one_near v asked _ _ (listed p f) (out_of_nowhere p' n') = absurd (cc (f.1, n'))
+one_near v asked _ _ (listed p f) (listed p' f') = refl
+
 one_answer : (v : Version) (asked : Ask) (r s : Reply) → AnswersAsk v asked r → AnswersAsk v asked s → kind_of r ≡ kind_of s
 one_answer v ask.Version r s is also = version_kind v r is ∙ sym (version_kind v s also)
 one_answer v ask.Places r s is also = places_kind v r is ∙ sym (places_kind v s also)
@@ -175,6 +199,7 @@ one_answer v (ask.Place id) r s is also = one_place v id (kind_of r) (kind_of s)
 one_answer v (ask.Route from to name certificate) r s is also =
     one_route v from to name (kind_of r) (kind_of s) (route_cause v from to name certificate r is) (route_cause v from to name certificate s also)
 one_answer v (ask.Tour asked) r s is also = one_tour v asked (kind_of r) (kind_of s) (tour_cause v asked r is) (tour_cause v asked s also)
+one_answer v (ask.Nearest asked) r s is also = one_near v asked (kind_of r) (kind_of s) (near_cause v asked r is) (near_cause v asked s also)
 
 -- how a reply that isn't want of memory answers: the version is too early, or what is asked is answered
 data Cause (v : Version) (query : Query) (r : Reply) : Type 0 where

@@ -23,6 +23,7 @@ use Rattle.venue_build.specs.Nodes.{nodes, place_of}
 use Rattle.venue_build.specs.Views.{link_view, potential_view}
 use Rattle.venue_build.specs.Places.{places}
 use Rattle.venue_history.specs.Closed.{Version, is_closed_for_all, shut_out, closed_rows, closed_count}
+use Rattle.venue_history.specs.Nearest.{AreNearest, RepeatsNear}
 use Rattle.venue_history.specs.Tours.{IsTour, IsNoTour}
 use Rattle.venue_history.specs.Ways.{Usable, profile_number, profile_of, name_of, step_of, mark_of}
 
@@ -133,6 +134,9 @@ AnswersAsk v (ask.Tour asked) (reply.Tour it) =
     (it.number ≡ v.number) × RepeatsTrip asked.from asked.to asked.profile it.from it.to it.profile × IsTour v asked it.order it.cost it.legs
 AnswersAsk v (ask.Tour asked) (reply.NoTour it) =
     (it.number ≡ v.number) × RepeatsTrip asked.from asked.to asked.profile it.from it.to it.profile × (it.stops ≡ asked.stops) × IsNoTour v asked
+AnswersAsk v (ask.Nearest asked) reply.NoProfile = LacksProfile v asked.profile
+AnswersAsk v (ask.Nearest asked) (reply.NoPlace which.From) = HasProfile v asked.profile × IsNoPlace v asked.from
+AnswersAsk v (ask.Nearest asked) (reply.Nearest it) = (it.number ≡ v.number) × RepeatsNear asked it × AreNearest v asked it
 AnswersAsk v _ _ = ⊥
 
 -- the reply is right for the question at the version; want of memory may stand for every other answer

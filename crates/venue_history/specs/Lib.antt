@@ -5,6 +5,7 @@ pub mod Openings
 pub mod Ways
 pub mod Named
 pub mod Tours
+pub mod Nearest
 pub mod Answers
 pub mod Replies
 pub mod Changes

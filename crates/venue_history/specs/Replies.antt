@@ -30,6 +30,7 @@ pub data ReplyKind : Type 0 where
   no_route : ReplyKind
   tour : ReplyKind
   no_tour : ReplyKind
+  nearest : ReplyKind
   closure_done : ReplyKind
   published : ReplyKind
   ahead : ReplyKind
@@ -51,6 +52,7 @@ kind_of (reply.Route number from to profile start cost steps potentials) = route
 kind_of (reply.NoRoute number from to profile reached) = no_route
 kind_of (reply.Tour it) = tour
 kind_of (reply.NoTour it) = no_tour
+kind_of (reply.Nearest it) = nearest
 kind_of (reply.ClosureDone done) = closure_done
 kind_of (reply.Published number dropped) = published
 kind_of (reply.Ahead since number) = ahead

@@ -49,6 +49,9 @@ told_kind v (ask.Tour asked) (reply.NoPlace which.To) there is = absurd (cc (is.
 told_kind v (ask.Tour asked) (reply.NoPlace which.Stop) there is = absurd (let stands = All-contains (IsPlace v) asked.stops is.3 there.3 is.4 in cc (is.5, stands.1))
 told_kind v (ask.Tour asked) (reply.Tour it) there is = inl refl
 told_kind v (ask.Tour asked) (reply.NoTour it) there is = inr refl
+told_kind v (ask.Nearest asked) reply.NoProfile there is = absurd (cc (is, there.0.1))
+told_kind v (ask.Nearest asked) (reply.NoPlace which.From) there is = absurd (cc (is.1, there.1.1))
+told_kind v (ask.Nearest asked) (reply.Nearest it) there is = refl
 told_kind v _ _ there is = absurd is
 
 too_early : (v : Version) (since : Option ℕ) (n : ℕ) → since ≡ Some n → v.number < n → IsTooEarly v since

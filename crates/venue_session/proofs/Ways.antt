@@ -1,4 +1,4 @@
--- What a reply with a route or a tour, or that there is none, tells.
+-- What a reply with a route or a tour, or that there is none, or with the nearest, tells.
 use Rattle.std.proofs.Common.{◌∙◌, ℕ, List, ap, Option}
 use Rattle.venue_types.specs.declared.feature_id.FeatureId.{FeatureId}
 use Rattle.venue_types.specs.declared.query.Ask.{Ask}
@@ -6,6 +6,7 @@ use Rattle.venue_types.specs.declared.query.Ask.TheVariants as ask
 use Rattle.venue_types.specs.declared.query.Change.{Change}
 use Rattle.venue_types.specs.declared.query.Change.TheVariants as change
 use Rattle.venue_types.specs.declared.reply.Mark.{Mark}
+use Rattle.venue_types.specs.declared.reply.NearTold.{NearTold}
 use Rattle.venue_types.specs.declared.reply.NoTourTold.{NoTourTold}
 use Rattle.venue_types.specs.declared.reply.Reply.TheVariants as reply
 use Rattle.venue_types.specs.declared.reply.StepRow.{StepRow}
@@ -79,6 +80,10 @@ no_tour_told : (seen : List Entry) (v : Version) (asked : Ask) (it : NoTourTold)
 no_tour_told seen v (ask.Tour asked) it stands is = (v, asked, stands, is.0, is.1, is.2, is.3)
 no_tour_told seen v _ it stands is = absurd is
 
+near_told : (seen : List Entry) (v : Version) (asked : Ask) (it : NearTold) → Replays seen v → AnswersAsk v asked (reply.Nearest it) → TellsTheWay seen (Of (reply.Nearest it))
+near_told seen v (ask.Nearest asked) it stands is = (v, asked, stands, is.0, is.1, is.2)
+near_told seen v _ it stands is = absurd is
+
 -- a change is answered by no route
 no_route : (shelf : Option Shelf) (v : Version) (asked : Change) (number cost : ℕ) (from to start : FeatureId) (name : List ℕ) (steps : List StepRow)
     (potentials : Option (List Mark)) → Refuses shelf v asked (reply.Route number from to name start cost steps potentials) → ⊥
@@ -101,6 +106,11 @@ no_tour_none : (shelf : Option Shelf) (v : Version) (asked : Change) (it : NoTou
 no_tour_none shelf v (change.Closure closure) it is = is.1
 no_tour_none shelf v (change.Publish folder) it is = is.1
 
+-- nor by the nearest
+no_near : (shelf : Option Shelf) (v : Version) (asked : Change) (it : NearTold) → Refuses shelf v asked (reply.Nearest it) → ⊥
+no_near shelf v (change.Closure closure) it is = is.1
+no_near shelf v (change.Publish folder) it is = is.1
+
 -- a right answer tells a way at the history that is seen then
 pub way_told : (old new : Facts) (message : Message) (answer : Response) → IsRight old message answer new → TellsTheWay new.seen answer
 way_told old new (Message.Ask query) (Of (reply.Route number from to name start cost steps potentials)) is =
@@ -109,22 +119,27 @@ way_told old new (Message.Ask query) (Of (reply.NoRoute number from to name reac
     none_told new.seen is.0 query.what number from to name reached is.1 is.2.1
 way_told old new (Message.Ask query) (Of (reply.Tour it)) is = tour_told new.seen is.0 query.what it is.1 is.2.1
 way_told old new (Message.Ask query) (Of (reply.NoTour it)) is = no_tour_told new.seen is.0 query.what it is.1 is.2.1
+way_told old new (Message.Ask query) (Of (reply.Nearest it)) is = near_told new.seen is.0 query.what it is.1 is.2.1
 way_told old new (Message.Do asked) (Of (reply.Route number from to name start cost steps potentials)) is =
     absurd (no_route old.files is.2.version asked number cost from to start name steps potentials is.2.cause)
 way_told old new (Message.Do asked) (Of (reply.NoRoute number from to name reached)) is =
     absurd (no_none old.files is.2.version asked number from to name reached is.2.cause)
 way_told old new (Message.Do asked) (Of (reply.Tour it)) is = absurd (no_tour old.files is.2.version asked it is.2.cause)
 way_told old new (Message.Do asked) (Of (reply.NoTour it)) is = absurd (no_tour_none old.files is.2.version asked it is.2.cause)
+way_told old new (Message.Do asked) (Of (reply.Nearest it)) is = absurd (no_near old.files is.2.version asked it is.2.cause)
 way_told old new (Message.Refused refusal) (Of (reply.Route number from to name start cost steps potentials)) is = absurd is
 way_told old new (Message.Refused refusal) (Of (reply.NoRoute number from to name reached)) is = absurd is
 way_told old new (Message.Refused refusal) (Of (reply.Tour it)) is = absurd is
 way_told old new (Message.Refused refusal) (Of (reply.NoTour it)) is = absurd is
+way_told old new (Message.Refused refusal) (Of (reply.Nearest it)) is = absurd is
 way_told old new (Message.Bare refusal) (Of (reply.Route number from to name start cost steps potentials)) is = absurd is
 way_told old new (Message.Bare refusal) (Of (reply.NoRoute number from to name reached)) is = absurd is
 way_told old new (Message.Bare refusal) (Of (reply.Tour it)) is = absurd is
 way_told old new (Message.Bare refusal) (Of (reply.NoTour it)) is = absurd is
+way_told old new (Message.Bare refusal) (Of (reply.Nearest it)) is = absurd is
 way_told old new Message.Unread (Of (reply.Route number from to name start cost steps potentials)) is = absurd (cc is.0)
 way_told old new Message.Unread (Of (reply.NoRoute number from to name reached)) is = absurd (cc is.0)
 way_told old new Message.Unread (Of (reply.Tour it)) is = absurd (cc is.0)
 way_told old new Message.Unread (Of (reply.NoTour it)) is = absurd (cc is.0)
+way_told old new Message.Unread (Of (reply.Nearest it)) is = absurd (cc is.0)
 way_told old new message answer is = tt

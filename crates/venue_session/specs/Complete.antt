@@ -12,9 +12,9 @@ use Rattle.venue_hall.specs.Shelves.{Shelf}
 use Rattle.venue_hall.specs.Answers.{HasProfile, IsPlace}
 use Rattle.venue_hall.specs.Changes.{Makes, IsClosureFor}
 use Rattle.venue_hall.specs.Closed.{Version}
-use Rattle.venue_hall.specs.Replies.{ReplyKind, kind_of, version, places, place, closures, route, no_route, tour, no_tour, closure_done, published, folder_fault, out_of_memory}
+use Rattle.venue_hall.specs.Replies.{ReplyKind, kind_of, version, places, place, closures, route, no_route, tour, no_tour, nearest, closure_done, published, folder_fault, out_of_memory}
 
--- what a question names is there: a place; for a route a profile and both places; and for a tour its stops too
+-- what a question names is there: a place; for a route a profile and both places; for a tour its stops too; for the nearest a profile and the start
 abbrev pub IsThere : Version → Ask → Type 0
 IsThere v ask.Version = Unit {0}
 IsThere v ask.Places = Unit {0}
@@ -22,6 +22,7 @@ IsThere v (ask.Place id) = IsPlace v id
 IsThere v ask.Closures = Unit {0}
 IsThere v (ask.Route from to name certificate) = HasProfile v name × IsPlace v from × IsPlace v to
 IsThere v (ask.Tour asked) = HasProfile v asked.profile × IsPlace v asked.from × IsPlace v asked.to × All (IsPlace v) asked.stops
+IsThere v (ask.Nearest asked) = HasProfile v asked.profile × IsPlace v asked.from
 
 -- the reply is of the kind that the question asks for; a route's or a tour's may say that there is none
 abbrev pub IsOfKind : Ask → ReplyKind → Type 0
@@ -31,6 +32,7 @@ IsOfKind (ask.Place id) kind = kind ≡ place
 IsOfKind ask.Closures kind = kind ≡ closures
 IsOfKind (ask.Route from to name certificate) kind = (kind ≡ route) ⊎ (kind ≡ no_route)
 IsOfKind (ask.Tour asked) kind = (kind ≡ tour) ⊎ (kind ≡ no_tour)
+IsOfKind (ask.Nearest asked) kind = kind ≡ nearest
 
 -- there is room for one version more
 abbrev pub HasRoom : Version → Type 0

@@ -3,6 +3,7 @@ use Rattle.std.specs.Prelude.{◌≡◌, ◌⊎◌, ℕ, ◌≤◌, ◌^◌, Boo
 use Rattle.std.specs.List.{flat_map}
 use mathlib.Core.List.{IsPrefix}
 use Rattle.venue_types.specs.declared.link.Link.{Link}
+use Rattle.venue_types.specs.Nearest.{Nearest}
 use Rattle.venue_types.specs.Tours.{Tour}
 use Rattle.venue_types.specs.declared.reply.Reply.TheVariants as reply
 use Rattle.venue_types.specs.declared.settings.Profile.{Profile}
@@ -14,6 +15,7 @@ use Rattle.venue_hall.specs.Answers.{IsTrip, RepeatsTrip}
 use Rattle.venue_hall.specs.Changes.{Changes}
 use Rattle.venue_hall.specs.Closed.{Version}
 use Rattle.venue_hall.specs.Histories.{IsLegal, Replays}
+use Rattle.venue_hall.specs.Nearest.{AreNearest, RepeatsNear}
 use Rattle.venue_hall.specs.Tours.{IsTour, IsNoTour}
 use Rattle.venue_hall.specs.Ways.{Usable, name_of, step_of}
 use Rattle.venue_hall.specs.Facts.{IsAnswered}
@@ -51,7 +53,8 @@ IsRight shelf worker before Message.Unread (Of r) seen = r ≡ reply.OutOfMemory
 IsRight shelf worker before _ _ seen = ⊥
 
 -- a route is a walk from the start over open links that the profile may use, and none costs less; a tour is of such walks by all stops, and in no order
--- do any cost less; where it is said that there is none, there is none; the other replies tell of no walk, and one that is added needs its own equation
+-- do any cost less; where it is said that there is none, there is none; the nearest amenities of a category come each with such a walk, and no other costs
+-- less than the last; the other replies tell of no walk, and one that is added needs its own equation
 abbrev pub TellsTheWay : List Entry → Response → Type 0
 TellsTheWay seen (Of (reply.Route number from to name start cost steps potentials)) =
     (v : Version) × (place : ℕ) × (profile : Profile) × (a : ℕ) × (b : ℕ) × Replays seen v × (number ≡ v.number) × IsTrip v from to name place profile a b
@@ -65,6 +68,7 @@ TellsTheWay seen (Of (reply.Tour it)) =
 TellsTheWay seen (Of (reply.NoTour it)) =
     (v : Version) × (asked : Tour) × Replays seen v × (it.number ≡ v.number) × RepeatsTrip asked.from asked.to asked.profile it.from it.to it.profile
     × (it.stops ≡ asked.stops) × IsNoTour v asked
+TellsTheWay seen (Of (reply.Nearest it)) = (v : Version) × (asked : Nearest) × Replays seen v × (it.number ≡ v.number) × RepeatsNear asked it × AreNearest v asked it
 TellsTheWay seen (Of (reply.Version number closed places)) = Unit {0}
 TellsTheWay seen (Of (reply.Places number rows)) = Unit {0}
 TellsTheWay seen (Of (reply.Place told)) = Unit {0}

@@ -9,6 +9,8 @@ pub mod TourSearches
 pub mod TourTables
 pub mod TourOrders
 pub mod TourAnswers
+pub mod Nearing
+pub mod Candidates
 pub mod Replying
 pub mod Readying
 pub mod Entering

@@ -4,6 +4,7 @@ pub mod Tallies
 pub mod Making
 pub mod Replaying
 pub mod Touring
+pub mod Nearing
 pub use Rattle.venue_history.specs.Venues
 pub use Rattle.venue_history.specs.Report
 pub use Rattle.venue_history.specs.Versions

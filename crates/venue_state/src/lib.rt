@@ -8,6 +8,7 @@ mod changes;
 mod closures;
 mod entry_laws;
 mod names;
+mod nearest;
 mod preparation;
 mod prepared;
 mod profile_names;

@@ -16,8 +16,9 @@ use venue_types::{
 
 impl Board {
     /// Answers a question at this version. The version is told in no time, a place by its number in an index, what is closed and all
-    /// places in one pass, a way by a search over the links and a pass over what it finds, and a tour by a search from its start and from
-    /// each stop. Takes memory for the answer, and for a way or a tour besides that of a search.
+    /// places in one pass, a way by a search over the links and a pass over what it finds, a tour by a search from its start and from
+    /// each stop, and the nearest of a category by a pass over the amenities and one search. Takes memory for the answer, and for a way, a
+    /// tour or the nearest besides that of a search.
     pub fn ask(&self, alloc: Global, query: &Query) -> Reply
         ensures { Answers self.now query.now result }
     {
@@ -76,6 +77,7 @@ impl Board {
                 certificate,
             } => self.route(alloc, *from, *to, profile, *certificate),
             Ask::Tour(asked) => self.tour(alloc, asked),
+            Ask::Nearest(asked) => self.nearest(alloc, asked),
         }
     }
 

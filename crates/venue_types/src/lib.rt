@@ -11,6 +11,7 @@ mod kind;
 mod link;
 mod list;
 mod memory;
+mod near_query;
 mod point;
 mod profile_set;
 mod query;
@@ -33,12 +34,13 @@ pub use kind::{Class, Kind};
 pub use link::{Link, LinkFacts, Node, Potential, Touches};
 pub use list::List;
 pub use memory::OutOfMemory;
+pub use near_query::NearQuery;
 pub use point::{Line, Part, Point, Ring, Shape, Spot};
 pub use profile_set::{ProfileSet, profile_set_law};
 pub use query::{Ask, Change, Closure, Query};
 pub use reply::{
-    ClosedRow, ClosureDone, ClosuresTold, Leg, Mark, NoTourTold, PlaceRow, PlaceTold, Reply,
-    StepRow, TourTold, Which,
+    ClosedRow, ClosureDone, ClosuresTold, Leg, Mark, NearRow, NearTold, NoTourTold, PlaceRow,
+    PlaceTold, Reply, StepRow, TourTold, Which,
 };
 pub use room::{push_reserved, reserve};
 pub use settings::{Extras, Profile, Settings};

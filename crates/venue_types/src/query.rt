@@ -1,6 +1,6 @@
 //! What a visitor asks, and what staff change.
 
-use crate::{FeatureId, List, Text, TourQuery};
+use crate::{FeatureId, List, NearQuery, Text, TourQuery};
 
 /// A question, to be answered at a version that is no older than `since`, where that is given.
 #[derive(Drop)]
@@ -29,6 +29,8 @@ pub enum Ask {
     },
     /// The cheapest way from one place to another that visits other places in between, in whatever order costs least.
     Tour(TourQuery),
+    /// The nearest amenities of a category, by what the ways to them cost.
+    Nearest(NearQuery),
 }
 
 /// A closure that staff ask for: the feature is to be closed, or to be open again, for the profiles that are named, or where none are

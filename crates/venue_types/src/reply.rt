@@ -67,6 +67,28 @@ pub struct NoTourTold {
     pub stops: List<FeatureId>,
 }
 
+/// One of the nearest amenities: what a way to it costs in centimetres, and its steps, none where it is the start.
+#[derive(Drop)]
+pub struct NearRow {
+    pub id: FeatureId,
+    pub cost: u64,
+    pub steps: List<StepRow>,
+}
+
+/// The nearest amenities of a category as a reply tells them, by what the ways to them from the node `start` cost, then by node. Where the
+/// certificate was asked for, the potentials are there, and where there are fewer than were asked for the nodes that can be reached.
+#[derive(Drop)]
+pub struct NearTold {
+    pub number: u32,
+    pub from: FeatureId,
+    pub start: FeatureId,
+    pub category: Text,
+    pub profile: Text,
+    pub places: List<NearRow>,
+    pub potentials: Option<List<Mark>>,
+    pub reached: Option<List<FeatureId>>,
+}
+
 /// A place as a reply tells it: whether it is closed for everybody, and where it is closed for some alone, the names of their profiles.
 #[derive(Drop)]
 pub struct PlaceTold {
@@ -139,6 +161,8 @@ pub enum Reply {
     Tour(TourTold),
     /// There is no tour, in whatever order.
     NoTour(NoTourTold),
+    /// The nearest amenities of a category; none where none can be reached.
+    Nearest(NearTold),
     ClosureDone(ClosureDone),
     /// The folder is published; `dropped` are the closed features that it can't close any more.
     Published {

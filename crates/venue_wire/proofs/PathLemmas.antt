@@ -7,20 +7,21 @@ use Rattle.matchit.specs.Seek.{first, has_slash}
 use Rattle.matchit.proofs.OnLiterals.{matchit_on_literals}
 use Rattle.venue_wire.specs.Paths.{routes, route_of, IsTextOf}
 use Rattle.venue_wire.specs.declared.paths.Path.{Path}
-use Rattle.venue_wire.specs.declared.paths.Path.TheVariants.{Version, Places, Closures, Place, Route, Tour, Publish}
+use Rattle.venue_wire.specs.declared.paths.Path.TheVariants.{Version, Places, Closures, Place, Route, Tour, Nearest, Publish}
 use Rattle.venue_wire.proofs.RouteLemmas.{HasFit, are_simple_of, fits_plain, fits_param, seek_fits, param_found, steps_found}
 
 text_of_fit : (text : List ℕ) (route : RouteOf Path) → HasFit routes text route → IsTextOf text route.value
 text_of_fit text route (inl x) = subst (λ (r : RouteOf Path). IsTextOf text r.value) x.1 (fits_plain (codes "/v1/closures") text refl x.0)
-text_of_fit text route (inr (inl x)) =
+text_of_fit text route (inr (inl x)) = subst (λ (r : RouteOf Path). IsTextOf text r.value) x.1 (fits_plain (codes "/v1/nearest") text refl x.0)
+text_of_fit text route (inr (inr (inl x))) =
     let behind = fits_param (codes "/v1/place/") text refl x.0 in
     subst (λ (r : RouteOf Path). IsTextOf text r.value) x.1 (behind.id, behind.text, behind.some, behind.plain)
-text_of_fit text route (inr (inr (inl x))) = subst (λ (r : RouteOf Path). IsTextOf text r.value) x.1 (fits_plain (codes "/v1/places") text refl x.0)
-text_of_fit text route (inr (inr (inr (inl x)))) = subst (λ (r : RouteOf Path). IsTextOf text r.value) x.1 (fits_plain (codes "/v1/publish") text refl x.0)
-text_of_fit text route (inr (inr (inr (inr (inl x))))) = subst (λ (r : RouteOf Path). IsTextOf text r.value) x.1 (fits_plain (codes "/v1/route") text refl x.0)
-text_of_fit text route (inr (inr (inr (inr (inr (inl x)))))) = subst (λ (r : RouteOf Path). IsTextOf text r.value) x.1 (fits_plain (codes "/v1/tour") text refl x.0)
-text_of_fit text route (inr (inr (inr (inr (inr (inr (inl x))))))) = subst (λ (r : RouteOf Path). IsTextOf text r.value) x.1 (fits_plain (codes "/v1/version") text refl x.0)
-text_of_fit text route (inr (inr (inr (inr (inr (inr (inr x))))))) = absurd x
+text_of_fit text route (inr (inr (inr (inl x)))) = subst (λ (r : RouteOf Path). IsTextOf text r.value) x.1 (fits_plain (codes "/v1/places") text refl x.0)
+text_of_fit text route (inr (inr (inr (inr (inl x))))) = subst (λ (r : RouteOf Path). IsTextOf text r.value) x.1 (fits_plain (codes "/v1/publish") text refl x.0)
+text_of_fit text route (inr (inr (inr (inr (inr (inl x)))))) = subst (λ (r : RouteOf Path). IsTextOf text r.value) x.1 (fits_plain (codes "/v1/route") text refl x.0)
+text_of_fit text route (inr (inr (inr (inr (inr (inr (inl x))))))) = subst (λ (r : RouteOf Path). IsTextOf text r.value) x.1 (fits_plain (codes "/v1/tour") text refl x.0)
+text_of_fit text route (inr (inr (inr (inr (inr (inr (inr (inl x)))))))) = subst (λ (r : RouteOf Path). IsTextOf text r.value) x.1 (fits_plain (codes "/v1/version") text refl x.0)
+text_of_fit text route (inr (inr (inr (inr (inr (inr (inr (inr x)))))))) = absurd x
 
 pub found_path : (text : List ℕ) (path : Path) → route_of text ≡ Some path → IsTextOf text path
 unfolding route_of
@@ -52,4 +53,5 @@ whole_path text Closures is = rw is refl
 whole_path text Place is = ap route_of is.1 ∙ place_found is.0 is.2 is.3
 whole_path text Route is = rw is refl
 whole_path text Tour is = rw is refl
+whole_path text Nearest is = rw is refl
 whole_path text Publish is = rw is refl

@@ -64,6 +64,7 @@ change_in Path.Closures value = closure_in value
 change_in Path.Place value = None
 change_in Path.Route value = None
 change_in Path.Tour value = None
+change_in Path.Nearest value = None
 change_in Path.Publish value = publish_in value
 
 -- the body asks this of the path

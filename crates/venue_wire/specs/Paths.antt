@@ -7,7 +7,7 @@ use Rattle.matchit.specs.Seek.{first, has_slash}
 use Rattle.wire_frames.specs.declared.refusals.Methods.{Methods}
 use Rattle.wire_frames.specs.declared.refusals.Methods.TheVariants.{Get, Post, Both}
 use Rattle.venue_wire.specs.declared.paths.Path.{Path}
-use Rattle.venue_wire.specs.declared.paths.Path.TheVariants.{Version, Places, Closures, Place, Route, Tour, Publish}
+use Rattle.venue_wire.specs.declared.paths.Path.TheVariants.{Version, Places, Closures, Place, Route, Tour, Nearest, Publish}
 
 -- a route without a parameter
 abbrev pub fixed : List ℕ → Path → List ℕ × RouteOf Path
@@ -17,6 +17,7 @@ fixed text path = (text, record { pattern = text; text = text; names = []; value
 abbrev pub routes : RowsOf (RouteOf Path)
 routes =
     fixed (codes "/v1/closures") Closures
+    ∷ fixed (codes "/v1/nearest") Nearest
     ∷ (codes "/v1/place/" ++ param_token ∷ [], record { pattern = codes "/v1/place/" ++ param_token ∷ []; text = codes "/v1/place/{id}"; names = (11, 13) ∷ []; value = Place })
     ∷ fixed (codes "/v1/places") Places
     ∷ fixed (codes "/v1/publish") Publish
@@ -29,7 +30,7 @@ routes =
 unfoldable pub route_of : List ℕ → Option Path
 route_of text = option_map (λ route. route.value) (first routes text)
 
--- the text is that of a path: one of six, or that of a place, whose identifier has a byte or more and no slash
+-- the text is that of a path: one of seven, or that of a place, whose identifier has a byte or more and no slash
 abbrev pub IsTextOf : List ℕ → Path → Type 0
 IsTextOf text Version = text ≡ codes "/v1/version"
 IsTextOf text Places = text ≡ codes "/v1/places"
@@ -37,6 +38,7 @@ IsTextOf text Closures = text ≡ codes "/v1/closures"
 IsTextOf text Place = (id : List ℕ) × (text ≡ codes "/v1/place/" ++ id) × (0 < length id) × (has_slash id ≡ false)
 IsTextOf text Route = text ≡ codes "/v1/route"
 IsTextOf text Tour = text ≡ codes "/v1/tour"
+IsTextOf text Nearest = text ≡ codes "/v1/nearest"
 IsTextOf text Publish = text ≡ codes "/v1/publish"
 
 -- the methods of each path
@@ -47,6 +49,7 @@ methods_of Closures = Both
 methods_of Place = Get
 methods_of Route = Get
 methods_of Tour = Get
+methods_of Nearest = Get
 methods_of Publish = Post
 
 -- the method is GET; it is POST

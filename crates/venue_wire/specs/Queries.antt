@@ -1,5 +1,5 @@
 -- What a query asks of a path (the URL Standard, section 5).
-use Rattle.std.specs.Prelude.{ℕ, ◌^◌, Bool, true, false, ◌&&◌, ◌==◌, nat_lt, List, [], ◌∷◌, map, flat_map, length, codes, if◌then◌else◌, Option, Some, None, option_map, option_and_then, bytes_eq, decimal}
+use Rattle.std.specs.Prelude.{ℕ, ◌^◌, Bool, true, false, ◌&&◌, ◌==◌, nat_lt, nat_le, List, [], ◌∷◌, map, flat_map, length, codes, if◌then◌else◌, Option, Some, None, option_map, option_and_then, bytes_eq, decimal}
 use Rattle.std.specs.List.{slice_split}
 use Rattle.std.specs.Str.Lossy.{utf8_lossy}
 use Rattle.std.specs.Str.Parse.{digits_value}
@@ -9,7 +9,7 @@ use Rattle.venue_types.specs.declared.query.Ask.{Ask}
 use Rattle.venue_types.specs.declared.feature_id.FeatureId.{FeatureId}
 use Rattle.venue_types.specs.declared.query.Query.{Query}
 use Rattle.venue_wire.specs.declared.paths.Path.{Path}
-use Rattle.venue_wire.specs.declared.paths.Path.TheVariants.{Version, Places, Closures, Place, Route, Tour, Publish}
+use Rattle.venue_wire.specs.declared.paths.Path.TheVariants.{Version, Places, Closures, Place, Route, Tour, Nearest, Publish}
 use Rattle.venue_wire.specs.Paths.{place_in}
 
 -- the text that a name or a value stands for: decoded, with U+FFFD for what is no UTF-8
@@ -86,6 +86,30 @@ tour_asked query =
     (end_of (codes "to") query))
     (end_of (codes "from") query)
 
+-- whether a text is as long as a category may be: 1 to 64 bytes
+abbrev pub is_category : List ℕ → Bool
+is_category text = nat_lt 0 (length text) && nat_le (length text) 64
+
+-- the category of an amenity
+abbrev pub category_read : List ℕ → Option (List ℕ)
+category_read text = if is_category text then Some text else None
+
+-- how many are asked for at most: 1 to 10
+abbrev pub limit_read : List ℕ → Option ℕ
+limit_read text = option_and_then (λ limit. if nat_le 1 limit && nat_le limit 10 then Some limit else None) (number_read text)
+
+-- the nearest that are asked for: from where, of which category, the profile, how many at most, which is one where nothing is said, and whether with the
+-- certificate, which isn't where nothing is said
+abbrev pub nearest_asked : List ℕ → Option Ask
+nearest_asked query =
+    option_and_then (λ from. option_and_then (λ category. option_and_then (λ profile. option_and_then (λ limit. option_map (λ certificate.
+    Ask.Nearest (record { from = from; category = category; profile = profile; limit = limit; certificate = certificate }))
+    (value_or false answer_read (values_of (codes "certificate") query)))
+    (value_or 1 limit_read (values_of (codes "limit") query)))
+    (only_value (values_of (codes "profile") query)))
+    (option_and_then category_read (only_value (values_of (codes "category") query))))
+    (end_of (codes "from") query)
+
 -- what is asked by GET of a path, in whose text a place's identifier stands, with a query
 abbrev pub ask_of : Path → List ℕ → List ℕ → Option Ask
 ask_of Version text query = Some Ask.Version
@@ -94,6 +118,7 @@ ask_of Closures text query = Some Ask.Closures
 ask_of Place text query = option_map (λ id. Ask.Place id) (identifier_read (place_in text))
 ask_of Route text query = route_asked query
 ask_of Tour text query = tour_asked query
+ask_of Nearest text query = nearest_asked query
 ask_of Publish text query = None
 
 -- the same, with the version that is asked for at least

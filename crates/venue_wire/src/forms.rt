@@ -1,9 +1,9 @@
 //! The forms of values.
 
-ghost use Rattle.std.specs.Prelude.{◌≡◌};
+ghost use Rattle.std.specs.Prelude.{◌≡◌, ◌≤◌, IfSome};
 ghost use Rattle.std.specs.List.{list_all};
 ghost use Rattle.venue_wire.specs.Bodies.{is_folder_byte, is_folder_name};
-ghost use Rattle.venue_wire.specs.Queries.{answer_read, number_read};
+ghost use Rattle.venue_wire.specs.Queries.{answer_read, is_category, limit_read, number_read};
 
 use line_forms::number;
 
@@ -28,6 +28,27 @@ pub(crate) fn read_answer(text: &str) -> Option<bool>
         Some(true)
     } else if text == "no" {
         Some(false)
+    } else {
+        None
+    }
+}
+
+/// Whether a text is as long as a category may be, 1 to 64 bytes.
+pub(crate) fn is_category(text: &str) -> bool
+    ensures { result ≡ is_category text.now }
+{
+    !text.is_empty() && text.len() <= 64
+}
+
+/// How many of the nearest are asked for at most, 1 to 10, in decimal without a zero in front.
+pub(crate) fn read_limit(text: &[u8]) -> Option<u8>
+    ensures value { result ≡ limit_read text.now }
+    ensures some { IfSome result (λ limit. 1 ≤ limit) }
+    ensures few { IfSome result (λ limit. limit ≤ 10) }
+{
+    let limit = read_number(text)?;
+    if 1 <= limit && limit <= 10 {
+        Some(limit as u8)
     } else {
         None
     }

@@ -43,6 +43,7 @@ fn routes(alloc: Global) -> Result<Router<Path>, InsertError>
     router.insert("/v1/place/{id}", Path::Place)?;
     router.insert("/v1/route", Path::Route)?;
     router.insert("/v1/tour", Path::Tour)?;
+    router.insert("/v1/nearest", Path::Nearest)?;
     router.insert("/v1/publish", Path::Publish)?;
     Ok(router)
 }

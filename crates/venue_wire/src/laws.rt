@@ -54,7 +54,7 @@ pub fn message_length_law()
         → At keys bytes (Taken.Message m size close) → size ≤ length bytes }
 {}
 
-/// A path is found exactly where it is one of six texts, or `/v1/place/` with a byte or more behind it and no slash there.
+/// A path is found exactly where it is one of seven texts, or `/v1/place/` with a byte or more behind it and no slash there.
 pub fn path_law()
     ensures found { (text : List ℕ) (path : Path) → route_of text ≡ Some path → IsTextOf text path }
     ensures whole { (text : List ℕ) (path : Path) → IsTextOf text path → route_of text ≡ Some path }

@@ -21,6 +21,8 @@ pub enum Path {
     Route,
     /// `/v1/tour`
     Tour,
+    /// `/v1/nearest`
+    Nearest,
     /// `/v1/publish`
     Publish,
 }
@@ -29,7 +31,12 @@ pub(crate) fn methods_of(path: Path) -> Methods
     ensures { result ≡ methods_of path }
 {
     match path {
-        Path::Version | Path::Places | Path::Place | Path::Route | Path::Tour => Methods::Get,
+        Path::Version
+        | Path::Places
+        | Path::Place
+        | Path::Route
+        | Path::Tour
+        | Path::Nearest => Methods::Get,
         Path::Closures => Methods::Both,
         Path::Publish => Methods::Post,
     }

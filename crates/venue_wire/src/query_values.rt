@@ -3,15 +3,15 @@
 ghost use Rattle.std.specs.Prelude.{◌≡◌, ◌<◌, ◌≤◌, false, [], IfOk, IfSome, OnErr, codes, length, option_and_then};
 ghost use Rattle.venue_wire.specs.Messages.{asked};
 ghost use Rattle.venue_wire.specs.Paths.{place_in};
-ghost use Rattle.venue_wire.specs.Queries.{answer_read, ask_of, end_of, query_of, only_value, route_asked, since_of, stops_read, tour_asked, value_or, values_of};
+ghost use Rattle.venue_wire.specs.Queries.{answer_read, ask_of, category_read, end_of, limit_read, nearest_asked, query_of, only_value, route_asked, since_of, stops_read, tour_asked, value_or, values_of};
 
-use crate::forms::{read_answer, read_number};
+use crate::forms::{is_category, read_answer, read_limit, read_number};
 use crate::messages::Message;
 use crate::paths::Path;
 use crate::query_pairs::{Sought, seek};
 use crate::stops::read_stops;
 use std::alloc::Global;
-use venue_types::{Ask, FeatureId, List, OutOfMemory, Query, Text, TourQuery};
+use venue_types::{Ask, FeatureId, List, NearQuery, OutOfMemory, Query, Text, TourQuery};
 use wire_frames::Refusal;
 
 // The version that is asked for at least, if any; none where the query isn't of its form.
@@ -29,7 +29,7 @@ fn since_of(alloc: Global, query: &[u8]) -> Result<Option<Option<u32>>, OutOfMem
     }
 }
 
-// The place at one end of a route or a tour.
+// The place at one end of a route or a tour, or from which the nearest are asked for.
 fn end_of(alloc: Global, query: &[u8], key: &str) -> Result<Option<FeatureId>, OutOfMemory>
     ensures value { IfOk result (λ place. place ≡ end_of key.now query.now) }
     ensures memory { OnErr result (0 < length query.now) }
@@ -129,6 +129,70 @@ fn tour_asked(alloc: Global, query: &[u8]) -> Result<Option<Ask>, OutOfMemory>
     Ok(Some(Ask::Tour(TourQuery::new(from, to, stops, profile))))
 }
 
+// The category of which the nearest are asked for.
+#[tactic(auto, using(crate::proofs::ValueLemmas::no_values))]
+fn category_of(alloc: Global, query: &[u8]) -> Result<Option<Text>, OutOfMemory>
+    ensures value { IfOk result (λ category. category ≡ option_and_then category_read (only_value (values_of (codes "category") query.now))) }
+    ensures memory { OnErr result (0 < length query.now) }
+{
+    if query.is_empty() {
+        return Ok(None);
+    }
+    match seek(alloc, query, "category")? {
+        Sought::Once(text) => {
+            if is_category(&*text) {
+                Ok(Some(Text::from_string(text.into_owned(alloc)?)))
+            } else {
+                Ok(None)
+            }
+        }
+        Sought::Absent => Ok(None),
+        Sought::Several => Ok(None),
+    }
+}
+
+// How many of the nearest are asked for at most; one where nothing is said.
+fn limit_of(alloc: Global, query: &[u8]) -> Result<Option<u8>, OutOfMemory>
+    ensures value { IfOk result (λ limit. limit ≡ value_or 1 limit_read (values_of (codes "limit") query.now)) }
+    ensures some { IfOk result (λ limit. IfSome limit (λ most. 1 ≤ most)) }
+    ensures few { IfOk result (λ limit. IfSome limit (λ most. most ≤ 10)) }
+    ensures memory { OnErr result (0 < length query.now) }
+{
+    match seek(alloc, query, "limit")? {
+        Sought::Absent => Ok(Some(1)),
+        Sought::Once(text) => Ok(read_limit((&*text).as_bytes())),
+        Sought::Several => Ok(None),
+    }
+}
+
+fn nearest_asked(alloc: Global, query: &[u8]) -> Result<Option<Ask>, OutOfMemory>
+    ensures value { IfOk result (λ ask. ask ≡ nearest_asked query.now) }
+    ensures memory { OnErr result (0 < length query.now) }
+{
+    let Some(from) = end_of(alloc, query, "from")? else {
+        return Ok(None);
+    };
+    let Some(category) = category_of(alloc, query)? else {
+        return Ok(None);
+    };
+    let Some(profile) = profile_of(alloc, query)? else {
+        return Ok(None);
+    };
+    let Some(limit) = limit_of(alloc, query)? else {
+        return Ok(None);
+    };
+    let Some(certificate) = certificate_of(alloc, query)? else {
+        return Ok(None);
+    };
+    Ok(Some(Ask::Nearest(NearQuery::new(
+        from,
+        category,
+        profile,
+        limit,
+        certificate,
+    ))))
+}
+
 // The identifier in the text of a place's path.
 fn place_in(text: &str) -> &[u8]
     ensures { result.now ≡ place_in text.now }
@@ -155,6 +219,7 @@ fn ask_of(alloc: Global, path: Path, text: &str, query: &[u8]) -> Result<Option<
         Path::Place => Ok(place_asked(text)),
         Path::Route => route_asked(alloc, query),
         Path::Tour => tour_asked(alloc, query),
+        Path::Nearest => nearest_asked(alloc, query),
         Path::Publish => Ok(None),
     }
 }

@@ -14,6 +14,8 @@ use Rattle.venue_types.specs.declared.reply.ClosureDone.{ClosureDone}
 use Rattle.venue_types.specs.declared.reply.ClosuresTold.{ClosuresTold}
 use Rattle.venue_types.specs.declared.reply.Leg.{Leg}
 use Rattle.venue_types.specs.declared.reply.Mark.{Mark}
+use Rattle.venue_types.specs.declared.reply.NearRow.{NearRow}
+use Rattle.venue_types.specs.declared.reply.NearTold.{NearTold}
 use Rattle.venue_types.specs.declared.reply.NoTourTold.{NoTourTold}
 use Rattle.venue_types.specs.declared.reply.PlaceRow.{PlaceRow}
 use Rattle.venue_types.specs.declared.reply.PlaceTold.{PlaceTold}
@@ -194,6 +196,29 @@ no_tour_data told =
     (member (codes "version") (count told.number)
     no_members))))))
 
+-- one of the nearest amenities
+abbrev pub near_row_data : NearRow → Data
+near_row_data row =
+    object
+    (member (codes "amenity") (id_data row.id)
+    (member (codes "cost") (count row.cost)
+    (member (codes "steps") (list_data step_data row.steps)
+    no_members)))
+
+-- the nearest amenities of a category
+abbrev pub nearest_data : NearTold → Data
+nearest_data told =
+    object
+    (member (codes "category") (string told.category)
+    (member (codes "from") (id_data told.from)
+    (member (codes "places") (list_data near_row_data told.places)
+    (where_there (codes "potentials") (option_map (list_data mark_data) told.potentials)
+    (member (codes "profile") (string told.profile)
+    (where_there (codes "reached") (option_map (list_data id_data) told.reached)
+    (member (codes "start") (id_data told.start)
+    (member (codes "version") (count told.number)
+    no_members))))))))
+
 -- a feature that was closed or opened, and for whom where that was named
 abbrev pub closure_data : ClosureDone → Data
 closure_data done =
@@ -249,6 +274,7 @@ body_of (reply.Route version from to profile start cost steps potentials) =
 body_of (reply.NoRoute version from to profile reached) = no_route_data version from to profile reached
 body_of (reply.Tour told) = tour_data told
 body_of (reply.NoTour told) = no_tour_data told
+body_of (reply.Nearest told) = nearest_data told
 body_of (reply.ClosureDone done) = closure_data done
 body_of (reply.Published version dropped) = published_data version dropped
 body_of (reply.Ahead since version) = ahead_data since version

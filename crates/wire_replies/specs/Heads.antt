@@ -18,6 +18,7 @@ reply_status (reply.Route version from to profile start cost steps potentials) =
 reply_status (reply.NoRoute version from to profile reached) = 200
 reply_status (reply.Tour told) = 200
 reply_status (reply.NoTour told) = 200
+reply_status (reply.Nearest told) = 200
 reply_status (reply.ClosureDone done) = 200
 reply_status (reply.Published version dropped) = 200
 reply_status (reply.Ahead since version) = 409

@@ -29,6 +29,7 @@ pub(crate) fn reply_status(reply: &Reply) -> HttpStatus
         Reply::NoRoute { .. } => HttpStatus::Ok,
         Reply::Tour(_) => HttpStatus::Ok,
         Reply::NoTour(_) => HttpStatus::Ok,
+        Reply::Nearest(_) => HttpStatus::Ok,
         Reply::ClosureDone(_) => HttpStatus::Ok,
         Reply::Published { .. } => HttpStatus::Ok,
         Reply::Ahead { .. } => HttpStatus::Conflict,

@@ -4,6 +4,7 @@
 mod bodies;
 mod heads;
 mod labels;
+mod nearest;
 mod refusals;
 mod replies;
 mod reply;

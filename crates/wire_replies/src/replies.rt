@@ -8,6 +8,7 @@ use crate::bodies::{
     write_ahead, write_closure, write_closures, write_error, write_full, write_no_place,
     write_place, write_places, write_published, write_rejected, write_version,
 };
+use crate::nearest::write_nearest;
 use crate::tours::{write_no_tour, write_tour};
 use crate::walks::{Asked, write_no_route, write_route};
 use crate::written::Written;
@@ -65,6 +66,7 @@ impl Written for Reply {
             }
             Reply::Tour(told) => write_tour(alloc, out, told),
             Reply::NoTour(told) => write_no_tour(alloc, out, told),
+            Reply::Nearest(told) => write_nearest(alloc, out, told),
             Reply::ClosureDone(done) => write_closure(alloc, out, done),
             Reply::Published { number, dropped } => write_published(alloc, out, *number, dropped),
             Reply::Ahead { since, number } => write_ahead(alloc, out, *since, *number),
