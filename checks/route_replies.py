@@ -50,8 +50,8 @@ VENUES = [[], [(0x32, "atm", 30, 30, [0x300]), (0x33, "atm", 30, 30, [0x300]), (
 CATEGORIES = ["restroom", "restroom", "atm", "restroom.wheelchair", "Restroom"]
 # How many questions for the nearest are drawn where so much is closed, in how many ways each reply is spoiled, and what is known: the venue, what is closed,
 # the start, the category, the profile, the limit, the nearest with their costs, and how many nodes are reached where there are fewer than the limit.
-NEAREST = 3
-SPOILED = 5
+NEAREST = 2
+SPOILED = 4
 KNOWN_NEAREST = [(0, None, 0x51, "restroom", "wheelchair", 1, [(0x31, 2436)], None),
                  (0, None, 0x52, "restroom", "wheelchair", 1, [(0x31, 7100)], None),
                  (0, None, 0x51, "restroom", "wheelchair", 2, [(0x31, 2436)], 25), (0, 0x105, 0x51, "restroom", "wheelchair", 1, [], 2),
