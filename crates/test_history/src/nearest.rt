@@ -18,8 +18,8 @@ use venue_types::{
 // A step: where it leads, over what, its cost and its kind.
 type Step = (u128, u128, u32, Kind);
 
-// An amenity, what a way to it costs, and its steps where only one way costs so little.
-type Place = (u128, u64, Option<&'static [Step]>);
+// An amenity, what a way to it costs, and its steps; none where several ways cost so little.
+type Place = (u128, u64, &'static [Step]);
 
 // What is told, without its lists.
 #[derive(Clone, Copy, PartialEq, Eq)]
@@ -33,14 +33,14 @@ enum Told {
 }
 
 #[derive(Clone, Copy)]
-struct Row {
+struct Row<'a> {
     from: u128,
     category: &'static str,
     profile: &'static str,
     limit: u8,
     since: Option<u32>,
     told: Told,
-    places: &'static [Place],
+    places: &'a [Place],
     // Amenities of the category that are not told though they can be reached.
     beyond: &'static [u128],
     // How many nodes can be reached, where that is told, and the first of them.
@@ -49,7 +49,7 @@ struct Row {
 }
 
 // For a wheelchair from the bakery.
-const fn near(category: &'static str, places: &'static [Place]) -> Row {
+const fn near<'a>(category: &'static str, places: &'a [Place]) -> Row<'a> {
     Row {
         from: 0x0051,
         category,
@@ -65,7 +65,7 @@ const fn near(category: &'static str, places: &'static [Place]) -> Row {
 }
 
 // No question for a restroom, which is told this.
-const fn refused(told: Told) -> Row {
+const fn refused(told: Told) -> Row<'static> {
     Row {
         told,
         ..near("restroom", &[])
@@ -74,77 +74,69 @@ const fn refused(told: Told) -> Row {
 
 const DOOR: Step = (0x0105, 0x0305, 633, Kind::Floor);
 
-const RESTROOM: Place = (
-    0x0031,
-    2_436,
-    Some(&[DOOR, (0x0031, 0x0300, 1_803, Kind::Floor)]),
-);
+const RESTROOM: Place = (0x0031, 2_436, &[DOOR, (0x0031, 0x0300, 1_803, Kind::Floor)]);
 
 const BY_THE_LIFT: Place = (
     0x0031,
     7_100,
-    Some(&[
+    &[
         (0x0201, 0x0400, 2_000, Kind::Floor),
         (0x0401, 0x0401, 200, Kind::Elevator),
         (0x0301, 0x0021, 3_000, Kind::Elevator),
         (0x0101, 0x0301, 200, Kind::Elevator),
         (0x0031, 0x0300, 1_700, Kind::Floor),
-    ]),
+    ],
 );
 
 // The start itself.
-const HERE: Place = (0x0031, 0, Some(&[]));
+const HERE: Place = (0x0031, 0, &[]);
 
-const CORNER: Place = (
-    0x0032,
-    1_458,
-    Some(&[DOOR, (0x0032, 0x0300, 825, Kind::Floor)]),
-);
+const CORNER: Place = (0x0032, 1_458, &[DOOR, (0x0032, 0x0300, 825, Kind::Floor)]);
 
 const UPSTAIRS: Place = (
     0x0034,
     10_481,
-    Some(&[
+    &[
         DOOR,
         (0x0101, 0x0300, 3_007, Kind::Floor),
         (0x0301, 0x0301, 200, Kind::Elevator),
         (0x0401, 0x0021, 3_000, Kind::Elevator),
         (0x0201, 0x0401, 200, Kind::Elevator),
         (0x0034, 0x0400, 3_441, Kind::Floor),
-    ]),
+    ],
 );
 
 const UPSTAIRS_ON_FOOT: Place = (
     0x0034,
     7_830,
-    Some(&[
+    &[
         DOOR,
         (0x0103, 0x0300, 4_387, Kind::Floor),
         (0x0203, 0x0023, 800, Kind::Escalator),
         (0x0034, 0x0400, 2_010, Kind::Floor),
-    ]),
+    ],
 );
 
 const UPSTAIRS_BY_THE_RAMP: Place = (
     0x0034,
     11_611,
-    Some(&[
+    &[
         DOOR,
         (0x0104, 0x0300, 6_004, Kind::Floor),
         (0x0204, 0x0024, 2_000, Kind::Ramp),
         (0x0034, 0x0400, 2_974, Kind::Floor),
-    ]),
+    ],
 );
 
 // Across a room to one that stands in both, and from there at no cost.
 const BESIDE_ANOTHER: Place = (
     0x0032,
     3_133,
-    Some(&[
+    &[
         DOOR,
         (0x0033, 0x0300, 2_500, Kind::Floor),
         (0x0032, 0x0306, 0, Kind::Floor),
-    ]),
+    ],
 );
 
 // What a wheelchair can reach.
@@ -282,7 +274,7 @@ fn judge_places(rt: &impl Abort, told: &NearTold, places: &[Place]) {
     for (found, (amenity, cost, steps)) in told.places.as_slice().iter().zip(places) {
         assert!(rt; found.id == id(*amenity) && found.cost == *cost);
         judge_way(rt, told.start, found);
-        if let Some(steps) = steps {
+        if *cost == 0 || !steps.is_empty() {
             judge_steps(rt, found.steps.as_slice(), steps);
         }
     }
@@ -544,7 +536,7 @@ fn the_nearest_of_equals(rt: HostRuntime) -> Result<(), Fail> {
         &[Row {
             limit: 2,
             beyond: &[0x0034],
-            ..near("atm", &[(0x0032, 2_870, None), (0x0033, 2_870, None)])
+            ..near("atm", &[(0x0032, 2_870, &[]), (0x0033, 2_870, &[])])
         }],
     )?;
     judge_rows(
