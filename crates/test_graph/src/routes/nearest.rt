@@ -13,8 +13,7 @@ use std::marker::Brand;
 use std::process::Abort;
 use std::sync::ledger::{Blank, Ledger};
 use std::test::Fail;
-use venue_build::Venue;
-use venue_types::{Link, List, OutOfMemory, Potential};
+use venue_types::{Link, List, OutOfMemory, Potential, Profile};
 use walk_laws::Steps;
 
 /// A cost above all.
@@ -268,19 +267,20 @@ fn closed_of(state: &mut u64) -> [u128; 3] {
     ]
 }
 
-// Judges the k-th question at a venue.
+// Judges the k-th question, for which each link is looked at once at most.
 fn judge_question<L: Ledger>(
     rt: &impl Abort,
     alloc: Global,
-    venue: &Venue,
+    graph: &Graph,
+    profiles: &[Profile],
     k: u32,
     state: &mut u64,
     counts: &mut Counts,
     steps: &mut Steps<L>,
-) -> Result<(), Fail> {
-    let graph = venue.graph();
+) -> Result<(), Fail>
+    ensures { steps.new ≤ steps.old + length (network graph.now).links }
+{
     let which = drawn(state, 2) as usize;
-    let profiles = venue.settings().profiles.as_slice();
     let profile = profiles.get(which).expect(rt, "a profile");
     let number = number_of(rt, which);
     let closed = closed_of(state);
@@ -313,8 +313,18 @@ fn judge_venue<L: Ledger>(
 ) -> Result<(), Fail> {
     let mut state = seed;
     let venue = made_venue(alloc, &mut state)?;
+    let profiles = venue.settings().profiles.as_slice();
     for k in 0..QUESTIONS {
-        judge_question(rt, alloc, &venue, k, &mut state, counts, steps)?;
+        judge_question(
+            rt,
+            alloc,
+            venue.graph(),
+            profiles,
+            k,
+            &mut state,
+            counts,
+            steps,
+        )?;
     }
     Ok(())
 }
