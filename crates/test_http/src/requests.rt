@@ -485,8 +485,8 @@ fn check_tours(rt: &impl Abort, alloc: Global, front: &Front) -> Result<(), Allo
     check_bare(rt, alloc, front, &table)
 }
 
-/// The nearest of a category.
-fn check_nearest(rt: &impl Abort, alloc: Global, front: &Front) -> Result<(), AllocError> {
+/// Questions for the nearest of a category.
+fn check_good_nearest(rt: &impl Abort, alloc: Global, front: &Front) -> Result<(), AllocError> {
     let table = [
         (
             "GET /v1/nearest?from=00000000-0000-4000-8000-000000000051&category=restroom&profile=walk",
@@ -540,113 +540,70 @@ fn check_nearest(rt: &impl Abort, alloc: Global, front: &Front) -> Result<(), Al
     check_bare(rt, alloc, front, &table)
 }
 
-/// Questions for the nearest that are not of their form.
-fn check_bad_nearest(rt: &impl Abort, alloc: Global, front: &Front) -> Result<(), AllocError> {
-    let table = [
-        ("GET /v1/nearest", BAD_QUERY),
-        (
-            "GET /v1/nearest?from=00000000-0000-4000-8000-000000000051&profile=walk",
-            BAD_QUERY,
-        ),
-        (
-            "GET /v1/nearest?from=00000000-0000-4000-8000-000000000051&category=&profile=walk",
-            BAD_QUERY,
-        ),
-        (
-            "GET /v1/nearest?from=00000000-0000-4000-8000-000000000051&category=xxxxxxxxxxxxxxxxxxxxxxxxxxxxxxxxxxxxxxxxxxxxxxxxxxxxxxxxxxxxxxxxx&profile=walk",
-            BAD_QUERY,
-        ),
-        (
-            "GET /v1/nearest?from=00000000-0000-4000-8000-000000000051&category=%78%78%78%78%78%78%78%78%78%78%78%78%78%78%78%78%78%78%78%78%78%78%78%78%78%78%78%78%78%78%78%78%78%78%78%78%78%78%78%78%78%78%78%78%78%78%78%78%78%78%78%78%78%78%78%78%78%78%78%78%78%78%78%78%78&profile=walk",
-            BAD_QUERY,
-        ),
-        (
-            "GET /v1/nearest?from=00000000-0000-4000-8000-000000000051&category=%C3%A4%C3%A4%C3%A4%C3%A4%C3%A4%C3%A4%C3%A4%C3%A4%C3%A4%C3%A4%C3%A4%C3%A4%C3%A4%C3%A4%C3%A4%C3%A4%C3%A4%C3%A4%C3%A4%C3%A4%C3%A4%C3%A4%C3%A4%C3%A4%C3%A4%C3%A4%C3%A4%C3%A4%C3%A4%C3%A4%C3%A4%C3%A4%C3%A4&profile=walk",
-            BAD_QUERY,
-        ),
-        (
-            "GET /v1/nearest?from=00000000-0000-4000-8000-000000000051&category=restroom&category=restroom&profile=walk",
-            BAD_QUERY,
-        ),
-        (
-            "GET /v1/nearest?from=00000000-0000-4000-8000-000000000051&Category=restroom&profile=walk",
-            BAD_QUERY,
-        ),
-        ("GET /v1/nearest?category=restroom&profile=walk", BAD_QUERY),
-        (
-            "GET /v1/nearest?from=x&category=restroom&profile=walk",
-            BAD_QUERY,
-        ),
-        (
-            "GET /v1/nearest?from=&category=restroom&profile=walk",
-            BAD_QUERY,
-        ),
-        (
-            "GET /v1/nearest?from=00000000-0000-4000-8000-000000000051&from=00000000-0000-4000-8000-000000000051&category=restroom&profile=walk",
-            BAD_QUERY,
-        ),
-        (
-            "GET /v1/nearest?from=00000000-0000-4000-8000-000000000051&category=restroom",
-            BAD_QUERY,
-        ),
-        (
-            "GET /v1/nearest?from=00000000-0000-4000-8000-000000000051&category=restroom&profile=walk&profile=walk",
-            BAD_QUERY,
-        ),
-        (
-            "GET /v1/nearest?from=00000000-0000-4000-8000-000000000051&category=restroom&profile=walk&certificate=",
-            BAD_QUERY,
-        ),
-        (
-            "GET /v1/nearest?from=00000000-0000-4000-8000-000000000051&category=restroom&profile=walk&certificate=1",
-            BAD_QUERY,
-        ),
-        (
-            "GET /v1/nearest?from=00000000-0000-4000-8000-000000000051&category=restroom&profile=walk&certificate=Yes",
-            BAD_QUERY,
-        ),
-        (
-            "GET /v1/nearest?from=00000000-0000-4000-8000-000000000051&category=restroom&profile=walk&certificate=no&certificate=no",
-            BAD_QUERY,
-        ),
-        (
-            "GET /v1/nearest?from=00000000-0000-4000-8000-000000000051&category=restroom&profile=walk&since=x",
-            BAD_QUERY,
-        ),
-        (
-            "GET /v1/nearest?from=00000000-0000-4000-8000-000000000051&category=restroom&profile=walk&since=01",
-            BAD_QUERY,
-        ),
-    ];
-    check_bare(rt, alloc, front, &table)
-}
+/// What isn't of the form of such a question.
+const BAD_NEAREST: [&str; 20] = [
+    "GET /v1/nearest",
+    "GET /v1/nearest?from=00000000-0000-4000-8000-000000000051&profile=walk",
+    "GET /v1/nearest?from=00000000-0000-4000-8000-000000000051&category=&profile=walk",
+    "GET /v1/nearest?from=00000000-0000-4000-8000-000000000051&category=xxxxxxxxxxxxxxxxxxxxxxxxxxxxxxxxxxxxxxxxxxxxxxxxxxxxxxxxxxxxxxxxx&profile=walk",
+    "GET /v1/nearest?from=00000000-0000-4000-8000-000000000051&category=%78%78%78%78%78%78%78%78%78%78%78%78%78%78%78%78%78%78%78%78%78%78%78%78%78%78%78%78%78%78%78%78%78%78%78%78%78%78%78%78%78%78%78%78%78%78%78%78%78%78%78%78%78%78%78%78%78%78%78%78%78%78%78%78%78&profile=walk",
+    "GET /v1/nearest?from=00000000-0000-4000-8000-000000000051&category=%C3%A4%C3%A4%C3%A4%C3%A4%C3%A4%C3%A4%C3%A4%C3%A4%C3%A4%C3%A4%C3%A4%C3%A4%C3%A4%C3%A4%C3%A4%C3%A4%C3%A4%C3%A4%C3%A4%C3%A4%C3%A4%C3%A4%C3%A4%C3%A4%C3%A4%C3%A4%C3%A4%C3%A4%C3%A4%C3%A4%C3%A4%C3%A4%C3%A4&profile=walk",
+    "GET /v1/nearest?from=00000000-0000-4000-8000-000000000051&category=restroom&category=restroom&profile=walk",
+    "GET /v1/nearest?from=00000000-0000-4000-8000-000000000051&Category=restroom&profile=walk",
+    "GET /v1/nearest?category=restroom&profile=walk",
+    "GET /v1/nearest?from=x&category=restroom&profile=walk",
+    "GET /v1/nearest?from=&category=restroom&profile=walk",
+    "GET /v1/nearest?from=00000000-0000-4000-8000-000000000051&from=00000000-0000-4000-8000-000000000051&category=restroom&profile=walk",
+    "GET /v1/nearest?from=00000000-0000-4000-8000-000000000051&category=restroom",
+    "GET /v1/nearest?from=00000000-0000-4000-8000-000000000051&category=restroom&profile=walk&profile=walk",
+    "GET /v1/nearest?from=00000000-0000-4000-8000-000000000051&category=restroom&profile=walk&certificate=",
+    "GET /v1/nearest?from=00000000-0000-4000-8000-000000000051&category=restroom&profile=walk&certificate=1",
+    "GET /v1/nearest?from=00000000-0000-4000-8000-000000000051&category=restroom&profile=walk&certificate=Yes",
+    "GET /v1/nearest?from=00000000-0000-4000-8000-000000000051&category=restroom&profile=walk&certificate=no&certificate=no",
+    "GET /v1/nearest?from=00000000-0000-4000-8000-000000000051&category=restroom&profile=walk&since=x",
+    "GET /v1/nearest?from=00000000-0000-4000-8000-000000000051&category=restroom&profile=walk&since=01",
+];
 
 /// Limits that are no numbers from 1 to 10, or not of their form.
-fn check_bad_limits(rt: &impl Abort, alloc: Global, front: &Front) -> Result<(), AllocError> {
-    let table = [
-        "GET /v1/nearest?from=00000000-0000-4000-8000-000000000051&category=restroom&profile=walk&limit=",
-        "GET /v1/nearest?from=00000000-0000-4000-8000-000000000051&category=restroom&profile=walk&limit=0",
-        "GET /v1/nearest?from=00000000-0000-4000-8000-000000000051&category=restroom&profile=walk&limit=00",
-        "GET /v1/nearest?from=00000000-0000-4000-8000-000000000051&category=restroom&profile=walk&limit=01",
-        "GET /v1/nearest?from=00000000-0000-4000-8000-000000000051&category=restroom&profile=walk&limit=010",
-        "GET /v1/nearest?from=00000000-0000-4000-8000-000000000051&category=restroom&profile=walk&limit=11",
-        "GET /v1/nearest?from=00000000-0000-4000-8000-000000000051&category=restroom&profile=walk&limit=12",
-        "GET /v1/nearest?from=00000000-0000-4000-8000-000000000051&category=restroom&profile=walk&limit=+1",
-        "GET /v1/nearest?from=00000000-0000-4000-8000-000000000051&category=restroom&profile=walk&limit=%2B1",
-        "GET /v1/nearest?from=00000000-0000-4000-8000-000000000051&category=restroom&profile=walk&limit=-1",
-        "GET /v1/nearest?from=00000000-0000-4000-8000-000000000051&category=restroom&profile=walk&limit=1.0",
-        "GET /v1/nearest?from=00000000-0000-4000-8000-000000000051&category=restroom&profile=walk&limit=1+",
-        "GET /v1/nearest?from=00000000-0000-4000-8000-000000000051&category=restroom&profile=walk&limit=x",
-        "GET /v1/nearest?from=00000000-0000-4000-8000-000000000051&category=restroom&profile=walk&limit=257",
-        "GET /v1/nearest?from=00000000-0000-4000-8000-000000000051&category=restroom&profile=walk&limit=266",
-        "GET /v1/nearest?from=00000000-0000-4000-8000-000000000051&category=restroom&profile=walk&limit=4294967297",
-        "GET /v1/nearest?from=00000000-0000-4000-8000-000000000051&category=restroom&profile=walk&limit=1&limit=1",
-    ];
-    for line in &table {
+const BAD_LIMITS: [&str; 17] = [
+    "GET /v1/nearest?from=00000000-0000-4000-8000-000000000051&category=restroom&profile=walk&limit=",
+    "GET /v1/nearest?from=00000000-0000-4000-8000-000000000051&category=restroom&profile=walk&limit=0",
+    "GET /v1/nearest?from=00000000-0000-4000-8000-000000000051&category=restroom&profile=walk&limit=00",
+    "GET /v1/nearest?from=00000000-0000-4000-8000-000000000051&category=restroom&profile=walk&limit=01",
+    "GET /v1/nearest?from=00000000-0000-4000-8000-000000000051&category=restroom&profile=walk&limit=010",
+    "GET /v1/nearest?from=00000000-0000-4000-8000-000000000051&category=restroom&profile=walk&limit=11",
+    "GET /v1/nearest?from=00000000-0000-4000-8000-000000000051&category=restroom&profile=walk&limit=12",
+    "GET /v1/nearest?from=00000000-0000-4000-8000-000000000051&category=restroom&profile=walk&limit=+1",
+    "GET /v1/nearest?from=00000000-0000-4000-8000-000000000051&category=restroom&profile=walk&limit=%2B1",
+    "GET /v1/nearest?from=00000000-0000-4000-8000-000000000051&category=restroom&profile=walk&limit=-1",
+    "GET /v1/nearest?from=00000000-0000-4000-8000-000000000051&category=restroom&profile=walk&limit=1.0",
+    "GET /v1/nearest?from=00000000-0000-4000-8000-000000000051&category=restroom&profile=walk&limit=1+",
+    "GET /v1/nearest?from=00000000-0000-4000-8000-000000000051&category=restroom&profile=walk&limit=x",
+    "GET /v1/nearest?from=00000000-0000-4000-8000-000000000051&category=restroom&profile=walk&limit=257",
+    "GET /v1/nearest?from=00000000-0000-4000-8000-000000000051&category=restroom&profile=walk&limit=266",
+    "GET /v1/nearest?from=00000000-0000-4000-8000-000000000051&category=restroom&profile=walk&limit=4294967297",
+    "GET /v1/nearest?from=00000000-0000-4000-8000-000000000051&category=restroom&profile=walk&limit=1&limit=1",
+];
+
+/// Each of these is refused as a query.
+fn check_bad(
+    rt: &impl Abort,
+    alloc: Global,
+    front: &Front,
+    lines: &[&str],
+) -> Result<(), AllocError> {
+    for line in lines {
         let bytes = request(alloc, line, "", b"")?;
         check(rt, alloc, front, &bytes, BAD_QUERY)?;
     }
     Ok(())
+}
+
+/// The nearest of a category.
+fn check_nearest(rt: &impl Abort, alloc: Global, front: &Front) -> Result<(), AllocError> {
+    check_good_nearest(rt, alloc, front)?;
+    check_bad(rt, alloc, front, &BAD_NEAREST)?;
+    check_bad(rt, alloc, front, &BAD_LIMITS)
 }
 
 /// Staff keys.
@@ -817,8 +774,6 @@ fn requests(rt: HostRuntime) -> Result<(), Fail> {
     check_routes(&rt, alloc, &front)?;
     check_tours(&rt, alloc, &front)?;
     check_nearest(&rt, alloc, &front)?;
-    check_bad_nearest(&rt, alloc, &front)?;
-    check_bad_limits(&rt, alloc, &front)?;
     check_staff(&rt, alloc, &front)?;
     check_bodies(&rt, alloc, &front)?;
     check_profiles(&rt, alloc, &front)?;

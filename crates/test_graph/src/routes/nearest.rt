@@ -19,7 +19,7 @@ use walk_laws::Steps;
 /// A cost above all.
 const FREE: u64 = u64::MAX;
 
-const VENUES: u64 = 200;
+const VENUES: u32 = 200;
 
 /// What each venue is asked.
 const QUESTIONS: u32 = 6;
@@ -338,9 +338,9 @@ fn judge_venues<L: Ledger>(rt: &impl Abort, alloc: Global, blank: Blank) -> Resu
     let mut steps = Steps::<L>::begin(blank);
     let mut counts = Counts { short: 0, tied: 0 };
     for seed in 0..VENUES {
-        judge_venue(rt, alloc, seed, &mut counts, &mut steps)?;
+        judge_venue(rt, alloc, u64::from(seed), &mut counts, &mut steps)?;
     }
-    assert!(rt; 0 < counts.short && counts.short < 1_200 && 0 < counts.tied);
+    assert!(rt; 0 < counts.short && counts.short < VENUES * QUESTIONS && 0 < counts.tied);
     Ok(())
 }
 
