@@ -5,6 +5,7 @@ mod graph_rows;
 mod graphs;
 mod made_reaches;
 mod made_venues;
+mod nearest;
 mod reach_rows;
 mod reaches;
 mod search_rows;

@@ -9,6 +9,8 @@ mod copies;
 #[cfg(test)]
 mod histories;
 #[cfg(test)]
+mod nearest;
+#[cfg(test)]
 mod one_thread;
 #[cfg(test)]
 mod profiles;

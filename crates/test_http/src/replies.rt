@@ -5,7 +5,8 @@ use std::process::Abort;
 use std::test::Fail;
 use venue_types::{
     Class, ClosedRow, ClosureDone, ClosuresTold, FeatureId, Finding, Kind, Label, Leg, List, Mark,
-    NoTourTold, PlaceRow, PlaceTold, Reply, Report, StepRow, Text, TourTold, Which,
+    NearRow, NearTold, NoTourTold, PlaceRow, PlaceTold, Reply, Report, StepRow, Text, TourTold,
+    Which,
 };
 use wire_frames::{Methods, Refusal};
 use wire_replies::{bare_bytes, refusal_bytes, reply_bytes, want_of_memory};
@@ -141,6 +142,64 @@ fn no_tour(alloc: Global) -> Result<Reply, AllocError> {
         to: id(0x52),
         profile,
         stops,
+    }))
+}
+
+fn near_row(last: u16, cost: u64, steps: Vec<StepRow>) -> NearRow {
+    let id = id(last);
+    let steps = List::from_vec(steps);
+    NearRow { id, cost, steps }
+}
+
+// The nearest restroom for a wheelchair.
+fn restroom(alloc: Global) -> Result<Vec<NearRow>, AllocError> {
+    let steps = vec![in alloc;
+        step(633, Kind::Floor, 0x105, 0x305),
+        step(1803, Kind::Floor, 0x31, 0x300),
+    ]?;
+    Ok(vec![in alloc; near_row(0x31, 2436, steps)]?)
+}
+
+// Restrooms for a wheelchair, as they are told.
+fn nearest(
+    alloc: Global,
+    number: u32,
+    places: Vec<NearRow>,
+    potentials: Option<List<Mark>>,
+    reached: Option<List<FeatureId>>,
+) -> Result<Reply, AllocError> {
+    let category = text(alloc, "restroom")?;
+    let profile = text(alloc, "wheelchair")?;
+    let places = List::from_vec(places);
+    Ok(Reply::Nearest(NearTold {
+        number,
+        from: id(0x51),
+        start: id(0x41),
+        category,
+        profile,
+        places,
+        potentials,
+        reached,
+    }))
+}
+
+// Two amenities, one of them at the start, of a category with what is escaped.
+fn nearest_of_two(alloc: Global) -> Result<Reply, AllocError> {
+    let category = text(alloc, "a\"\\\n\u{e4}")?;
+    let profile = text(alloc, "walk")?;
+    let places = List::from_vec(vec![in alloc;
+        near_row(0x31, 0, Vec::new(alloc)),
+        near_row(0x32, 4_398_046_511_103, Vec::new(alloc)),
+    ]?);
+    Ok(Reply::Nearest(NearTold {
+        number: u32::MAX,
+        from: id(0x31),
+        start: id(0x31),
+        category,
+        profile,
+        places,
+        potentials: Some(List::new(alloc)),
+        reached: None,
     }))
 }
 
@@ -292,6 +351,60 @@ fn sees_tours(rt: &impl Abort, alloc: Global) -> Result<(), AllocError> {
     let body =
         r#"{"from":"@0051","profile":"wheelchair","result":"none","stops":["@0109","@0031"],"to":"@0052","version":2}"#;
     reads(rt, alloc, no_tour(alloc)?, 230, body)
+}
+
+fn restroom_marks(alloc: Global) -> Result<Option<List<Mark>>, AllocError> {
+    let marks = vec![in alloc; mark(0x41, 0), mark(0x105, 633), mark(0x305, 224)]?;
+    Ok(Some(List::from_vec(marks)))
+}
+
+fn reached(alloc: Global, first: u16, second: u16) -> Result<Option<List<FeatureId>>, AllocError> {
+    let nodes = vec![in alloc; id(first), id(second)]?;
+    Ok(Some(List::from_vec(nodes)))
+}
+
+fn sees_the_nearest(rt: &impl Abort, alloc: Global) -> Result<(), AllocError> {
+    let body =
+        r#"{"category":"restroom","from":"@0051","places":[{"amenity":"@0031","cost":2436,"steps":[{"cost":633,"kind":"floor","to":"@0105","via":"@0305"},{"cost":1803,"kind":"floor","to":"@0031","via":"@0300"}]}],"profile":"wheelchair","start":"@0041","version":1}"#;
+    let reply = nearest(alloc, 1, restroom(alloc)?, None, None)?;
+    reads(rt, alloc, reply, 470, body)?;
+    let body =
+        r#"{"category":"restroom","from":"@0051","places":[{"amenity":"@0031","cost":2436,"steps":[{"cost":633,"kind":"floor","to":"@0105","via":"@0305"},{"cost":1803,"kind":"floor","to":"@0031","via":"@0300"}]}],"potentials":[{"node":"@0041","value":0},{"node":"@0105","value":633},{"node":"@0305","value":224}],"profile":"wheelchair","start":"@0041","version":1}"#;
+    let reply = nearest(alloc, 1, restroom(alloc)?, restroom_marks(alloc)?, None)?;
+    reads(rt, alloc, reply, 663, body)?;
+    let body =
+        r#"{"category":"a\"\\\nä","from":"@0031","places":[{"amenity":"@0031","cost":0,"steps":[]},{"amenity":"@0032","cost":4398046511103,"steps":[]}],"potentials":[],"profile":"walk","start":"@0031","version":4294967295}"#;
+    reads(rt, alloc, nearest_of_two(alloc)?, 336, body)
+}
+
+// Fewer than were asked for.
+fn sees_what_is_reached(rt: &impl Abort, alloc: Global) -> Result<(), AllocError> {
+    let body =
+        r#"{"category":"restroom","from":"@0051","places":[{"amenity":"@0031","cost":2436,"steps":[{"cost":633,"kind":"floor","to":"@0105","via":"@0305"},{"cost":1803,"kind":"floor","to":"@0031","via":"@0300"}]}],"potentials":[{"node":"@0041","value":0},{"node":"@0105","value":633},{"node":"@0305","value":224}],"profile":"wheelchair","reached":["@0031","@0041"],"start":"@0041","version":1}"#;
+    let marks = restroom_marks(alloc)?;
+    let reply = nearest(
+        alloc,
+        1,
+        restroom(alloc)?,
+        marks,
+        reached(alloc, 0x31, 0x41)?,
+    )?;
+    reads(rt, alloc, reply, 753, body)?;
+    let body =
+        r#"{"category":"restroom","from":"@0051","places":[],"potentials":[],"profile":"wheelchair","reached":["@0041","@0305"],"start":"@0041","version":2}"#;
+    let none = Some(List::new(alloc));
+    let reply = nearest(
+        alloc,
+        2,
+        Vec::new(alloc),
+        none,
+        reached(alloc, 0x41, 0x305)?,
+    )?;
+    reads(rt, alloc, reply, 269, body)?;
+    let body =
+        r#"{"category":"restroom","from":"@0051","places":[],"profile":"wheelchair","start":"@0041","version":2}"#;
+    let reply = nearest(alloc, 2, Vec::new(alloc), None, None)?;
+    reads(rt, alloc, reply, 163, body)
 }
 
 fn sees_a_place(rt: &impl Abort, alloc: Global) -> Result<(), AllocError> {
@@ -563,6 +676,14 @@ fn ways_have_their_bytes(rt: HostRuntime) -> Result<(), Fail> {
     sees_walks(&rt, alloc)?;
     sees_that_none_is(&rt, alloc)?;
     sees_tours(&rt, alloc)?;
+    Ok(())
+}
+
+#[test]
+fn the_nearest_have_their_bytes(rt: HostRuntime) -> Result<(), Fail> {
+    let alloc = rt.alloc();
+    sees_the_nearest(&rt, alloc)?;
+    sees_what_is_reached(&rt, alloc)?;
     Ok(())
 }
 

@@ -3,7 +3,7 @@
 use std::alloc::{AllocError, Global};
 use std::process::Abort;
 use std::test::Fail;
-use venue_types::{Ask, Change, Closure, FeatureId, List, Query, Text, TourQuery};
+use venue_types::{Ask, Change, Closure, FeatureId, List, NearQuery, Query, Text, TourQuery};
 use venue_wire::{
     Front, Message, Taken, message_length_law, message_more_law, more_is_short_law,
     one_message_law, path_law, take,
@@ -19,6 +19,8 @@ enum What<'t> {
     Route(u128, u128, &'t str, bool),
     /// From where to where, how many stops there are, the first and the last of them, and the profile.
     Tour(u128, u128, usize, [u128; 2], &'t str),
+    /// From where, the category, the profile, how many at most, and whether with the certificate.
+    Nearest(u128, &'t str, &'t str, u8, bool),
 }
 
 /// What a front comes to, without its length.
@@ -55,6 +57,16 @@ fn tour_of(asked: &TourQuery) -> What<'_> {
     )
 }
 
+fn nearest_of(asked: &NearQuery) -> What<'_> {
+    What::Nearest(
+        asked.from().0,
+        asked.category().as_str(),
+        asked.profile().as_str(),
+        asked.limit(),
+        asked.certificate(),
+    )
+}
+
 fn what_of(ask: &Ask) -> What<'_> {
     match ask {
         Ask::Version => What::Version,
@@ -68,6 +80,7 @@ fn what_of(ask: &Ask) -> What<'_> {
             certificate,
         } => What::Route(from.0, to.0, profile.as_str(), *certificate),
         Ask::Tour(asked) => tour_of(asked),
+        Ask::Nearest(asked) => nearest_of(asked),
     }
 }
 
@@ -212,6 +225,10 @@ fn check(
     Ok(())
 }
 
+const SIXTY_FOUR: &str = "xxxxxxxxxxxxxxxxxxxxxxxxxxxxxxxxxxxxxxxxxxxxxxxxxxxxxxxxxxxxxxxx";
+
+const UMLAUTS: &str = "ääääääääääääääääääääääääääääääää";
+
 const KEY: &str = "x-staff-key: desk-key-1\r\n";
 
 const CLOSING: &[u8] = b"{\"feature\":\"00000000-0000-4000-8000-000000000301\",\"closed\":true}";
@@ -256,6 +273,13 @@ fn route(profile: &str, certificate: bool) -> Outcome<'_> {
 
 fn tour(count: usize, ends: [u128; 2], profile: &str) -> Outcome<'_> {
     Outcome::Ask(None, What::Tour(I_51, I_52, count, ends, profile))
+}
+
+fn nearest(category: &'static str, limit: u8, certificate: bool) -> Outcome<'static> {
+    Outcome::Ask(
+        None,
+        What::Nearest(I_51, category, "walk", limit, certificate),
+    )
 }
 
 fn desk(alloc: Global) -> Result<List<Text>, AllocError> {
@@ -461,6 +485,127 @@ fn check_tours(rt: &impl Abort, alloc: Global, front: &Front) -> Result<(), Allo
     check_bare(rt, alloc, front, &table)
 }
 
+/// Questions for the nearest of a category.
+fn check_good_nearest(rt: &impl Abort, alloc: Global, front: &Front) -> Result<(), AllocError> {
+    let table = [
+        (
+            "GET /v1/nearest?from=00000000-0000-4000-8000-000000000051&category=restroom&profile=walk",
+            nearest("restroom", 1, false),
+        ),
+        (
+            "GET /v1/nearest?from=00000000-0000-4000-8000-000000000051&category=restroom.wheelchair&profile=walk&limit=1",
+            nearest("restroom.wheelchair", 1, false),
+        ),
+        (
+            "GET /v1/nearest?from=00000000-0000-4000-8000-000000000051&category=Restroom&profile=walk&limit=2&certificate=yes",
+            nearest("Restroom", 2, true),
+        ),
+        (
+            "GET /v1/nearest?from=00000000-0000-4000-8000-000000000051&profile=walk&category=atm&certificate=no&limit=10",
+            nearest("atm", 10, false),
+        ),
+        (
+            "GET /v1/nearest?from=urn:uuid:00000000-0000-4000-8000-000000000051&categor%79=a+b%2Fc%26&profile=%77alk&lim%69t=%39&certificate=y%65s",
+            nearest("a b/c&", 9, true),
+        ),
+        (
+            "GET /v1/nearest?from=00000000-0000-4000-8000-000000000051&category=atm&profile=walk&to=1&to=2&stops=x&Limit=0&x=1",
+            nearest("atm", 1, false),
+        ),
+        (
+            "GET /v1/nearest?from=00000000-0000-4000-8000-000000000051&category=xxxxxxxxxxxxxxxxxxxxxxxxxxxxxxxxxxxxxxxxxxxxxxxxxxxxxxxxxxxxxxxx&profile=walk",
+            nearest(SIXTY_FOUR, 1, false),
+        ),
+        (
+            "GET /v1/nearest?from=00000000-0000-4000-8000-000000000051&category=%78%78%78%78%78%78%78%78%78%78%78%78%78%78%78%78%78%78%78%78%78%78%78%78%78%78%78%78%78%78%78%78%78%78%78%78%78%78%78%78%78%78%78%78%78%78%78%78%78%78%78%78%78%78%78%78%78%78%78%78%78%78%78%78&profile=walk",
+            nearest(SIXTY_FOUR, 1, false),
+        ),
+        (
+            "GET /v1/nearest?from=00000000-0000-4000-8000-000000000051&category=%C3%A4%C3%A4%C3%A4%C3%A4%C3%A4%C3%A4%C3%A4%C3%A4%C3%A4%C3%A4%C3%A4%C3%A4%C3%A4%C3%A4%C3%A4%C3%A4%C3%A4%C3%A4%C3%A4%C3%A4%C3%A4%C3%A4%C3%A4%C3%A4%C3%A4%C3%A4%C3%A4%C3%A4%C3%A4%C3%A4%C3%A4%C3%A4&profile=walk",
+            nearest(UMLAUTS, 1, false),
+        ),
+        (
+            "GET /v1/nearest?from=00000000-0000-4000-8000-000000000051&category=atm&profile=a+b&since=7",
+            Outcome::Ask(Some(7), What::Nearest(I_51, "atm", "a b", 1, false)),
+        ),
+        (
+            "GET /v1/nearest?from=00000000-0000-4000-8000-000000000051&category=atm&profile=",
+            Outcome::Ask(None, What::Nearest(I_51, "atm", "", 1, false)),
+        ),
+        ("POST /v1/nearest", only(Methods::Get)),
+        ("HEAD /v1/nearest", bare(Methods::Get)),
+        ("GET /v1/nearest/", NO_PATH),
+        ("GET /v1/Nearest", NO_PATH),
+    ];
+    check_bare(rt, alloc, front, &table)
+}
+
+/// What isn't of the form of such a question.
+const BAD_NEAREST: [&str; 20] = [
+    "GET /v1/nearest",
+    "GET /v1/nearest?from=00000000-0000-4000-8000-000000000051&profile=walk",
+    "GET /v1/nearest?from=00000000-0000-4000-8000-000000000051&category=&profile=walk",
+    "GET /v1/nearest?from=00000000-0000-4000-8000-000000000051&category=xxxxxxxxxxxxxxxxxxxxxxxxxxxxxxxxxxxxxxxxxxxxxxxxxxxxxxxxxxxxxxxxx&profile=walk",
+    "GET /v1/nearest?from=00000000-0000-4000-8000-000000000051&category=%78%78%78%78%78%78%78%78%78%78%78%78%78%78%78%78%78%78%78%78%78%78%78%78%78%78%78%78%78%78%78%78%78%78%78%78%78%78%78%78%78%78%78%78%78%78%78%78%78%78%78%78%78%78%78%78%78%78%78%78%78%78%78%78%78&profile=walk",
+    "GET /v1/nearest?from=00000000-0000-4000-8000-000000000051&category=%C3%A4%C3%A4%C3%A4%C3%A4%C3%A4%C3%A4%C3%A4%C3%A4%C3%A4%C3%A4%C3%A4%C3%A4%C3%A4%C3%A4%C3%A4%C3%A4%C3%A4%C3%A4%C3%A4%C3%A4%C3%A4%C3%A4%C3%A4%C3%A4%C3%A4%C3%A4%C3%A4%C3%A4%C3%A4%C3%A4%C3%A4%C3%A4%C3%A4&profile=walk",
+    "GET /v1/nearest?from=00000000-0000-4000-8000-000000000051&category=restroom&category=restroom&profile=walk",
+    "GET /v1/nearest?from=00000000-0000-4000-8000-000000000051&Category=restroom&profile=walk",
+    "GET /v1/nearest?category=restroom&profile=walk",
+    "GET /v1/nearest?from=x&category=restroom&profile=walk",
+    "GET /v1/nearest?from=&category=restroom&profile=walk",
+    "GET /v1/nearest?from=00000000-0000-4000-8000-000000000051&from=00000000-0000-4000-8000-000000000051&category=restroom&profile=walk",
+    "GET /v1/nearest?from=00000000-0000-4000-8000-000000000051&category=restroom",
+    "GET /v1/nearest?from=00000000-0000-4000-8000-000000000051&category=restroom&profile=walk&profile=walk",
+    "GET /v1/nearest?from=00000000-0000-4000-8000-000000000051&category=restroom&profile=walk&certificate=",
+    "GET /v1/nearest?from=00000000-0000-4000-8000-000000000051&category=restroom&profile=walk&certificate=1",
+    "GET /v1/nearest?from=00000000-0000-4000-8000-000000000051&category=restroom&profile=walk&certificate=Yes",
+    "GET /v1/nearest?from=00000000-0000-4000-8000-000000000051&category=restroom&profile=walk&certificate=no&certificate=no",
+    "GET /v1/nearest?from=00000000-0000-4000-8000-000000000051&category=restroom&profile=walk&since=x",
+    "GET /v1/nearest?from=00000000-0000-4000-8000-000000000051&category=restroom&profile=walk&since=01",
+];
+
+/// Limits that are no numbers from 1 to 10, or not of their form.
+const BAD_LIMITS: [&str; 17] = [
+    "GET /v1/nearest?from=00000000-0000-4000-8000-000000000051&category=restroom&profile=walk&limit=",
+    "GET /v1/nearest?from=00000000-0000-4000-8000-000000000051&category=restroom&profile=walk&limit=0",
+    "GET /v1/nearest?from=00000000-0000-4000-8000-000000000051&category=restroom&profile=walk&limit=00",
+    "GET /v1/nearest?from=00000000-0000-4000-8000-000000000051&category=restroom&profile=walk&limit=01",
+    "GET /v1/nearest?from=00000000-0000-4000-8000-000000000051&category=restroom&profile=walk&limit=010",
+    "GET /v1/nearest?from=00000000-0000-4000-8000-000000000051&category=restroom&profile=walk&limit=11",
+    "GET /v1/nearest?from=00000000-0000-4000-8000-000000000051&category=restroom&profile=walk&limit=12",
+    "GET /v1/nearest?from=00000000-0000-4000-8000-000000000051&category=restroom&profile=walk&limit=+1",
+    "GET /v1/nearest?from=00000000-0000-4000-8000-000000000051&category=restroom&profile=walk&limit=%2B1",
+    "GET /v1/nearest?from=00000000-0000-4000-8000-000000000051&category=restroom&profile=walk&limit=-1",
+    "GET /v1/nearest?from=00000000-0000-4000-8000-000000000051&category=restroom&profile=walk&limit=1.0",
+    "GET /v1/nearest?from=00000000-0000-4000-8000-000000000051&category=restroom&profile=walk&limit=1+",
+    "GET /v1/nearest?from=00000000-0000-4000-8000-000000000051&category=restroom&profile=walk&limit=x",
+    "GET /v1/nearest?from=00000000-0000-4000-8000-000000000051&category=restroom&profile=walk&limit=257",
+    "GET /v1/nearest?from=00000000-0000-4000-8000-000000000051&category=restroom&profile=walk&limit=266",
+    "GET /v1/nearest?from=00000000-0000-4000-8000-000000000051&category=restroom&profile=walk&limit=4294967297",
+    "GET /v1/nearest?from=00000000-0000-4000-8000-000000000051&category=restroom&profile=walk&limit=1&limit=1",
+];
+
+/// Each of these is refused as a query.
+fn check_bad(
+    rt: &impl Abort,
+    alloc: Global,
+    front: &Front,
+    lines: &[&str],
+) -> Result<(), AllocError> {
+    for line in lines {
+        let bytes = request(alloc, line, "", b"")?;
+        check(rt, alloc, front, &bytes, BAD_QUERY)?;
+    }
+    Ok(())
+}
+
+/// The nearest of a category.
+fn check_nearest(rt: &impl Abort, alloc: Global, front: &Front) -> Result<(), AllocError> {
+    check_good_nearest(rt, alloc, front)?;
+    check_bad(rt, alloc, front, &BAD_NEAREST)?;
+    check_bad(rt, alloc, front, &BAD_LIMITS)
+}
+
 /// Staff keys.
 fn check_staff(rt: &impl Abort, alloc: Global, front: &Front) -> Result<(), AllocError> {
     let table = [
@@ -628,6 +773,7 @@ fn requests(rt: HostRuntime) -> Result<(), Fail> {
     check_queries(&rt, alloc, &front)?;
     check_routes(&rt, alloc, &front)?;
     check_tours(&rt, alloc, &front)?;
+    check_nearest(&rt, alloc, &front)?;
     check_staff(&rt, alloc, &front)?;
     check_bodies(&rt, alloc, &front)?;
     check_profiles(&rt, alloc, &front)?;
