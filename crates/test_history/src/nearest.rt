@@ -33,14 +33,14 @@ enum Told {
 }
 
 #[derive(Clone, Copy)]
-struct Row<'a> {
+struct Row {
     from: u128,
     category: &'static str,
     profile: &'static str,
     limit: u8,
     since: Option<u32>,
     told: Told,
-    places: &'a [Place],
+    places: &'static [Place],
     // Amenities of the category that are not told though they can be reached.
     beyond: &'static [u128],
     // How many nodes can be reached, where that is told, and the first of them.
@@ -49,7 +49,7 @@ struct Row<'a> {
 }
 
 // For a wheelchair from the bakery.
-const fn near<'a>(category: &'static str, places: &'a [Place]) -> Row<'a> {
+const fn near(category: &'static str, places: &'static [Place]) -> Row {
     Row {
         from: 0x0051,
         category,
@@ -65,7 +65,7 @@ const fn near<'a>(category: &'static str, places: &'a [Place]) -> Row<'a> {
 }
 
 // No question for a restroom, which is told this.
-const fn refused(told: Told) -> Row<'static> {
+const fn refused(told: Told) -> Row {
     Row {
         told,
         ..near("restroom", &[])
@@ -138,6 +138,25 @@ const BESIDE_ANOTHER: Place = (
         (0x0032, 0x0306, 0, Kind::Floor),
     ],
 );
+
+// What is told of the rows below.
+static ONE: [Place; 1] = [RESTROOM];
+
+static DOWN: [Place; 1] = [BY_THE_LIFT];
+
+static AT_THE_START: [Place; 1] = [HERE];
+
+static TWO_OF_THREE: [Place; 2] = [(0x0032, 2_870, &[]), (0x0033, 2_870, &[])];
+
+static FIRST_OF_TWO: [Place; 1] = [BESIDE_ANOTHER];
+
+static ALL: [Place; 3] = [CORNER, RESTROOM, UPSTAIRS];
+
+static ALL_ON_FOOT: [Place; 3] = [CORNER, RESTROOM, UPSTAIRS_ON_FOOT];
+
+static ALL_BY_THE_RAMP: [Place; 3] = [CORNER, RESTROOM, UPSTAIRS_BY_THE_RAMP];
+
+static TWO: [Place; 2] = [CORNER, RESTROOM];
 
 // What a wheelchair can reach.
 const WHEELCHAIR: [u128; 25] = [
@@ -428,22 +447,22 @@ fn the_nearest_of_the_station(rt: HostRuntime) -> Result<(), Fail> {
         &[],
         None,
         &[
-            near("restroom", &[RESTROOM]),
+            near("restroom", &ONE),
             Row {
                 from: 0x0052,
                 told: Told::Nearest(1, 0x0042),
-                ..near("restroom", &[BY_THE_LIFT])
+                ..near("restroom", &DOWN)
             },
             Row {
                 limit: 2,
                 reached: 25,
                 nodes: &WHEELCHAIR,
-                ..near("restroom", &[RESTROOM])
+                ..near("restroom", &ONE)
             },
             Row {
                 from: 0x0031,
                 told: Told::Nearest(1, 0x0031),
-                ..near("restroom", &[HERE])
+                ..near("restroom", &AT_THE_START)
             },
             Row {
                 from: 0x0031,
@@ -451,14 +470,14 @@ fn the_nearest_of_the_station(rt: HostRuntime) -> Result<(), Fail> {
                 limit: 2,
                 reached: 25,
                 nodes: &WHEELCHAIR,
-                ..near("restroom", &[HERE])
+                ..near("restroom", &AT_THE_START)
             },
             Row {
                 profile: "walk",
                 limit: 10,
                 reached: 31,
                 nodes: &WALK,
-                ..near("restroom", &[RESTROOM])
+                ..near("restroom", &ONE)
             },
         ],
     )
@@ -511,7 +530,7 @@ fn the_nearest_past_what_is_closed(rt: HostRuntime) -> Result<(), Fail> {
             Row {
                 from: 0x0031,
                 told: Told::Nearest(2, 0x0031),
-                ..near("restroom", &[HERE])
+                ..near("restroom", &AT_THE_START)
             },
             Row {
                 from: 0x0031,
@@ -519,7 +538,7 @@ fn the_nearest_past_what_is_closed(rt: HostRuntime) -> Result<(), Fail> {
                 limit: 2,
                 reached: 1,
                 nodes: &[0x0031],
-                ..near("restroom", &[HERE])
+                ..near("restroom", &AT_THE_START)
             },
         ],
     )
@@ -536,7 +555,7 @@ fn the_nearest_of_equals(rt: HostRuntime) -> Result<(), Fail> {
         &[Row {
             limit: 2,
             beyond: &[0x0034],
-            ..near("atm", &[(0x0032, 2_870, &[]), (0x0033, 2_870, &[])])
+            ..near("atm", &TWO_OF_THREE)
         }],
     )?;
     judge_rows(
@@ -546,7 +565,7 @@ fn the_nearest_of_equals(rt: HostRuntime) -> Result<(), Fail> {
         None,
         &[Row {
             beyond: &[0x0033],
-            ..near("atm", &[BESIDE_ANOTHER])
+            ..near("atm", &FIRST_OF_TWO)
         }],
     )
 }
@@ -563,18 +582,18 @@ fn the_nearest_of_several(rt: HostRuntime) -> Result<(), Fail> {
             Row {
                 limit: 10,
                 reached: 28,
-                ..near("restroom", &[CORNER, RESTROOM, UPSTAIRS])
+                ..near("restroom", &ALL)
             },
             Row {
                 profile: "walk",
                 limit: 10,
                 reached: 34,
-                ..near("restroom", &[CORNER, RESTROOM, UPSTAIRS_ON_FOOT])
+                ..near("restroom", &ALL_ON_FOOT)
             },
             Row {
                 limit: 2,
                 beyond: &[0x0034],
-                ..near("restroom", &[CORNER, RESTROOM])
+                ..near("restroom", &TWO)
             },
         ],
     )?;
@@ -587,7 +606,7 @@ fn the_nearest_of_several(rt: HostRuntime) -> Result<(), Fail> {
             told: Told::Nearest(2, 0x0041),
             limit: 10,
             reached: 27,
-            ..near("restroom", &[CORNER, RESTROOM, UPSTAIRS_BY_THE_RAMP])
+            ..near("restroom", &ALL_BY_THE_RAMP)
         }],
     )
 }
