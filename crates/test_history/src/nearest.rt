@@ -18,7 +18,7 @@ use venue_types::{
 // A step: where it leads, over what, its cost and its kind.
 type Step = (u128, u128, u32, Kind);
 
-// An amenity, what a way to it costs, and its steps; none where several ways cost so little.
+// An amenity, what a way to it costs, and its steps; where several ways cost so little, none.
 type Place = (u128, u64, &'static [Step]);
 
 // What is told, without its lists.
@@ -64,7 +64,7 @@ const fn near(category: &'static str, places: &'static [Place]) -> Row {
     }
 }
 
-// No question for a restroom, which is told this.
+// A question for a restroom that is told this instead.
 const fn refused(told: Told) -> Row {
     Row {
         told,
@@ -76,7 +76,7 @@ const DOOR: Step = (0x0105, 0x0305, 633, Kind::Floor);
 
 const RESTROOM: Place = (0x0031, 2_436, &[DOOR, (0x0031, 0x0300, 1_803, Kind::Floor)]);
 
-const BY_THE_LIFT: Place = (
+static BY_THE_LIFT: [Place; 1] = [(
     0x0031,
     7_100,
     &[
@@ -86,10 +86,10 @@ const BY_THE_LIFT: Place = (
         (0x0101, 0x0301, 200, Kind::Elevator),
         (0x0031, 0x0300, 1_700, Kind::Floor),
     ],
-);
+)];
 
 // The start itself.
-const HERE: Place = (0x0031, 0, &[]);
+static HERE: [Place; 1] = [(0x0031, 0, &[])];
 
 const CORNER: Place = (0x0032, 1_458, &[DOOR, (0x0032, 0x0300, 825, Kind::Floor)]);
 
@@ -129,7 +129,7 @@ const UPSTAIRS_BY_THE_RAMP: Place = (
 );
 
 // Across a room to one that stands in both, and from there at no cost.
-const BESIDE_ANOTHER: Place = (
+static BESIDE_ANOTHER: [Place; 1] = [(
     0x0032,
     3_133,
     &[
@@ -137,25 +137,21 @@ const BESIDE_ANOTHER: Place = (
         (0x0033, 0x0300, 2_500, Kind::Floor),
         (0x0032, 0x0306, 0, Kind::Floor),
     ],
-);
+)];
 
-// What is told of the rows below.
 static ONE: [Place; 1] = [RESTROOM];
 
-static DOWN: [Place; 1] = [BY_THE_LIFT];
-
-static AT_THE_START: [Place; 1] = [HERE];
-
+// Of three at one place the first two.
 static TWO_OF_THREE: [Place; 2] = [(0x0032, 2_870, &[]), (0x0033, 2_870, &[])];
 
-static FIRST_OF_TWO: [Place; 1] = [BESIDE_ANOTHER];
-
+// All restrooms where there are three.
 static ALL: [Place; 3] = [CORNER, RESTROOM, UPSTAIRS];
 
 static ALL_ON_FOOT: [Place; 3] = [CORNER, RESTROOM, UPSTAIRS_ON_FOOT];
 
 static ALL_BY_THE_RAMP: [Place; 3] = [CORNER, RESTROOM, UPSTAIRS_BY_THE_RAMP];
 
+// The nearer two of them.
 static TWO: [Place; 2] = [CORNER, RESTROOM];
 
 // What a wheelchair can reach.
@@ -451,7 +447,7 @@ fn the_nearest_of_the_station(rt: HostRuntime) -> Result<(), Fail> {
             Row {
                 from: 0x0052,
                 told: Told::Nearest(1, 0x0042),
-                ..near("restroom", &DOWN)
+                ..near("restroom", &BY_THE_LIFT)
             },
             Row {
                 limit: 2,
@@ -462,7 +458,7 @@ fn the_nearest_of_the_station(rt: HostRuntime) -> Result<(), Fail> {
             Row {
                 from: 0x0031,
                 told: Told::Nearest(1, 0x0031),
-                ..near("restroom", &AT_THE_START)
+                ..near("restroom", &HERE)
             },
             Row {
                 from: 0x0031,
@@ -470,7 +466,7 @@ fn the_nearest_of_the_station(rt: HostRuntime) -> Result<(), Fail> {
                 limit: 2,
                 reached: 25,
                 nodes: &WHEELCHAIR,
-                ..near("restroom", &AT_THE_START)
+                ..near("restroom", &HERE)
             },
             Row {
                 profile: "walk",
@@ -530,7 +526,7 @@ fn the_nearest_past_what_is_closed(rt: HostRuntime) -> Result<(), Fail> {
             Row {
                 from: 0x0031,
                 told: Told::Nearest(2, 0x0031),
-                ..near("restroom", &AT_THE_START)
+                ..near("restroom", &HERE)
             },
             Row {
                 from: 0x0031,
@@ -538,7 +534,7 @@ fn the_nearest_past_what_is_closed(rt: HostRuntime) -> Result<(), Fail> {
                 limit: 2,
                 reached: 1,
                 nodes: &[0x0031],
-                ..near("restroom", &AT_THE_START)
+                ..near("restroom", &HERE)
             },
         ],
     )
@@ -565,7 +561,7 @@ fn the_nearest_of_equals(rt: HostRuntime) -> Result<(), Fail> {
         None,
         &[Row {
             beyond: &[0x0033],
-            ..near("atm", &FIRST_OF_TWO)
+            ..near("atm", &BESIDE_ANOTHER)
         }],
     )
 }
