@@ -5,7 +5,7 @@
 # over the venue of `levels.py` with 50 and 200 levels and all places of the latter, while staff close a lift or publish the folder of
 # `folder.py`, with a connection a request, and beside crowds that hold connections open. The load is Debian's `wrk`, and `load.cpp`. Takes
 # eight minutes and wants four processors with nothing else to do, g++, python3, nginx and wrk; the latter two are left out where they are
-# not there. VENUE=PROGRAM measures that program.
+# not there. VENUE=PROGRAM measures that program, and BEFORE=PROGRAM another one in the same turns, for the parts version and anew.
 . "$(dirname "$0")/begin.sh"
 need g++ python3
 need_program

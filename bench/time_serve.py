@@ -3,7 +3,7 @@
 usage: time_serve.py PROGRAM BASE TOOLS (PART | WORKERS)..
 Where parts are named, among version, station, routes, places, staff, anew, memory and idle, no other is measured. BASE has venue.toml with a
 staff key, and the folders `station`, `levels50`, `levels200` and `sound`. TOOLS has the programs `load` and `blocking`, and gets the
-other files. Each load lasts a second and is repeated three times, in turns; the turn of the most requests a second is told. Times are
+other files. The program that the environment names as BEFORE is asked for the version, and with a connection a request, in the same turns. Each load lasts a second and is repeated three times, in turns; the turn of the most requests a second is told. Times are
 in microseconds: the middle, the ninetieth and the ninety-ninth of a hundred, and the longest. Processor time is that of the server for
 a request, in all its processes and threads.
 """
@@ -132,11 +132,11 @@ class Bench:
             file.write(data)
         return path
 
-    def serve(self, folder, workers):
+    def serve(self, folder, workers, name="serve", program=None):
         port = free_port()
         address = f"127.0.0.1:{port}"
-        command = [self.program, "serve", self.base, folder, address, str(workers), "1000000"]
-        return Server("serve", port, command, f"listening {address}\n".encode())
+        command = [program or self.program, "serve", self.base, folder, address, str(workers), "1000000"]
+        return Server(name, port, command, f"listening {address}\n".encode())
 
     def blocking(self, reply):
         port = free_port()
@@ -252,10 +252,12 @@ def say(text):
 
 
 def wanted_of(workers, at_once):
-    """What is wanted of the ratios to nginx, for the version."""
+    """What is wanted of the ratios to nginx and to the program of before, for the version."""
+    before = {"rate": " (wanted 0.95)"}
     if workers > 2:
-        return {"rate": " (wanted 0.6)"} if at_once == 1 else {}
-    return {"rate": " (wanted 0.8)", "ninety_ninth": " (wanted at most 1.5)"} if at_once == 1 else {"rate": " (wanted 1)"}
+        return {"nginx": {"rate": " (wanted 0.6)"} if at_once == 1 else {}, "before": before}
+    nginx = {"rate": " (wanted 0.8)", "ninety_ninth": " (wanted at most 1.5)"} if at_once == 1 else {"rate": " (wanted 1)"}
+    return {"nginx": nginx, "before": before}
 
 
 def in_turns(bench, servers, ask, wanted):
@@ -274,7 +276,7 @@ def in_turns(bench, servers, ask, wanted):
             show(f"{name}, {server.name}", best[server.name], server.memory("VmHWM"))
         for other in best:
             if other != "serve":
-                compare(f"{name}, serve / {other}", best["serve"], best[other], wanted if other == "nginx" else {})
+                compare(f"{name}, serve / {other}", best["serve"], best[other], wanted.get(other, {}))
 
 
 @contextlib.contextmanager
@@ -284,6 +286,8 @@ def all_servers(bench, folder, path, workers, anew=False):
         ours = stack.enter_context(bench.serve(folder, workers))
         body = ours.get(path)
         servers = [ours]
+        if "BEFORE" in os.environ:
+            servers.append(stack.enter_context(bench.serve(folder, workers, "before", os.environ["BEFORE"])))
         if bench.nginx_program is not None:
             servers.append(stack.enter_context(bench.nginx(workers, body)))
         if not anew:
@@ -445,7 +449,7 @@ def connections_anew(bench, workers):
     path = "/v1/version"
     with all_servers(bench, "station", path, workers, anew=True) as servers:
         say(f"version, a connection a request, {side_by_side(workers)} at once")
-        wanted = {"rate": " (wanted 0.5)"} if workers == 1 else {}
+        wanted = {"nginx": {"rate": " (wanted 0.5)"} if workers == 1 else {}, "before": {"rate": " (wanted 0.9)"}}
         in_turns(bench, servers, lambda name, server: getattr(bench, name)(server, path, workers, kind="anew"), wanted)
 
 

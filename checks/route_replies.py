@@ -4,6 +4,8 @@ examples/route_reply.py judge each reply, over the table of links and over the s
 identifier exchanged it isn't. Then 200 closures for profiles that are drawn, each with a route after it: that is `proved` for the profile asked for,
 and where the profiles of the closure's row are changed so that it matters, it `fails`; where there is node, examples/web/check.js judges the same.
 It asks for tours too, with the same closed, and compares each with the least costs that it finds itself over the table, in all orders of the stops.
+And it asks for the nearest of a category, in the station and with amenities put into it, and has examples/nearest_reply.py judge each reply as it is and
+with one number, identifier, row or member exchanged, taken away or added.
 
 usage: route_replies.py [PROGRAM]   (without PROGRAM the launcher ./venue, which builds the program if need be)
 It prints one line, and ends with status 1 at a difference.
@@ -24,7 +26,9 @@ import tempfile
 
 HERE = os.path.dirname(os.path.abspath(__file__))
 EXAMPLES = os.path.join(HERE, "..", "examples")
+sys.path.append(EXAMPLES)  # one checker takes what it shares from the other
 CHECKER = os.path.join(EXAMPLES, "route_reply.py")
+NEAREST_CHECKER = os.path.join(EXAMPLES, "nearest_reply.py")
 OCCUPANTS = os.path.join(EXAMPLES, "station", "occupant.geojson")
 NODE = "00000000-0000-4000-8000-{:012x}"
 # Places of the station, and what is closed in each session and for whom, by the last digits of their identifiers.
@@ -37,6 +41,29 @@ MOST_STOPS = 5
 EIGHT = [0x109, 0x31, 0x102, 0x104, 0x106, 0x110, 0x111, 0x108]
 KNOWN = [("wheelchair", [0x109, 0x31], 18986), ("walk", [0x109, 0x31], 17474), ("wheelchair", [0x31, 0x106], 13233), ("wheelchair", EIGHT[:3], 20237),
          ("wheelchair", EIGHT, 25245), ("walk", EIGHT, 22662), ("wheelchair", [0x31], 9536), ("wheelchair", [0x31, 0x31], 9536), ("wheelchair", [0x51], 9040)]
+# What is put behind the station's restroom in each venue that is asked for the nearest: identifier, category, metres east and north, and units. Three stand
+# in one place; two on a border, of which the first is reached by the second; one has a category that only begins as that of others; one stands in a column.
+VENUES = [[], [(0x32, "atm", 30, 30, [0x300]), (0x33, "atm", 30, 30, [0x300]), (0x34, "atm", 30, 30, [0x300])],
+          [(0x32, "atm", 45, 10, [0x306]), (0x33, "atm", 45, 10, [0x300, 0x306])],
+          [(0x32, "restroom", 12, 12, [0x300]), (0x33, "restroom.wheelchair", 88, 38, [0x300]), (0x34, "restroom", 50, 20, [0x400])],
+          [(0x32, "atm", 61, 21, [0x307])]]
+CATEGORIES = ["restroom", "restroom", "atm", "restroom.wheelchair", "Restroom"]
+# How many questions for the nearest are drawn where so much is closed, in how many ways each reply is spoiled, and what is known: the venue, what is closed,
+# the start, the category, the profile, the limit, the nearest with their costs, and how many nodes are reached where there are fewer than the limit.
+NEAREST = 2
+SPOILED = 4
+KNOWN_NEAREST = [(0, None, 0x51, "restroom", "wheelchair", 1, [(0x31, 2436)], None),
+                 (0, None, 0x52, "restroom", "wheelchair", 1, [(0x31, 7100)], None),
+                 (0, None, 0x51, "restroom", "wheelchair", 2, [(0x31, 2436)], 25), (0, 0x105, 0x51, "restroom", "wheelchair", 1, [], 2),
+                 (0, None, 0x31, "restroom", "wheelchair", 2, [(0x31, 0)], 25),
+                 (0, 0x300, 0x31, "restroom", "wheelchair", 1, [(0x31, 0)], None),
+                 (0, None, 0x51, "restroom", "walk", 10, [(0x31, 2436)], 31), (0, None, 0x51, "Restroom", "wheelchair", 1, [], 25),
+                 (1, None, 0x51, "atm", "wheelchair", 2, [(0x32, 2870), (0x33, 2870)], None),
+                 (2, None, 0x51, "atm", "wheelchair", 1, [(0x32, 3133)], None),
+                 (3, None, 0x51, "restroom", "wheelchair", 10, [(0x32, 1458), (0x31, 2436), (0x34, 10481)], 28),
+                 (3, None, 0x51, "restroom", "walk", 10, [(0x32, 1458), (0x31, 2436), (0x34, 7830)], 34),
+                 (3, 0x301, 0x51, "restroom", "wheelchair", 10, [(0x32, 1458), (0x31, 2436), (0x34, 11611)], 27),
+                 (4, None, 0x51, "atm", "wheelchair", 1, [], 25)]
 # The profiles of the settings, of which these here add the last three, and how many closures are drawn.
 MORE = {"pram": ["elevator", "ramp", "revolving"], "steps-only": ["stairs"], "night_watch": ["stairs", "elevator", "ramp", "revolving", "turnstile", "restricted"]}
 PROFILES = ["walk", "wheelchair", *MORE]
@@ -112,12 +139,12 @@ def table_of(program, base, profile):
     return subprocess.run(program + ["links", base, "station", profile], capture_output=True, text=True).stdout
 
 
-def printed(words):
-    """What route_reply.py prints for these words, run here since there are a thousand."""
+def printed(words, checker=CHECKER):
+    """What a checker prints for these words, run here since there are a thousand."""
     kept, said = sys.argv, io.StringIO()
-    sys.argv = [CHECKER] + words
+    sys.argv = [checker] + words
     with contextlib.redirect_stdout(said), contextlib.suppress(SystemExit):
-        runpy.run_path(CHECKER, run_name="__main__")
+        runpy.run_path(checker, run_name="__main__")
     sys.argv = kept
     return said.getvalue()
 
@@ -363,19 +390,131 @@ def judge_tours(program, chance):
     return judged, wrong
 
 
+def nearest(start, category, profile, limit, certificate="yes"):
+    return question(f"/v1/nearest?from={start}&category={category}&profile={profile}&limit={limit}&certificate={certificate}")
+
+
+def with_amenities(base, amenities):
+    """A base with the station and these amenities behind its own."""
+    shutil.copytree(os.path.join(EXAMPLES, "station"), os.path.join(base, "station"))
+    shutil.copy(os.path.join(EXAMPLES, "venue.toml"), base)
+    path = os.path.join(base, "station", "amenity.geojson")
+    with open(path, encoding="utf-8") as file:
+        rows = json.load(file)
+    for number, category, east, north, units in amenities:
+        place = {"type": "Point", "coordinates": [10 + east / 100_000, 50 + north / 100_000]}
+        properties = {"category": category, "unit_ids": [NODE.format(it) for it in units]}
+        rows["features"].append({"type": "Feature", "id": NODE.format(number), "feature_type": "amenity", "geometry": place, "properties": properties})
+    with open(path, "w", encoding="utf-8") as file:
+        json.dump(rows, file)
+    return base
+
+
+def leaves(value, path=()):
+    """The numbers and texts within a value, each with where it stands."""
+    if isinstance(value, (dict, list)):
+        for key, item in value.items() if isinstance(value, dict) else enumerate(value):
+            yield from leaves(item, path + (key,))
+    else:
+        yield path, value
+
+
+def exchanged(reply, path, other):
+    """The reply with something else there."""
+    reply = json.loads(json.dumps(reply))
+    within = reply
+    for key in path[:-1]:
+        within = within[key]
+    within[path[-1]] = other
+    return reply
+
+
+def spoiled_nearest(reply):
+    """The reply with each of its numbers and identifiers exchanged, and with a row, a potential or a member too few or too many. Some identifiers are exchanged
+    for one that nothing has, since another way by other doors may be as right; a potential for the last cost, below which all are."""
+    rows, spoiled = reply["places"], []
+    for path, value in leaves(reply):
+        if path[-1] in ("kind", "profile") or path == ("category",) and not rows:
+            continue
+        if path[-1] == "value":
+            other = rows[-1]["cost"]
+        elif isinstance(value, int):
+            other = value + 1
+        else:
+            other = NODE.format(0x999 if path[-1] in ("to", "via", "node") else 0x106 if value != NODE.format(0x106) else 0x108)
+        spoiled.append(exchanged(reply, path, other))
+    if rows:
+        spoiled.append(exchanged(reply, ("places",), rows[:-1]))
+        spoiled.append(exchanged(reply, ("places",), rows + rows[-1:]))
+    if len(rows) > 1:
+        spoiled.append(exchanged(reply, ("places",), rows[::-1]))
+    if len(reply.get("potentials", [])) > 1:
+        spoiled.append(exchanged(reply, ("potentials",), reply["potentials"][::-1]))
+        spoiled.append(exchanged(reply, ("potentials",), [it for it in reply["potentials"] if it["node"] != reply["start"]]))
+    if "reached" in reply:
+        spoiled.append({key: value for key, value in reply.items() if key != "reached"})
+        spoiled.append(exchanged(reply, ("reached",), reply["reached"][:-1]))
+    else:
+        spoiled.append(reply | {"reached": [reply["start"]]})
+    return spoiled
+
+
+def judge_nearest(program, folder, chance):
+    """Questions for the nearest that are drawn, in each venue with something closed, and those of which the costs are known: how many, and the differences."""
+    judged, shown, wrong = 0, 0, []
+    files = [os.path.join(folder, name) for name in ("reply.json", "links.txt", "closures.json")]
+
+    def says(reply, limit, table, closures, base):
+        for path, text in zip(files, (json.dumps(reply), table, json.dumps(closures))):
+            with open(path, "w", encoding="utf-8") as file:
+                file.write(text)
+        return printed([files[0], str(limit), *files[1:], os.path.join(base, "station", "amenity.geojson"), OCCUPANTS], NEAREST_CHECKER).strip()
+
+    for number, amenities in enumerate(VENUES):
+        base = with_amenities(os.path.join(folder, f"venue{number}"), amenities)
+        for profile in ("wheelchair", "walk"):
+            table = table_of(program, base, profile)
+            for closed in [*CLOSED, {0x105: None}, {0x300: None}]:
+                places = [*PLACES, *(it[0] for it in amenities)]
+                drawn = [(chance.choice(places), chance.choice(CATEGORIES), chance.randint(1, 4), chance.choice(["yes", "yes", "no"])) for _ in range(NEAREST)]
+                known_here = [it for it in KNOWN_NEAREST if (it[0], it[4], {it[1]: None} if it[1] else {}) == (number, profile, closed)]
+                asked = [(*it, None) for it in drawn] + [(it[2], it[3], it[5], "yes", it[6:]) for it in known_here]
+                requests = [closing(NODE.format(it), names) for it, names in closed.items()] + [question("/v1/closures")]
+                requests += [nearest(NODE.format(start), category, profile, limit, certificate) for start, category, limit, certificate, _ in asked]
+                closures, *replies = map(json.loads, bodies(program, base, requests)[len(closed):])
+                for (start, category, limit, certificate, known), reply in zip(asked, replies):
+                    judged, shown = judged + 1, shown + len(reply["places"])
+                    said = says(reply, limit, table, closures, base)
+                    told = (reply["from"], reply["category"], reply["profile"], "potentials" in reply)
+                    if said != "proved" or told != (NODE.format(start), category, profile, certificate == "yes"):
+                        wrong.append(f"limit {limit}, certificate {certificate}: {json.dumps(reply)}: {said}")
+                    found = [(row["amenity"], row["cost"]) for row in reply["places"]], len(reply["reached"]) if "reached" in reply else None
+                    if known and found != ([(NODE.format(it), cost) for it, cost in known[0]], known[1]):
+                        wrong.append(f"known are {known}, and not {found}")
+                    spoiled = spoiled_nearest(reply)
+                    for other in chance.sample(spoiled, min(SPOILED, len(spoiled))):
+                        if not says(other, limit, table, closures, base).startswith("fails "):
+                            wrong.append(f"no fault is found in {json.dumps(other)}")
+    if shown < judged // 2:
+        wrong.append(f"{judged} questions for the nearest show only {shown}")
+    return judged, wrong
+
+
 def main():
     program = [sys.argv[1]] if len(sys.argv) > 1 else [os.path.join(HERE, "..", "venue")]
     with tempfile.TemporaryDirectory() as folder:
         judged, wrong = judge_some(program, folder, random.Random(5))
         drawn, changed, has_node, more = judge_drawn(program, folder, random.Random(8))
+        near, nearer = judge_nearest(program, folder, random.Random(21))
     tours, others = judge_tours(program, random.Random(13))
-    wrong += more + others
+    wrong += more + nearer + others
     if drawn != CASES or changed < CASES // 2:
         wrong.append(f"{drawn} closures are drawn, and of {changed} the profiles matter")
     for line in wrong:
         print(line, file=sys.stderr)
     by = "by both checkers" if has_node else "by one checker, since there is no node"
-    print(f"route_replies: {judged} replies, {drawn} closures for some and {changed} with other profiles {by}, {tours} tours, {len(wrong)} differences")
+    print(f"route_replies: {judged} replies, {drawn} closures for some and {changed} with other profiles {by}, {tours} tours, {near} of the nearest, "
+          f"{len(wrong)} differences")
     return 1 if wrong else 0
 
 

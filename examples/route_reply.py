@@ -32,13 +32,14 @@ def read(path):
 
 
 def links_of(table):
-    """The nodes of a table, and its links as (from, to, cost, via)."""
+    """The nodes of a table by number, each with its own, and its links as (from, to, cost, via)."""
     lines = table.splitlines()
     need(lines[:1] == ["imdf-links 1"] and lines[-1] == "end", "table")
     nodes = [line[5:] for line in lines if re.fullmatch("node " + IDENTIFIER, line)]
     rows = [LINK.fullmatch(line) for line in lines[1 + len(nodes):-1]]
     need(all(rows), "table")
-    return set(nodes), [(nodes[int(a)], nodes[int(b)], int(cost), via) for a, b, cost, via in (row.groups() for row in rows)]
+    links = [(nodes[int(a)], nodes[int(b)], int(cost), via) for a, b, cost, via in (row.groups() for row in rows)]
+    return {node: number for number, node in enumerate(nodes)}, links
 
 
 def named_of(reply):
@@ -107,27 +108,47 @@ def closed_for(rows, profile):
     return closed
 
 
-def node_of(place, nodes, anchors):
+def open_links(links, closures, reply):
+    """The links of which neither the way nor an end is closed for the reply's profile, at its version."""
+    need(reply["version"] == closures["version"], "version")
+    closed = closed_for(closures["closures"], reply["profile"])
+    return [link for link in links if not closed & {link[0], link[1], link[3]}]
+
+
+def node_of(place, nodes, occupants):
     """The node at which a place is: its own, or that of its anchor."""
+    anchors = {occupant["id"]: occupant["properties"]["anchor_id"] for occupant in occupants}
     node = place if place in nodes else anchors.get(place)
     need(node in nodes, f"place {place}")
     return node
 
 
-def check_route(reply, links, start, end):
-    need(reply["start"] == start, "start")
-    at, total, usable = start, 0, set(links)
-    for number, step in enumerate(reply["steps"], 1):
-        need((at, step["to"], step["cost"], step["via"]) in usable, f"step {number}")
+def check_walk(steps, cost, links, start, end):
+    """The steps are such links, lead from node to node, and cost so much together."""
+    at, total = start, 0
+    for number, step in enumerate(steps, 1):
+        need((at, step["to"], step["cost"], step["via"]) in links, f"step {number}")
         at, total = step["to"], total + step["cost"]
     need(at == end, "end")
-    need(total == reply["cost"], "cost")
-    cost, potential = reply["cost"], {mark["node"]: mark["value"] for mark in reply["potentials"]}
+    need(total == cost, "cost")
+
+
+def check_potentials(reply, cost, links, start, ends):
+    """The potentials by node: 0 at the start, at each end what it costs, and no link's end above its start by more than the link costs. A node that
+    isn't listed has the potential `cost`."""
+    potential = {mark["node"]: mark["value"] for mark in reply["potentials"]}
     need(all(type(value) is int for value in potential.values()) and len(potential) == len(reply["potentials"]), "potentials")
-    need(potential.get(start, cost) == 0, f"potential {start}")
-    need(potential.get(end, cost) == cost, f"potential {end}")
+    for node, value in [(start, 0), *ends]:
+        need(potential.get(node, cost) == value, f"potential {node}")
     for a, b, length, via in links:
         need(potential.get(b, cost) <= potential.get(a, cost) + length, f"link {a} {b} {via}")
+    return potential
+
+
+def check_route(reply, links, start, end):
+    need(reply["start"] == start, "start")
+    check_walk(reply["steps"], reply["cost"], set(links), start, end)
+    check_potentials(reply, reply["cost"], links, start, [(end, reply["cost"])])
 
 
 def check_none(reply, links, start, end):
@@ -139,22 +160,17 @@ def check_none(reply, links, start, end):
 
 
 def check(reply, path, closures, occupants):
-    need(reply["version"] == closures["version"], "version")
-    closed = closed_for(closures["closures"], reply["profile"])
-    anchors = {place["id"]: place["properties"]["anchor_id"] for place in occupants}
     nodes, links = links_of_parts(path, reply) if os.path.isdir(path) else links_of(read(path))
-    links = [link for link in links if not closed & {link[0], link[1], link[3]}]
-    start, end = (node_of(reply[key], nodes, anchors) for key in ("from", "to"))
+    links = open_links(links, closures, reply)
+    start, end = (node_of(reply[key], nodes, occupants) for key in ("from", "to"))
     need(reply["result"] in ("route", "none"), "result")
     (check_route if reply["result"] == "route" else check_none)(reply, links, start, end)
 
 
-def main(words):
-    if len(words) not in (3, 4):
-        return "fails words"
+def verdict(judge):
+    """What is printed of what `judge` finds."""
     try:
-        occupants = json.loads(read(words[3]))["features"] if len(words) == 4 else []
-        check(json.loads(read(words[0])), words[1], json.loads(read(words[2])), occupants)
+        judge()
     except Fails as fails:
         return f"fails {fails}"
     except (OSError, ValueError, KeyError, TypeError, IndexError, AttributeError) as error:
@@ -162,6 +178,18 @@ def main(words):
     return "proved"
 
 
-printed = main(sys.argv[1:])
-print(printed)
-sys.exit(0 if printed == "proved" else 1)
+def features_of(words):
+    """The features of the file that these words name, or none."""
+    return json.loads(read(words[0]))["features"] if words else []
+
+
+def main(words):
+    if len(words) not in (3, 4):
+        return "fails words"
+    return verdict(lambda: check(json.loads(read(words[0])), words[1], json.loads(read(words[2])), features_of(words[3:])))
+
+
+if __name__ == "__main__":
+    printed = main(sys.argv[1:])
+    print(printed)
+    sys.exit(0 if printed == "proved" else 1)

@@ -13,7 +13,7 @@ use crate::ways::across_link;
 use venue_types::{Kind, Link};
 
 /// A unit that one may walk across.
-#[derive(Clone, Copy, Debug, PartialEq, Eq)]
+#[derive(Clone, Copy, PartialEq, Eq)]
 pub struct Area {
     /// Its number among what can be closed.
     pub via: u32,

@@ -5,6 +5,7 @@ mod areas;
 mod calls;
 mod crossings;
 mod doors;
+mod families;
 mod faults;
 mod from_features;
 mod graph;
@@ -25,6 +26,7 @@ mod way_starts;
 mod ways;
 
 pub use areas::Area;
+pub use families::{NodePotentials, PassableLinks};
 pub use faults::GraphFault;
 pub use graph::Graph;
 pub use laws::{detour_law, inside_law, length_between_law, range_law, whole_law};

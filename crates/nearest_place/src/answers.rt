@@ -11,9 +11,9 @@ ghost use Rattle.nearest_place.specs.Entries.{HasTargets};
 ghost use Rattle.nearest_place.specs.Near.{IsNear, IsSmallNear};
 
 use crate::entries::first_entries;
-use crate::families::{NodePotentials, PassableLinks};
 use crate::near::{Near, NearWalk};
 use crate::rows::{last_of, rows_of};
+use link_graph::{NodePotentials, PassableLinks};
 use route_search::Reach;
 use std::alloc::Global;
 use venue_types::{List, OutOfMemory};

@@ -3,7 +3,6 @@
 
 mod answers;
 mod entries;
-mod families;
 mod flags;
 mod near;
 mod rows;

@@ -30,7 +30,7 @@ pub struct AnswerIn {
 }
 
 /// A clause that an answer does not keep.
-#[derive(Clone, Copy, Debug, PartialEq, Eq)]
+#[derive(Clone, Copy, PartialEq, Eq)]
 pub enum FailedClause {
     /// This step, from 1, is no link of the table or does not start where the walk stands.
     Step(u64),
@@ -47,7 +47,7 @@ pub enum FailedClause {
 }
 
 /// Whether an answer proves its claim.
-#[derive(Clone, Copy, Debug, PartialEq, Eq)]
+#[derive(Clone, Copy, PartialEq, Eq)]
 pub enum Verdict {
     Proved,
     /// The first clause that it does not keep.

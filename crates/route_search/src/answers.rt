@@ -7,9 +7,9 @@ ghost use Rattle.link_graph.specs.Networks.{Network, IsPassable};
 ghost use Rattle.route_search.specs.Answers.{IsAnswer, IsSmall};
 ghost use Rattle.route_search.specs.Reaches.{IsReachOver, IsSmallReach, bound_of, cost_of};
 
-use crate::families::{PassableLinks, RoutePotentials};
 use crate::found::Found;
 use crate::reached::Reach;
+use link_graph::{NodePotentials, PassableLinks};
 use std::alloc::Global;
 use venue_types::OutOfMemory;
 use walk_laws::{below_law, reach_law};
@@ -21,7 +21,7 @@ pub(crate) fn route(alloc: Global, reach: &Reach, to: u32, cost: u64) -> Result<
         → IsReachOver (IsPassable network closed profile) from reach.now → IsAnswer (IsPassable network closed profile) from to found) }
     ensures small { IfOk result (λ found. (nodes : ℕ) → IsSmallReach nodes reach.now → IsSmall nodes found) }
 {
-    below_law::<PassableLinks, RoutePotentials>();
+    below_law::<PassableLinks, NodePotentials>();
     let walk = reach.walk(alloc, to)?;
     let potentials = reach.costs_below(alloc, cost)?;
     Ok(Found::Route {

@@ -3,7 +3,6 @@
 
 mod answers;
 mod ends;
-mod families;
 mod found;
 mod frontier;
 mod growth;

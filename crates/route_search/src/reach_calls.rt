@@ -1,10 +1,10 @@
 //! What a search knows, asked for.
 
-use crate::families::PassableLinks;
 use crate::handed::hand_out;
 use crate::labels::NO_COST;
 use crate::reached::Reach;
 use crate::trails::{nodes_below, potentials_below, walk_back};
+use link_graph::PassableLinks;
 use std::alloc::Global;
 use venue_types::{Link, List, OutOfMemory, Potential};
 use walk_laws::reach_law;

@@ -18,18 +18,13 @@ use std::alloc::Global;
 use std::marker::Brand;
 use std::sync::ledger::{Blank, Ledger};
 use venue_types::{
-    FeatureId, List, Mark, NearQuery, NearRow, NearTold, OutOfMemory, Potential, Reply, Text,
-    Which,
+    FeatureId, List, Mark, NearQuery, NearRow, NearTold, OutOfMemory, Potential, Reply, Text, Which,
 };
 use walk_laws::Steps;
 
 impl Board {
     /// Answers a question for the nearest.
-    pub(crate) fn nearest(
-        &self,
-        alloc: Global,
-        asked: &NearQuery,
-    ) -> Result<Reply, OutOfMemory>
+    pub(crate) fn nearest(&self, alloc: Global, asked: &NearQuery) -> Result<Reply, OutOfMemory>
         ensures { IfOk result (AnswersAsk self.now (ask.Nearest asked.now)) }
     {
         match self.profile(asked.profile()) {
@@ -75,7 +70,14 @@ impl Board {
     {
         let _ = self.graph().nodes();
         let mut found = List::new(alloc);
-        for (n, row) in self.venue().features().amenities.as_slice().iter().enumerate() {
+        for (n, row) in self
+            .venue()
+            .features()
+            .amenities
+            .as_slice()
+            .iter()
+            .enumerate()
+        {
             if row.category.as_str() == category.as_str() {
                 found.push(n as u32)?;
             }

@@ -173,12 +173,9 @@ fn change_in(alloc: Global, path: Path, value: &Value) -> Result<Option<Change>,
     match path {
         Path::Closures => closure_in(alloc, value),
         Path::Publish => publish_in(alloc, value),
-        Path::Version
-        | Path::Places
-        | Path::Place
-        | Path::Route
-        | Path::Tour
-        | Path::Nearest => Ok(None),
+        Path::Version | Path::Places | Path::Place | Path::Route | Path::Tour | Path::Nearest => Ok(
+            None,
+        ),
     }
 }
 

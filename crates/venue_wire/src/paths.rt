@@ -31,12 +31,8 @@ pub(crate) fn methods_of(path: Path) -> Methods
     ensures { result ≡ methods_of path }
 {
     match path {
-        Path::Version
-        | Path::Places
-        | Path::Place
-        | Path::Route
-        | Path::Tour
-        | Path::Nearest => Methods::Get,
+        Path::Version | Path::Places | Path::Place | Path::Route | Path::Tour | Path::Nearest =>
+            Methods::Get,
         Path::Closures => Methods::Both,
         Path::Publish => Methods::Post,
     }

@@ -184,13 +184,7 @@ fn nearest_asked(alloc: Global, query: &[u8]) -> Result<Option<Ask>, OutOfMemory
     let Some(certificate) = certificate_of(alloc, query)? else {
         return Ok(None);
     };
-    Ok(Some(Ask::Nearest(NearQuery::new(
-        from,
-        category,
-        profile,
-        limit,
-        certificate,
-    ))))
+    Ok(Some(Ask::Nearest(NearQuery::new(from, category, profile, limit, certificate))))
 }
 
 // The identifier in the text of a place's path.

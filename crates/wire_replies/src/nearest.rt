@@ -4,10 +4,24 @@ ghost use Rattle.std.specs.Prelude.{OnOk};
 ghost use Rattle.wire_replies.specs.Bodies.{nearest_data};
 ghost use Rattle.wire_replies.specs.Tokens.{Adds, data_tokens};
 
-use crate::written::{begin, end, member, member_where_there};
+use crate::written::{Written, begin, end, member, member_where_there};
 use json::Writer;
 use std::alloc::{AllocError, Global};
-use venue_types::NearTold;
+use venue_types::{NearRow, NearTold};
+
+impl Written for NearRow {
+    ghost use Rattle.wire_replies.specs.Bodies.{near_row_data};
+
+    ghost shown = { near_row_data };
+
+    fn write_to(&self, alloc: Global, out: &mut Writer) -> Result<(), AllocError> {
+        begin(out)?;
+        member(alloc, out, "amenity", &self.id)?;
+        member(alloc, out, "cost", &self.cost)?;
+        member(alloc, out, "steps", &self.steps)?;
+        end(out)
+    }
+}
 
 pub(crate) fn write_nearest(
     alloc: Global,

@@ -1,4 +1,4 @@
-//! The rows of lists: steps, potentials, legs, the nearest, closed features, places and findings.
+//! The rows of lists: steps, potentials, legs, closed features, places and findings.
 
 ghost use Rattle.std.specs.Prelude.{OnOk};
 ghost use Rattle.wire_replies.specs.Bodies.{closed_for_data};
@@ -9,9 +9,7 @@ use crate::words::{FileNumber, RuleNumber};
 use crate::written::{Written, begin, end, member};
 use json::Writer;
 use std::alloc::{AllocError, Global};
-use venue_types::{
-    ClosedRow, FeatureId, Finding, Leg, List, Mark, NearRow, PlaceRow, StepRow, Text,
-};
+use venue_types::{ClosedRow, FeatureId, Finding, Leg, List, Mark, PlaceRow, StepRow, Text};
 
 impl Written for StepRow {
     ghost use Rattle.wire_replies.specs.Bodies.{step_data};
@@ -48,20 +46,6 @@ impl Written for Leg {
 
     fn write_to(&self, alloc: Global, out: &mut Writer) -> Result<(), AllocError> {
         begin(out)?;
-        member(alloc, out, "cost", &self.cost)?;
-        member(alloc, out, "steps", &self.steps)?;
-        end(out)
-    }
-}
-
-impl Written for NearRow {
-    ghost use Rattle.wire_replies.specs.Bodies.{near_row_data};
-
-    ghost shown = { near_row_data };
-
-    fn write_to(&self, alloc: Global, out: &mut Writer) -> Result<(), AllocError> {
-        begin(out)?;
-        member(alloc, out, "amenity", &self.id)?;
         member(alloc, out, "cost", &self.cost)?;
         member(alloc, out, "steps", &self.steps)?;
         end(out)

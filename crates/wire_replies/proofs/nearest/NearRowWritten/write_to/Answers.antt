@@ -1,6 +1,6 @@
 use Rattle.std.proofs.lemmas.Result.{on_ok_weaker}
 use Rattle.wire_replies.proofs.Lists.{after}
-use Rattle.wire_replies.proofs.rows.NearRowWritten.write_to.Goals as goal
+use Rattle.wire_replies.proofs.nearest.NearRowWritten.write_to.Goals as goal
 
 pub returns : goal.returns
 returns c =

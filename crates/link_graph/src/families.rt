@@ -1,4 +1,4 @@
-//! The links that can be passed and the potentials of a route, as the laws of walks have them.
+//! The links that can be passed, and potentials, as the laws of walks have them.
 
 ghost use Rattle.std.specs.Prelude.{List};
 ghost use Rattle.venue_types.specs.declared.feature_id.FeatureId.{FeatureId};
@@ -11,7 +11,7 @@ ghost use Rattle.link_graph.specs.Views.{link_view, potential_view};
 use walk_laws::{LinkFamily, PotentialKind};
 
 /// The links of a network that a profile allows where some features are closed.
-pub(crate) struct PassableLinks;
+pub struct PassableLinks;
 
 impl LinkFamily for PassableLinks {
     ghost Link = { Link };
@@ -23,10 +23,10 @@ impl LinkFamily for PassableLinks {
     ghost has = { λ whole. IsPassable whole.0 whole.1 whole.2 };
 }
 
-/// The potentials of a route.
-pub(crate) struct RoutePotentials;
+/// The potentials of nodes, as answers list them.
+pub struct NodePotentials;
 
-impl PotentialKind for RoutePotentials {
+impl PotentialKind for NodePotentials {
     ghost Potential = { Potential };
 
     ghost view = { potential_view };
