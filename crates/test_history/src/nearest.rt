@@ -18,7 +18,7 @@ use venue_types::{
 // A step: where it leads, over what, its cost and its kind.
 type Step = (u128, u128, u32, Kind);
 
-// An amenity, what a way to it costs, and its steps; none where several ways cost so little.
+// An amenity, what a way to it costs, and its steps; where several ways cost so little, none.
 type Place = (u128, u64, &'static [Step]);
 
 // What is told, without its lists.
@@ -33,14 +33,14 @@ enum Told {
 }
 
 #[derive(Clone, Copy)]
-struct Row<'a> {
+struct Row {
     from: u128,
     category: &'static str,
     profile: &'static str,
     limit: u8,
     since: Option<u32>,
     told: Told,
-    places: &'a [Place],
+    places: &'static [Place],
     // Amenities of the category that are not told though they can be reached.
     beyond: &'static [u128],
     // How many nodes can be reached, where that is told, and the first of them.
@@ -49,7 +49,7 @@ struct Row<'a> {
 }
 
 // For a wheelchair from the bakery.
-const fn near<'a>(category: &'static str, places: &'a [Place]) -> Row<'a> {
+const fn near(category: &'static str, places: &'static [Place]) -> Row {
     Row {
         from: 0x0051,
         category,
@@ -64,8 +64,8 @@ const fn near<'a>(category: &'static str, places: &'a [Place]) -> Row<'a> {
     }
 }
 
-// No question for a restroom, which is told this.
-const fn refused(told: Told) -> Row<'static> {
+// A question for a restroom that is told this instead.
+const fn refused(told: Told) -> Row {
     Row {
         told,
         ..near("restroom", &[])
@@ -76,7 +76,7 @@ const DOOR: Step = (0x0105, 0x0305, 633, Kind::Floor);
 
 const RESTROOM: Place = (0x0031, 2_436, &[DOOR, (0x0031, 0x0300, 1_803, Kind::Floor)]);
 
-const BY_THE_LIFT: Place = (
+static BY_THE_LIFT: [Place; 1] = [(
     0x0031,
     7_100,
     &[
@@ -86,10 +86,10 @@ const BY_THE_LIFT: Place = (
         (0x0101, 0x0301, 200, Kind::Elevator),
         (0x0031, 0x0300, 1_700, Kind::Floor),
     ],
-);
+)];
 
 // The start itself.
-const HERE: Place = (0x0031, 0, &[]);
+static HERE: [Place; 1] = [(0x0031, 0, &[])];
 
 const CORNER: Place = (0x0032, 1_458, &[DOOR, (0x0032, 0x0300, 825, Kind::Floor)]);
 
@@ -129,7 +129,7 @@ const UPSTAIRS_BY_THE_RAMP: Place = (
 );
 
 // Across a room to one that stands in both, and from there at no cost.
-const BESIDE_ANOTHER: Place = (
+static BESIDE_ANOTHER: [Place; 1] = [(
     0x0032,
     3_133,
     &[
@@ -137,7 +137,22 @@ const BESIDE_ANOTHER: Place = (
         (0x0033, 0x0300, 2_500, Kind::Floor),
         (0x0032, 0x0306, 0, Kind::Floor),
     ],
-);
+)];
+
+static ONE: [Place; 1] = [RESTROOM];
+
+// Of three at one place the first two.
+static TWO_OF_THREE: [Place; 2] = [(0x0032, 2_870, &[]), (0x0033, 2_870, &[])];
+
+// All restrooms where there are three.
+static ALL: [Place; 3] = [CORNER, RESTROOM, UPSTAIRS];
+
+static ALL_ON_FOOT: [Place; 3] = [CORNER, RESTROOM, UPSTAIRS_ON_FOOT];
+
+static ALL_BY_THE_RAMP: [Place; 3] = [CORNER, RESTROOM, UPSTAIRS_BY_THE_RAMP];
+
+// The nearer two of them.
+static TWO: [Place; 2] = [CORNER, RESTROOM];
 
 // What a wheelchair can reach.
 const WHEELCHAIR: [u128; 25] = [
@@ -428,22 +443,22 @@ fn the_nearest_of_the_station(rt: HostRuntime) -> Result<(), Fail> {
         &[],
         None,
         &[
-            near("restroom", &[RESTROOM]),
+            near("restroom", &ONE),
             Row {
                 from: 0x0052,
                 told: Told::Nearest(1, 0x0042),
-                ..near("restroom", &[BY_THE_LIFT])
+                ..near("restroom", &BY_THE_LIFT)
             },
             Row {
                 limit: 2,
                 reached: 25,
                 nodes: &WHEELCHAIR,
-                ..near("restroom", &[RESTROOM])
+                ..near("restroom", &ONE)
             },
             Row {
                 from: 0x0031,
                 told: Told::Nearest(1, 0x0031),
-                ..near("restroom", &[HERE])
+                ..near("restroom", &HERE)
             },
             Row {
                 from: 0x0031,
@@ -451,14 +466,14 @@ fn the_nearest_of_the_station(rt: HostRuntime) -> Result<(), Fail> {
                 limit: 2,
                 reached: 25,
                 nodes: &WHEELCHAIR,
-                ..near("restroom", &[HERE])
+                ..near("restroom", &HERE)
             },
             Row {
                 profile: "walk",
                 limit: 10,
                 reached: 31,
                 nodes: &WALK,
-                ..near("restroom", &[RESTROOM])
+                ..near("restroom", &ONE)
             },
         ],
     )
@@ -511,7 +526,7 @@ fn the_nearest_past_what_is_closed(rt: HostRuntime) -> Result<(), Fail> {
             Row {
                 from: 0x0031,
                 told: Told::Nearest(2, 0x0031),
-                ..near("restroom", &[HERE])
+                ..near("restroom", &HERE)
             },
             Row {
                 from: 0x0031,
@@ -519,7 +534,7 @@ fn the_nearest_past_what_is_closed(rt: HostRuntime) -> Result<(), Fail> {
                 limit: 2,
                 reached: 1,
                 nodes: &[0x0031],
-                ..near("restroom", &[HERE])
+                ..near("restroom", &HERE)
             },
         ],
     )
@@ -536,7 +551,7 @@ fn the_nearest_of_equals(rt: HostRuntime) -> Result<(), Fail> {
         &[Row {
             limit: 2,
             beyond: &[0x0034],
-            ..near("atm", &[(0x0032, 2_870, &[]), (0x0033, 2_870, &[])])
+            ..near("atm", &TWO_OF_THREE)
         }],
     )?;
     judge_rows(
@@ -546,7 +561,7 @@ fn the_nearest_of_equals(rt: HostRuntime) -> Result<(), Fail> {
         None,
         &[Row {
             beyond: &[0x0033],
-            ..near("atm", &[BESIDE_ANOTHER])
+            ..near("atm", &BESIDE_ANOTHER)
         }],
     )
 }
@@ -563,18 +578,18 @@ fn the_nearest_of_several(rt: HostRuntime) -> Result<(), Fail> {
             Row {
                 limit: 10,
                 reached: 28,
-                ..near("restroom", &[CORNER, RESTROOM, UPSTAIRS])
+                ..near("restroom", &ALL)
             },
             Row {
                 profile: "walk",
                 limit: 10,
                 reached: 34,
-                ..near("restroom", &[CORNER, RESTROOM, UPSTAIRS_ON_FOOT])
+                ..near("restroom", &ALL_ON_FOOT)
             },
             Row {
                 limit: 2,
                 beyond: &[0x0034],
-                ..near("restroom", &[CORNER, RESTROOM])
+                ..near("restroom", &TWO)
             },
         ],
     )?;
@@ -587,7 +602,7 @@ fn the_nearest_of_several(rt: HostRuntime) -> Result<(), Fail> {
             told: Told::Nearest(2, 0x0041),
             limit: 10,
             reached: 27,
-            ..near("restroom", &[CORNER, RESTROOM, UPSTAIRS_BY_THE_RAMP])
+            ..near("restroom", &ALL_BY_THE_RAMP)
         }],
     )
 }
