@@ -1,7 +1,6 @@
 -- The nearest amenities of a category, by what the ways to them cost.
 use Rattle.std.specs.Prelude.{◌≡◌, ℕ, ◌↔◌, List, map, length, Option, Some, None, option_map, slice_get, Bool, if◌then◌else◌, Contains}
 use Rattle.std.specs.List.Sorted.{IsStrictlyIncreasing}
-use Rattle.venue_types.specs.declared.feature_id.FeatureId.{FeatureId}
 use Rattle.venue_types.specs.declared.features.AmenityRow.{AmenityRow}
 use Rattle.venue_types.specs.declared.features.Features.{Features}
 use Rattle.venue_types.specs.declared.link.Link.{Link}

@@ -1,26 +1,22 @@
 -- The nearest over links that stand for others, and what a reply tells of them.
-use Rattle.std.proofs.Common.{◌≡◌, ◌∙◌, ◌⊎◌, ◌↔◌, ℕ, zero, suc, ◌<◌, ◌≤◌, List, [], ◌∷◌, ◌++◌, length, map, get_or, All, AllPairs, Option, Some, None, refl, sym, ap, subst, arith, inl, inr}
-use Rattle.std.specs.Prelude.{Contains, IfSome, slice_get}
-use Rattle.std.specs.List.Sorted.{IsStrictlyIncreasing}
-use Rattle.venue_types.specs.declared.features.AmenityRow.{AmenityRow}
-use Rattle.venue_types.specs.declared.features.Features.{Features}
+use Rattle.std.proofs.Common.{◌≡◌, ◌∙◌, ℕ, List, [], ◌∷◌, length, map, Option, Some, None, refl, ap}
+use Rattle.std.specs.Prelude.{IfSome}
 use Rattle.venue_types.specs.declared.link.Link.{Link}
-use Rattle.venue_types.specs.declared.link.Potential.{Potential}
 use Rattle.venue_types.specs.declared.query.Ask.TheVariants as ask
 use Rattle.venue_types.specs.declared.reply.NearRow.{NearRow}
 use Rattle.venue_types.specs.declared.reply.NearTold.{NearTold}
 use Rattle.venue_types.specs.declared.reply.Reply.TheVariants as reply
 use Rattle.venue_types.specs.declared.settings.Profile.{Profile}
 use Rattle.venue_types.specs.Nearest.{Nearest}
-use Rattle.walk_laws.specs.Walks.{IsWalk, IsLeast, HasWalk, walk_cost}
-use Rattle.nearest_laws.specs.Nearest.{Row, HasRow, IsNearer, AreFirst, AreShown, AreReached, IsNearest}
+use Rattle.walk_laws.specs.Walks.{IsLeast, HasWalk}
+use Rattle.nearest_laws.specs.Nearest.{AreReached}
 use Rattle.nearest_place.specs.declared.near.Near.{Near}
 use Rattle.nearest_place.specs.declared.near.NearWalk.{NearWalk}
 use Rattle.nearest_place.specs.Near.{IsNear, row_of}
 use Rattle.route_search.specs.Views.{link_view}
 use Rattle.venue_history.specs.Answers.{AnswersAsk}
 use Rattle.venue_history.specs.Closed.{Version}
-use Rattle.venue_history.specs.Nearest.{AreCandidates, AreNearest, IsNearTrip, near_row_of}
+use Rattle.venue_history.specs.Nearest.{AreCandidates, IsNearTrip, near_row_of}
 use Rattle.venue_history.specs.Ways.{Usable}
 use Rattle.venue_history.specs.Nodes.{nodes}
 use Rattle.venue_state.specs.Nearing.{TellsNear, told_row}

@@ -50,15 +50,8 @@ impl Board {
         ensures { IfOk result (AnswersAsk self.now (ask.Nearest asked.now)) }
     {
         let candidates = self.candidates(alloc, asked.category())?;
-        let near = searched::<Brand>(
-            alloc,
-            Blank::new(1),
-            self,
-            traveller,
-            a,
-            &candidates,
-            asked.limit(),
-        )?;
+        let limit = asked.limit();
+        let near = searched::<Brand>(alloc, Blank::new(1), self, traveller, a, &candidates, limit)?;
         let told = self.near_told(alloc, asked, a, &near)?;
         Ok(Reply::Nearest(told))
     }

@@ -1,6 +1,5 @@
 -- What can be passed over the graph is what can be used at the version.
-use Rattle.std.proofs.Common.{ℕ, List, length, subst, sym, ap}
-use Rattle.venue_types.specs.declared.link.Link.{Link}
+use Rattle.std.proofs.Common.{List, length, subst}
 use Rattle.venue_types.specs.declared.link.Node.{Node}
 use Rattle.route_search.specs.Graphs.{network}
 use Rattle.route_search.specs.Marking.{marked}
