@@ -233,7 +233,7 @@ def serve(document, program, base, responses, cases, closes=False):
         judged += 1
         need(wanted(status), f"{where}: another status is wanted")
         need(fields["content-type"] == "application/json" and ("connection" in fields) == closes, f"{where}: other fields than are wanted")
-        if "result" in body:
+        if "result" in body or "category" in body:
             need(bool({"potentials", "reached"} & set(body)) == (b"certificate=yes" in sent), f"{where}: a certificate where none was asked for, or none")
         if need(listed, f"{where}: the status isn't listed"):
             allow = listed.get("headers", {}).get("allow", {"schema": {"const": None}})["schema"]
