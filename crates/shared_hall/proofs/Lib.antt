@@ -1,3 +1,4 @@
 pub mod Seen
 pub mod Passes
 pub mod FirstEntries
+pub mod Telling

@@ -1,5 +1,5 @@
 -- What becomes of a change at the published board becomes of the office's entries.
-use Rattle.std.proofs.Common.{rules, ◌≡◌, refl, sym, subst}
+use Rattle.std.proofs.Common.{rules, ◌≡◌, ◌+◌, refl, sym, subst, arith}
 use Rattle.std.specs.Arc.{arc_value}
 use Rattle.board_copies.specs.declared.held.Held.{Held}
 use Rattle.board_copies.specs.Rules.{list_of}
@@ -7,6 +7,7 @@ use Rattle.venue_hall.specs.Histories.{Replays}
 use Rattle.board_copies.specs.Making.{shelf_of}
 use Rattle.board_copies.proofs.Entering.{enters, stays, made_counts}
 use Rattle.shared_hall.proofs.Seen.{changes_seen}
+use Rattle.shared_hall.proofs.Telling.{made_told}
 use Rattle.shared_hall.proofs.office.OfficeOf+N+F+Keeper.change.Goals as goal
 
 pub ready_change-outcome-requires-clause-closable : goal.ready_change-outcome-requires-clause-closable
@@ -46,3 +47,10 @@ pub returns-in-Ok-clause-fault : goal.returns-in-Ok-clause-fault
 returns-in-Ok-clause-fault g c =
     let same : c.enter.new.self.faults ≡ c.args.self.now.faults = search rules in
     made_counts c.deref.result.now.board c.args.change.now c.in-Made.ready.entry.act c.in-Made.reply c.in-Made.ensures.outcome.tells c.args.self.now.faults c.enter.new.self.faults same
+
+-- what is ready is told as accepted, and was counted
+pub returns-in-Ok-clause-made : goal.returns-in-Ok-clause-made
+returns-in-Ok-clause-made g c =
+    let one = made_told c.deref.result.now.board c.args.change.now c.in-Made.ready.entry.act c.in-Made.reply c.in-Made.ensures.outcome.tells in
+    let counted : c.enter.new.pass.made ≡ c.args.pass.now.made + 1 = c.in-Ok.ensures.counted in
+    omega (arith, one, counted)
