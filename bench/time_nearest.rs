@@ -7,54 +7,9 @@ use std::collections::BinaryHeap;
 use std::ops::Range;
 use std::time::Instant;
 
-#[derive(Clone, Copy)]
-struct Out {
-    to: u32,
-    cost: u32,
-}
+mod stored_rows;
 
-struct Rows {
-    starts: Vec<u32>,
-    out: Vec<Out>,
-}
-
-fn number(word: Option<&str>) -> u32 {
-    word.expect("a number").parse().expect("a number")
-}
-
-fn read(text: &str) -> Rows {
-    let (mut nodes, mut links) = (0, Vec::new());
-    for line in text.lines() {
-        let mut words = line.split(' ');
-        match words.next() {
-            Some("node") => nodes += 1,
-            Some("link") => links.push((number(words.next()), number(words.next()), number(words.next()))),
-            _ => {}
-        }
-    }
-    let mut starts = vec![0u32; nodes + 1];
-    for (from, _, _) in &links {
-        starts[*from as usize + 1] += 1;
-    }
-    for n in 0..nodes {
-        starts[n + 1] += starts[n];
-    }
-    let mut next = starts.clone();
-    let mut out = vec![Out { to: 0, cost: 0 }; links.len()];
-    for (from, to, cost) in &links {
-        let place = &mut next[*from as usize];
-        out[*place as usize] = Out { to: *to, cost: *cost };
-        *place += 1;
-    }
-    Rows { starts, out }
-}
-
-struct Label {
-    cost: u64,
-    last: u32,
-    from: u32,
-    settled: bool,
-}
+use stored_rows::{labels_of, number, read, walk_to, Rows};
 
 struct Row {
     cost: u64,
@@ -67,17 +22,6 @@ struct Near {
     reached: Option<Vec<u32>>,
 }
 
-fn walk_to(labels: &[Label], from: u32, to: u32) -> Vec<u32> {
-    let mut walk = Vec::new();
-    let mut at = to;
-    while at != from {
-        walk.push(labels[at as usize].last);
-        at = labels[at as usize].from;
-    }
-    walk.reverse();
-    walk
-}
-
 /// The nearest of the targets, up to the limit, the potentials below the last cost, and what is reached where there are fewer. It ends where so
 /// many targets are settled and what comes next costs more than the last.
 fn nearest(rows: &Rows, from: u32, targets: &[u32], limit: usize) -> Near {
@@ -86,7 +30,7 @@ fn nearest(rows: &Rows, from: u32, targets: &[u32], limit: usize) -> Near {
     for target in targets {
         is_target[*target as usize] = true;
     }
-    let mut labels: Vec<Label> = (0..nodes).map(|_| Label { cost: u64::MAX, last: u32::MAX, from: u32::MAX, settled: false }).collect();
+    let mut labels = labels_of(nodes);
     let mut heap = BinaryHeap::new();
     let (mut left, mut last) = (limit, 0);
     labels[from as usize].cost = 0;

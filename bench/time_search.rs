@@ -5,60 +5,14 @@ use std::cmp::Reverse;
 use std::collections::BinaryHeap;
 use std::time::Instant;
 
-#[derive(Clone, Copy)]
-struct Out {
-    to: u32,
-    cost: u32,
-}
+mod stored_rows;
 
-struct Rows {
-    starts: Vec<u32>,
-    out: Vec<Out>,
-}
-
-fn number(word: Option<&str>) -> u32 {
-    word.expect("a number").parse().expect("a number")
-}
-
-fn read(text: &str) -> Rows {
-    let (mut nodes, mut links) = (0, Vec::new());
-    for line in text.lines() {
-        let mut words = line.split(' ');
-        match words.next() {
-            Some("node") => nodes += 1,
-            Some("link") => links.push((number(words.next()), number(words.next()), number(words.next()))),
-            _ => {}
-        }
-    }
-    let mut starts = vec![0u32; nodes + 1];
-    for (from, _, _) in &links {
-        starts[*from as usize + 1] += 1;
-    }
-    for n in 0..nodes {
-        starts[n + 1] += starts[n];
-    }
-    let mut next = starts.clone();
-    let mut out = vec![Out { to: 0, cost: 0 }; links.len()];
-    for (from, to, cost) in &links {
-        let place = &mut next[*from as usize];
-        out[*place as usize] = Out { to: *to, cost: *cost };
-        *place += 1;
-    }
-    Rows { starts, out }
-}
-
-struct Label {
-    cost: u64,
-    last: u32,
-    from: u32,
-    settled: bool,
-}
+use stored_rows::{labels_of, number, read, walk_to, Rows};
 
 /// The cost and the potentials below it, or the nodes that are reached; and the walk back.
 fn search(rows: &Rows, from: u32, to: u32) -> (u64, usize, usize) {
     let nodes = rows.starts.len() - 1;
-    let mut labels: Vec<Label> =
-        (0..nodes).map(|_| Label { cost: u64::MAX, last: u32::MAX, from: u32::MAX, settled: false }).collect();
+    let mut labels = labels_of(nodes);
     let mut heap = BinaryHeap::new();
     labels[from as usize].cost = 0;
     heap.push(Reverse((0u64, from)));
@@ -89,13 +43,7 @@ fn search(rows: &Rows, from: u32, to: u32) -> (u64, usize, usize) {
     }
     let potentials: Vec<(u32, u64)> =
         labels.iter().enumerate().filter(|(_, l)| l.cost < end).map(|(n, l)| (n as u32, l.cost)).collect();
-    let mut walk = Vec::new();
-    let mut at = to;
-    while at != from {
-        walk.push(labels[at as usize].last);
-        at = labels[at as usize].from;
-    }
-    walk.reverse();
+    let walk = walk_to(&labels, from, to);
     (end, potentials.len(), walk.len())
 }
 
