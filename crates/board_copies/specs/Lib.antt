@@ -3,6 +3,7 @@ pub mod Stamps
 pub mod Rules
 pub mod Queues
 pub mod Reading
+pub mod Leading
 pub mod Resumes
 pub use Rattle.venue_state.specs.Making
 pub use Rattle.venue_state.specs.Preparing

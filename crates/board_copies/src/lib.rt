@@ -26,7 +26,7 @@ pub use ends::{Reads, Writes};
 pub use held::{Held, Ready, Side};
 pub use keeper::{Keep, Keeper};
 pub use reader_side::{meet, meet_in, read, read_in};
-pub use resuming::{Resumed, Resuming};
+pub use resuming::{Awaiting, Resumed, Resuming};
 pub use roll::Roll;
 pub use rule::{Law, Notes, Publishing, Seeing, SideReader, SideWriter};
 pub use seen::Seen;

@@ -1,10 +1,11 @@
 //! A kept history replayed: a version in the making, beside the stamp of its entries.
 
-ghost use Rattle.std.specs.Prelude.{◌≡◌, [], ◌∷◌, ◌++◌, IfOk, OnErr};
+ghost use Rattle.std.specs.Prelude.{◌≡◌, [], ◌∷◌, IfOk, OnErr};
 ghost use Rattle.std.specs.Arc.{arc_value};
 ghost use Rattle.venue_state.specs.Act.TheVariants.{Published};
 ghost use Rattle.venue_state.specs.Histories.{Replays};
 ghost use Rattle.venue_state.specs.Replaying.{IsClosureAct};
+ghost use Rattle.board_copies.specs.Leading.{LeadsTo};
 ghost use Rattle.board_copies.specs.Stamps.{entries_of};
 
 use crate::held::Held;
@@ -12,7 +13,7 @@ use crate::roll::Roll;
 use crate::stamp::Stamp;
 use std::alloc::Global;
 use std::sync::Arc;
-use venue_state::{Act, Entry, Replaying, Venue, entry_law, every_venue, following_law};
+use venue_state::{Act, Entry, Outgoing, Replaying, Venue, entry_law, every_venue, following_law};
 use venue_types::{OutOfMemory, Settings};
 
 /// A history that is being replayed: the version to which its entries lead, their stamp, and the book in which they have their number.
@@ -22,6 +23,16 @@ pub struct Resuming {
     pub stamp: Stamp,
     pub roll: Roll,
     ghost stands: { Replays (entries_of stamp) version },
+    ghost book: { stamp.seen.book ≡ roll.seen.book },
+}
+
+/// The same of which the last version's venue is let go: only a publication goes on from here.
+#[derive(Drop)]
+pub struct Awaiting {
+    pub left: Outgoing,
+    pub stamp: Stamp,
+    pub roll: Roll,
+    ghost stands: { ∥ LeadsTo (entries_of stamp) left ∥₁ },
     ghost book: { stamp.seen.book ≡ roll.seen.book },
 }
 
@@ -97,31 +108,18 @@ impl Resuming {
         Ok(true)
     }
 
-    /// Publishes a venue of the version's settings by a worker where that may follow, and tells whether it does.
-    pub fn publish(
-        &mut self,
-        alloc: Global,
-        venue: Arc<Venue>,
-        worker: u8,
-    ) -> Result<bool, OutOfMemory>
-        requires { (arc_value venue).settings ≡ self.old.version.settings }
-        ensures entered { IfOk result (λ is_made. Enters self.old (record { worker = worker; act = Published venue }) is_made self.new) }
-        ensures kept { OnErr result (entries_of self.new.stamp ≡ entries_of self.old.stamp) }
-        ensures settings { self.new.version.settings ≡ self.old.version.settings }
+    /// Lets the last version's venue go, so that only a publication goes on. Takes memory in proportion to what is closed.
+    pub fn let_go(self, alloc: Global) -> Result<Awaiting, OutOfMemory>
+        ensures entries { IfOk result (λ a. entries_of a.stamp ≡ entries_of self.stamp) }
+        ensures settings { IfOk result (λ a. arc_value a.left.settings ≡ self.version.settings) }
     {
-        entry_law();
-        following_law();
-        let copy = Arc::try_clone(&venue)?;
-        let act = Act::Published(venue);
-        let stamp = self
-            .roll
-            .stamp(Some(self.stamp.again()), Entry { worker, act })
-            .ok_or(OutOfMemory)?;
-        if !self.version.publish(alloc, copy, worker)? {
-            return Ok(false);
-        }
-        self.stamp = stamp;
-        Ok(true)
+        let Resuming {
+            version,
+            stamp,
+            roll,
+        } = self;
+        let left = version.let_go(alloc)?;
+        Ok(Awaiting { left, stamp, roll })
     }
 
     /// The board to which the entries lead.
@@ -139,5 +137,41 @@ impl Resuming {
             held: Held::new(board, stamp),
             roll,
         })
+    }
+}
+
+impl Awaiting {
+    ghost use Rattle.board_copies.specs.Resumes.{EntersBehind};
+
+    /// Publishes a venue of the history's settings by a worker, where that may follow; else there is no longer history.
+    pub fn publish(
+        self,
+        alloc: Global,
+        venue: Arc<Venue>,
+        worker: u8,
+    ) -> Result<Option<Resuming>, OutOfMemory>
+        requires { (arc_value venue).settings ≡ arc_value self.left.settings }
+        ensures { IfOk result (EntersBehind (entries_of self.stamp) (arc_value self.left.settings) (record { worker = worker; act = Published venue })) }
+    {
+        entry_law();
+        following_law();
+        let Awaiting {
+            left,
+            stamp,
+            mut roll,
+        } = self;
+        let copy = Arc::try_clone(&venue)?;
+        let act = Act::Published(venue);
+        let stamp = roll
+            .stamp(Some(stamp), Entry { worker, act })
+            .ok_or(OutOfMemory)?;
+        let Some(version) = left.publish(alloc, copy, worker)? else {
+            return Ok(None);
+        };
+        Ok(Some(Resuming {
+            version,
+            stamp,
+            roll,
+        }))
     }
 }

@@ -22,8 +22,9 @@ use Rattle.venue_hall.specs.Standing.{StandsFor, StandsForAct}
 use Rattle.venue_hall.specs.Venues.{SeenVenue as Venue}
 use Rattle.venue_hall.specs.Versions.{Fits, MayFollow, after}
 use Rattle.board_copies.specs.declared.resuming.Resuming.{Resuming}
+use Rattle.board_copies.specs.Resumes.{EntersBehind}
 use Rattle.board_copies.specs.Stamps.{entries_of}
-use Rattle.journal_restore.specs.Judging.{Grows, IsAdded, IsJudged, Makes, MayNotFollow}
+use Rattle.journal_restore.specs.Judging.{Grows, IsJudged, Makes, MayNotFollow}
 
 -- a feature and a set, by what is kept of them
 closing_is : (it : Closing) (feature : FeatureId) (profiles : ProfileSet) → it.feature ≡ feature → it.profiles.0 ≡ profiles.0
@@ -164,14 +165,21 @@ none_made settings given files made is same makes =
     subst (λ (s : Settings). (venue : Venue) → IsVenueOf files s venue → ⊥) same (subst (Makes files given) is makes)
 
 -- a publication that was tried with one handle
-pub published_judged : (settings : Settings) (resuming : Resuming) (worker : ℕ) (files : Files) (venue : Arc Venue Global)
-    → OneVenue → MayEnter → MayHave → length files.slots ≡ 17 → IsVenueOf files settings (arc_value venue) → resuming.version.settings ≡ settings
-    → (longer : Option Resuming) → IsAdded resuming (record { worker = worker; act = Published venue }) longer
-    → IsJudged settings (record { worker = worker; act = published files.slots }) (entries_of resuming.stamp) longer
-published_judged settings resuming worker files venue one enter have seventeen makes same None added =
-    published_unfit settings (entries_of resuming.stamp) resuming.version worker files venue one enter have seventeen makes resuming.stands added
-published_judged settings resuming worker files venue one enter have seventeen makes same (Some new) added =
-    (record { entry = record { worker = worker; act = Published venue }; stands = record { worker = refl; act = makes }; grown = added.0 }, added.1 ∙ same)
+pub published_judged : (settings given : Settings) (entries front : List Entry) (v : Version) (worker : ℕ) (files : Files) (venue : Arc Venue Global)
+    → OneVenue → MayEnter → MayHave → length files.slots ≡ 17 → IsVenueOf files settings (arc_value venue) → Replays entries v
+    → front ≡ entries → given ≡ settings → (longer : Option Resuming) → EntersBehind front given (record { worker = worker; act = Published venue }) longer
+    → IsJudged settings (record { worker = worker; act = published files.slots }) entries longer
+published_judged settings given entries front v worker files venue one enter have seventeen makes stands same under None added =
+    published_unfit settings entries v worker files venue one enter have seventeen makes stands
+    (subst (λ (h : List Entry). ¬ IsLegal (h ++ record { worker = worker; act = Published venue } ∷ [])) same added)
+published_judged settings given entries front v worker files venue one enter have seventeen makes stands same under (Some new) added = (
+  record {
+    entry = record { worker = worker; act = Published venue };
+    stands = record { worker = refl; act = makes };
+    grown = subst (λ (h : List Entry). entries_of new.stamp ≡ h ++ record { worker = worker; act = Published venue } ∷ []) same added.0;
+  },
+  added.1 ∙ under,
+)
 
 pub opens : (settings : Settings) (worker : ℕ) (files : Files) (venue : Arc Venue Global) (new : List Entry) → worker ≡ 0
     → IsVenueOf files settings (arc_value venue) → new ≡ record { worker = 0; act = Published venue } ∷ []

@@ -28,11 +28,6 @@ abbrev pub Makes : Files → Settings → Option (Arc Venue Global) → Type 0
 Makes files settings None = (venue : Venue) → IsVenueOf files settings venue → ⊥
 Makes files settings (Some venue) = IsVenueOf files settings (arc_value venue)
 
--- the entry stands behind the history, and the settings are the same; or that is no legal history
-abbrev pub IsAdded : Resuming → Entry → Option Resuming → Type 0
-IsAdded old entry None = ¬ IsLegal (entries_of old.stamp ++ entry ∷ [])
-IsAdded old entry (Some new) = (entries_of new.stamp ≡ entries_of old.stamp ++ entry ∷ []) × (new.version.settings ≡ old.version.settings)
-
 -- the new entries are the old ones with one more, for which the record stands
 pub record Grows (settings : Settings) (kept : Logged) (old new : List Entry) : Type 0 where
   pub entry : Entry

@@ -1,13 +1,13 @@
 //! Whether a record may follow a history, and the history with it.
 
-ghost use Rattle.std.specs.Prelude.{◌≡◌, [], ◌∷◌, IfOk, length};
+ghost use Rattle.std.specs.Prelude.{◌≡◌, [], IfOk, length};
 ghost use Rattle.std.specs.Arc.{arc_value};
-ghost use Rattle.venue_hall.specs.Act.TheVariants.{Published};
-ghost use Rattle.venue_hall.specs.Records.{IsAct};
+ghost use Rattle.venue_hall.specs.Records.{AreSlots, IsAct, published};
 ghost use Rattle.board_copies.specs.Replaying.{IsClosureAct};
+ghost use Rattle.board_copies.specs.Resumes.{EntersBehind};
 ghost use Rattle.board_copies.specs.Stamps.{entries_of};
 ghost use Rattle.change_journal.specs.Readers.{kept_act};
-ghost use Rattle.journal_restore.specs.Judging.{HasSettings, IsAdded, IsJudged, Makes, history_entries};
+ghost use Rattle.journal_restore.specs.Judging.{HasSettings, IsJudged, Makes, history_entries};
 
 use board_copies::{Resuming, first_law, following_law};
 use change_journal::FoundAct;
@@ -57,20 +57,25 @@ fn opened(
     Ok(Some(resuming))
 }
 
-// The history with a publication more, where it may follow.
+// The history with a publication more, where it may follow. The venue of the version before is let go before the new one is made.
 fn with_venue(
     alloc: Global,
-    mut resuming: Resuming,
+    settings: &Arc<Settings>,
+    resuming: Resuming,
     worker: u8,
-    venue: Arc<Venue>,
+    files: Files,
 ) -> Result<Option<Resuming>, OutOfMemory>
-    requires { (arc_value venue).settings ≡ resuming.version.settings }
-    ensures { IfOk result (IsAdded resuming (record { worker = worker; act = Published venue })) }
+    requires files { AreSlots files.slots }
+    requires settings { resuming.version.settings ≡ arc_value settings.now }
+    ensures { IfOk result (IsJudged (arc_value settings.now) (record { worker = worker; act = published files.slots }) (entries_of resuming.stamp)) }
 {
-    if resuming.publish(alloc, venue, worker)? {
-        Ok(Some(resuming))
-    } else {
-        Ok(None)
+    one_outcome();
+    entry_law();
+    following_law();
+    let awaiting = resuming.let_go(alloc)?;
+    match venue_of(alloc, settings, files)? {
+        None => Ok(None),
+        Some(venue) => awaiting.publish(alloc, venue, worker),
     }
 }
 
@@ -81,7 +86,7 @@ fn with_closure(
     act: Act,
 ) -> Result<Option<Resuming>, OutOfMemory>
     requires { IsClosureAct act }
-    ensures { IfOk result (IsAdded resuming (record { worker = worker; act = act })) }
+    ensures { IfOk result (EntersBehind (entries_of resuming.stamp) resuming.version.settings (record { worker = worker; act = act })) }
 {
     if resuming.step(act, worker)? {
         Ok(Some(resuming))
@@ -102,14 +107,8 @@ fn followed(
     requires settings { resuming.version.settings ≡ arc_value settings.now }
     ensures { IfOk result (IsJudged (arc_value settings.now) (record { worker = worker; act = kept_act act }) (entries_of resuming.stamp)) }
 {
-    one_outcome();
-    entry_law();
-    following_law();
     match act {
-        FoundAct::Published(files) => match venue_of(alloc, settings, files)? {
-            None => Ok(None),
-            Some(venue) => with_venue(alloc, resuming, worker, venue),
-        },
+        FoundAct::Published(files) => with_venue(alloc, settings, resuming, worker, files),
         FoundAct::Closed { feature, profiles } => {
             let closing = Closing { feature, profiles };
             with_closure(resuming, worker, Act::Closed(closing))
@@ -122,7 +121,7 @@ fn followed(
 }
 
 /// The history with a record more, or none where the record may not follow: then the one before is let go. Takes the memory of a publication's
-/// venue, beside that of the one before.
+/// venue, for which that of the one before is given back first.
 pub(crate) fn judged(
     alloc: Global,
     settings: &Arc<Settings>,

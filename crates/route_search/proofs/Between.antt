@@ -28,7 +28,7 @@ settled-set_other settled i n y other = get_or-set_other settled i n y false oth
 -- ---- a node is taken from what waits
 
 module _ (IsLink : Link → Type 0) (nodes : ℕ) (old new : State) (between : IsBetween IsLink nodes old) (cost node : ℕ)
-    (popped : IsPopped old.frontier new.frontier cost node) (costs : new.costs.items ≡ old.costs.items) (lasts : new.lasts.items ≡ old.lasts.items) where
+    (popped : IsPopped old.frontier new.frontier cost node) (costs : new.costs.items ≡ old.costs.items) (lasts : new.lasts ≡ old.lasts) where
   cost_same : (n : ℕ) → cost_in new n ≡ cost_in old n
   cost_same n = ap (λ (cs : List ℕ). cost_at cs n) costs
 
@@ -185,7 +185,7 @@ module _ (given : Network) (IsLink : Link → Type 0) (nodes node : ℕ) (old ne
 
 -- ---- the start stays the only one
 
-pub root_same : (from : ℕ) (old new : State) → new.costs.items ≡ old.costs.items → new.lasts.items ≡ old.lasts.items → IsFrom from old → IsFrom from new
+pub root_same : (from : ℕ) (old new : State) → new.costs.items ≡ old.costs.items → new.lasts ≡ old.lasts → IsFrom from old → IsFrom from new
 root_same from old new costs lasts root =
     let cost_same : (n : ℕ) → cost_in new n ≡ cost_in old n = λ n. ap (λ (cs : List ℕ). cost_at cs n) costs in
     record {
@@ -212,7 +212,7 @@ module _ (IsLink : Link → Type 0) (nodes from now : ℕ) (state : State) (shor
   small_at : (n : ℕ) → IsReached state n → cost_in state n < 2 ^ 42
   small_at n is = let room = (tree.small n is).cost_room in omega (arith, room, tree.few)
 
-  tree_of : IsTree nodes from state.costs.items state.lasts.items
+  tree_of : IsTree nodes from state.costs.items state.lasts
   tree_of = record {
     costs_count = tree.costs_count;
     lasts_count = tree.lasts_count;
@@ -227,7 +227,7 @@ module _ (IsLink : Link → Type 0) (nodes from now : ℕ) (state : State) (shor
     shallow = λ n is. (let room = (tree.small n is).depth_room in omega (arith, room));
   }
 
-  over : AreOver IsLink state.costs.items state.lasts.items
+  over : AreOver IsLink state.costs.items state.lasts
   over n link is by = (step_at n link is by).is
 
   closed_at : (link : Link) → IsLink link → IsReached state link.from → IsRelaxed state.costs.items link → IsReached state link.to
@@ -242,7 +242,7 @@ module _ (IsLink : Link → Type 0) (nodes from now : ℕ) (state : State) (shor
   found_below bound near low = record {
     tree = tree_of;
     near = λ cost same. (let is : bound ≡ cost = cc in omega (arith, is, near));
-    found = λ cost same. subst (λ (b : ℕ). IsFound IsLink b state.costs.items state.lasts.items) (let is : bound ≡ cost = cc in is) (record {
+    found = λ cost same. subst (λ (b : ℕ). IsFound IsLink b state.costs.items state.lasts) (let is : bound ≡ cost = cc in is) (record {
       over = over;
       relaxed = λ link is less. (let known : cost_in state link.from < no_cost = omega (arith, less, near) in low link.from known less link is refl);
     });
@@ -262,22 +262,22 @@ module _ (IsLink : Link → Type 0) (nodes from now : ℕ) (state : State) (shor
     };
   }
 
-ended_moved : (IsLink : Link → Type 0) (nodes from : ℕ) (bound : Option ℕ) (old new : State) → new.costs.items ≡ old.costs.items → new.lasts.items ≡ old.lasts.items → IsEnded IsLink nodes from bound old
+ended_moved : (IsLink : Link → Type 0) (nodes from : ℕ) (bound : Option ℕ) (old new : State) → new.costs.items ≡ old.costs.items → new.lasts ≡ old.lasts → IsEnded IsLink nodes from bound old
     → IsEnded IsLink nodes from bound new
 ended_moved IsLink nodes from bound old new costs lasts was =
     let parts : List ℕ → List Last → Type 0 = λ cs ls. IsTree nodes from cs ls × ((cost : ℕ) → bound ≡ Some cost → IsFound IsLink cost cs ls) × (bound ≡ None → IsSpent IsLink cs ls) in
-    let moved : parts new.costs.items new.lasts.items = subst (λ (cs : List ℕ). parts cs new.lasts.items) (sym costs) (subst (λ (ls : List Last). parts old.costs.items ls) (sym lasts) (was.tree, was.found, was.spent)) in
+    let moved : parts new.costs.items new.lasts = subst (λ (cs : List ℕ). parts cs new.lasts) (sym costs) (subst (λ (ls : List Last). parts old.costs.items ls) (sym lasts) (was.tree, was.found, was.spent)) in
     record { tree = moved.0; near = was.near; found = moved.1; spent = moved.2 }
 
 -- nothing waits
 pub ended_spent : (IsLink : Link → Type 0) (nodes from : ℕ) (old new : State) → ((link : Link) → IsLink link → link.cost ≤ 6700000) → IsFrom from old → IsBetween IsLink nodes old
-    → ((c n : ℕ) → Waits old.frontier c n → ⊥) → new.costs.items ≡ old.costs.items → new.lasts.items ≡ old.lasts.items → IsEnded IsLink nodes from None new
+    → ((c n : ℕ) → Waits old.frontier c n → ⊥) → new.costs.items ≡ old.costs.items → new.lasts ≡ old.lasts → IsEnded IsLink nodes from None new
 ended_spent IsLink nodes from old new short root between none costs lasts =
     ended_moved IsLink nodes from None old new costs lasts (spent_all IsLink nodes from between.now old short root between.tree (λ n is. elim (between.progress n is) [ inl waits ↦ absurd (none _ n waits) | inr was ↦ was ]))
 
 -- a node that waits at its cost is the next, and its cost the bound
 pub ended_found : (IsLink : Link → Type 0) (nodes from cost node : ℕ) (old new : State) → ((link : Link) → IsLink link → link.cost ≤ 6700000) → IsFrom from old → IsBetween IsLink nodes old
-    → IsPopped old.frontier new.frontier cost node → cost_in old node ≡ cost → new.costs.items ≡ old.costs.items → new.lasts.items ≡ old.lasts.items → IsEnded IsLink nodes from (Some cost) new
+    → IsPopped old.frontier new.frontier cost node → cost_in old node ≡ cost → new.costs.items ≡ old.costs.items → new.lasts ≡ old.lasts → IsEnded IsLink nodes from (Some cost) new
 ended_found IsLink nodes from cost node old new short root between popped fresh costs lasts =
     let low = small_at IsLink nodes from between.now old short root between.tree node (between.tree.entries cost node popped.waited).known in
     ended_moved IsLink nodes from (Some cost) old new costs lasts (found_below IsLink nodes from between.now old short root between.tree cost (omega (arith, low, fresh)) (λ n is less. elim (between.progress n is) [

@@ -2,6 +2,7 @@ pub mod Items
 pub mod Heaps
 pub mod Covers
 pub mod PassedOver
+pub mod LastPlaces
 pub mod Lowered
 pub mod Scanned
 pub mod Detours

@@ -5,9 +5,8 @@ use Rattle.std.proofs.lemmas.Bool.Decides.{nat_tests}
 use Rattle.venue_types.specs.declared.link.Link.{Link}
 use Rattle.link_graph.specs.Lower.{lower_of}
 use Rattle.link_graph.specs.Networks.{Network, links_out}
-use Rattle.route_search.specs.declared.labels.Last.{Last}
 use Rattle.route_search.specs.declared.state.State.{State}
-use Rattle.route_search.specs.Labels.{no_cost, cost_at, last_at}
+use Rattle.route_search.specs.Labels.{no_cost, cost_at}
 use Rattle.route_search.specs.States.{cost_in}
 use Rattle.route_search.specs.Scans.{IsAmid, IsScanned}
 use Rattle.route_search.proofs.Covers.{out_member, out_from}
@@ -25,10 +24,6 @@ get_or_any (x ∷ xs) (suc n) a b within = get_or_any xs n a b (omega arith)
 pub cost_read : (costs : List ℕ) (n c d : ℕ) → n < length costs → c ≡ get_or costs n d → c ≡ cost_at costs n
 unfolding cost_at
 cost_read costs n c d within is = is ∙ get_or_any costs n d no_cost within
-
-pub last_read : (lasts : List Last) (n : ℕ) (x d : Last) → n < length lasts → x ≡ get_or lasts n d → x ≡ last_at lasts n
-unfolding last_at
-last_read lasts n x d within is = is ∙ get_or_any lasts n d (record { by = None; depth = 0 }) within
 
 pub get_some : {X : Type 0} (xs : List X) (k : ℕ) → k < length xs → (x : X) × (slice_get xs k ≡ Some x)
 get_some [] k within = absurd (omega arith)

@@ -11,6 +11,7 @@ use Rattle.route_search.specs.Labels.{no_cost, cost_at, last_at}
 use Rattle.route_search.specs.Waiting.{Waits, waiting}
 use Rattle.route_search.specs.States.{settled_at, open_sum, cost_in, last_in, settled_in, IsReached, IsRelaxedFrom, ComesBy, Room, IsEntry, Grows, IsQueued, IsLowered}
 use Rattle.route_search.specs.Scans.{IsQuiet, HangsOn, IsAmid, IsFollowed}
+use Rattle.route_search.proofs.LastPlaces.{last-set_same, last-set_other}
 
 -- ---- what waits
 
@@ -40,14 +41,6 @@ pub cost-set_other : (costs : List ℕ) (i n c : ℕ) → n ≢ i → cost_at (s
 unfolding cost_at
 cost-set_other costs i n c other = get_or-set_other costs i n c no_cost other
 
-pub last-set_same : (lasts : List Last) (i : ℕ) (y : Last) → i < length lasts → last_at (set lasts i y) i ≡ y
-unfolding last_at
-last-set_same lasts i y within = get_or-set_same lasts i y (record { by = None; depth = 0 }) within
-
-pub last-set_other : (lasts : List Last) (i n : ℕ) (y : Last) → n ≢ i → last_at (set lasts i y) n ≡ last_at lasts n
-unfolding last_at
-last-set_other lasts i n y other = get_or-set_other lasts i n y (record { by = None; depth = 0 }) other
-
 -- ---- the end of a link is known by it
 
 module _ (given : Network) (IsLink : Link → Type 0) (nodes : ℕ) (old new : State) (link : Link) (waits : Bool)
@@ -64,10 +57,10 @@ module _ (given : Network) (IsLink : Link → Type 0) (nodes : ℕ) (old new : S
   cost_other n other = ap (λ (cs : List ℕ). cost_at cs n) lowered.costs ∙ cost-set_other old.costs.items link.to n _ other
 
   last_here : last_in new link.to ≡ next
-  last_here = ap (λ (ls : List Last). last_at ls link.to) lowered.lasts ∙ last-set_same old.lasts.items link.to next (omega (arith, amid.tree.lasts_count))
+  last_here = ap (λ (ls : List Last). last_at ls link.to) lowered.lasts ∙ last-set_same old.lasts link.to next (omega (arith, amid.tree.lasts_count))
 
   last_other : (n : ℕ) → n ≢ link.to → last_in new n ≡ last_in old n
-  last_other n other = ap (λ (ls : List Last). last_at ls n) lowered.lasts ∙ last-set_other old.lasts.items link.to n next other
+  last_other n other = ap (λ (ls : List Last). last_at ls n) lowered.lasts ∙ last-set_other old.lasts link.to n next other
 
   settled_same : (n : ℕ) → settled_in new n ≡ settled_in old n
   settled_same n = ap (λ (bs : List Bool). settled_at bs n) lowered.settled
@@ -188,7 +181,7 @@ module _ (given : Network) (IsLink : Link → Type 0) (nodes : ℕ) (old new : S
   tree_new : Grows IsLink nodes new (cost_in new link.from)
   tree_new = record {
     costs_count = ap length lowered.costs ∙ length-set old.costs.items link.to _ ∙ amid.tree.costs_count;
-    lasts_count = ap length lowered.lasts ∙ length-set old.lasts.items link.to next ∙ amid.tree.lasts_count;
+    lasts_count = ap length lowered.lasts ∙ length-set old.lasts link.to next ∙ amid.tree.lasts_count;
     settled_count = ap length lowered.settled ∙ amid.tree.settled_count;
     few = amid.tree.few;
     comes = λ n known. elim (cases_eq n link.to) [

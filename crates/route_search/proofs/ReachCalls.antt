@@ -38,7 +38,7 @@ unfolding cost_of
 call_past reach n past = handed_past reach.bound (cost_at reach.costs.items n) (omega (arith, cost_past reach.costs.items n past, reach.near))
 
 -- a walk back is asked from a node that is known
-pub call_back : (reach : Reach) (lasts : List Last) (n : ℕ) → lasts ≡ reach.lasts.items → HasCost (cost_of reach) n → IsKnown lasts n
+pub call_back : (reach : Reach) (lasts : List Last) (n : ℕ) → lasts ≡ reach.lasts → HasCost (cost_of reach) n → IsKnown lasts n
 call_back reach lasts n same has = record {
   costs = reach.costs.items;
   from = reach.from;
@@ -46,19 +46,19 @@ call_back reach lasts n same has = record {
   there = call_known reach n has;
 }
 
-pub call_trail : (reach : Reach) (lasts : List Last) (n : ℕ) (walk : List Link) → lasts ≡ reach.lasts.items → HasCost (cost_of reach) n
+pub call_trail : (reach : Reach) (lasts : List Last) (n : ℕ) (walk : List Link) → lasts ≡ reach.lasts → HasCost (cost_of reach) n
     → ((known : IsKnown lasts n) → IsTrail known.costs lasts known.from n walk) → IsTrail reach.costs.items lasts reach.from n walk
 unfolding call_back
 call_trail reach lasts n walk same has trail = trail (call_back reach lasts n same has)
 
 -- it is a walk of the node's cost over the family
-pub call_walk : (reach : Reach) (IsLink : Link → Type 0) (lasts : List Last) (from n cost : ℕ) (walk : List Link) → lasts ≡ reach.lasts.items → IsReachOver IsLink from reach → cost_of reach n ≡ Some cost
+pub call_walk : (reach : Reach) (IsLink : Link → Type 0) (lasts : List Last) (from n cost : ℕ) (walk : List Link) → lasts ≡ reach.lasts → IsReachOver IsLink from reach → cost_of reach n ≡ Some cost
     → IsTrail reach.costs.items lasts reach.from n walk → IsWalk link_view IsLink from n walk × (walk_cost link_view walk ≡ cost)
 unfolding cost_of
 call_walk reach IsLink lasts from n cost walk same over some trail =
     trail_walk IsLink reach.bound reach.costs.items lasts reach.from from n cost walk reach.tree.start over.starts (subst (λ (ls : List Last). AreOver IsLink reach.costs.items ls) (sym same) over.over) some trail
 
-pub call_few : (reach : Reach) (lasts : List Last) (n : ℕ) (walk : List Link) → lasts ≡ reach.lasts.items → HasCost (cost_of reach) n → IsTrail reach.costs.items lasts reach.from n walk → length walk ≤ nodes_of reach
+pub call_few : (reach : Reach) (lasts : List Last) (n : ℕ) (walk : List Link) → lasts ≡ reach.lasts → HasCost (cost_of reach) n → IsTrail reach.costs.items lasts reach.from n walk → length walk ≤ nodes_of reach
 unfolding nodes_of
 call_few reach lasts n walk same has trail =
     let tree = subst (λ (ls : List Last). IsTree (length reach.costs.items) reach.from reach.costs.items ls) (sym same) reach.tree in
@@ -109,25 +109,25 @@ pub ended_few : (IsLink : Link → Type 0) (nodes from : ℕ) (bound : Option �
 ended_few IsLink nodes from bound state few ended = omega (arith, few, ended.tree.costs_count)
 
 pub ended_tree : (IsLink : Link → Type 0) (nodes from : ℕ) (bound : Option ℕ) (state : State) → IsEnded IsLink nodes from bound state
-    → IsTree (length state.costs.items) from state.costs.items state.lasts.items
-ended_tree IsLink nodes from bound state ended = tree_as nodes from state.costs.items state.lasts.items ended.tree
+    → IsTree (length state.costs.items) from state.costs.items state.lasts
+ended_tree IsLink nodes from bound state ended = tree_as nodes from state.costs.items state.lasts ended.tree
 
-over_of : (IsLink : Link → Type 0) (nodes from : ℕ) (bound : Option ℕ) (state : State) → IsEnded IsLink nodes from bound state → AreOver IsLink state.costs.items state.lasts.items
+over_of : (IsLink : Link → Type 0) (nodes from : ℕ) (bound : Option ℕ) (state : State) → IsEnded IsLink nodes from bound state → AreOver IsLink state.costs.items state.lasts
 over_of IsLink nodes from None state ended = (ended.spent refl).over
 over_of IsLink nodes from (Some bound) state ended = (ended.found bound refl).over
 
-pub ended_over : (IsLink : Link → Type 0) (nodes from : ℕ) (reach : Reach) (state : State) → reach.from ≡ from → reach.costs.items ≡ state.costs.items → reach.lasts.items ≡ state.lasts.items
+pub ended_over : (IsLink : Link → Type 0) (nodes from : ℕ) (reach : Reach) (state : State) → reach.from ≡ from → reach.costs.items ≡ state.costs.items → reach.lasts ≡ state.lasts
     → IsEnded IsLink nodes from reach.bound state → IsReachOver IsLink from reach
 unfolding cost_of bound_of
 ended_over IsLink nodes from reach state start costs lasts ended =
     let parts : List ℕ → List Last → Type 0
     = λ cs ls. IsTree nodes from cs ls × AreOver IsLink cs ls × ((cost : ℕ) → reach.bound ≡ Some cost → IsFound IsLink cost cs ls) × (reach.bound ≡ None → IsSpent IsLink cs ls) in
-    let moved : parts reach.costs.items reach.lasts.items
-    = subst (λ (cs : List ℕ). parts cs reach.lasts.items) (sym costs)
+    let moved : parts reach.costs.items reach.lasts
+    = subst (λ (cs : List ℕ). parts cs reach.lasts) (sym costs)
     (subst (λ (ls : List Last). parts state.costs.items ls) (sym lasts) (ended.tree, over_of IsLink nodes from reach.bound state ended, ended.found, ended.spent)) in
     record {
       starts = start;
-      knows = is_reach IsLink nodes from reach.costs.items reach.lasts.items moved.0 reach.bound reach.near moved.1 moved.2 moved.3;
+      knows = is_reach IsLink nodes from reach.costs.items reach.lasts moved.0 reach.bound reach.near moved.1 moved.2 moved.3;
       over = moved.1;
     }
 
@@ -160,6 +160,6 @@ ended_small IsLink nodes from reach state costs ended =
           omega (arith, reach.tree.small n known, same));
       there = λ n cost some.
           (let known : IsLabelled reach.costs.items n = some_labelled reach.bound reach.costs.items n cost reach.near some in
-          omega (arith, labelled_within (length reach.costs.items) reach.from reach.costs.items reach.lasts.items n reach.tree known, count));
+          omega (arith, labelled_within (length reach.costs.items) reach.from reach.costs.items reach.lasts n reach.tree known, count));
       near = ended.near;
     }

@@ -10,8 +10,12 @@ no_cost = 2 ^ 64 - 1
 unfoldable pub cost_at : List ℕ → ℕ → ℕ
 cost_at costs n = slice_index_or costs n no_cost
 
+-- nothing is known
+abbrev pub no_last : Last
+no_last = record { by = None; depth = 0 }
+
 unfoldable pub last_at : List Last → ℕ → Last
-last_at lasts n = slice_index_or lasts n (record { by = None; depth = 0 })
+last_at lasts n = slice_index_or lasts n no_last
 
 -- a walk to the node is known
 abbrev pub IsLabelled : List ℕ → ℕ → Type 0

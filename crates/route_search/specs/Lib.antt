@@ -1,6 +1,7 @@
 pub mod Answers
 pub mod Reaches
 pub mod Labels
+pub mod Lasts
 pub mod Handed
 pub mod Waiting
 pub mod States

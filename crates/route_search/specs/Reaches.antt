@@ -23,7 +23,7 @@ nodes_of reach = length reach.costs.items
 pub record IsReachOver (IsLink : Link → Type 0) (from : ℕ) (reach : Reach) : Type 0 where
   pub starts : reach.from ≡ from
   pub knows : IsReach link_view IsLink from (bound_of reach) (cost_of reach)
-  pub over : AreOver IsLink reach.costs.items reach.lasts.items
+  pub over : AreOver IsLink reach.costs.items reach.lasts
 
 -- so many different ends that cost less than the limit
 pub record AreEnds (is_end : ℕ → Bool) (cost_of_node : ℕ → Option ℕ) (count limit : ℕ) (found : List ℕ) : Type 0 where

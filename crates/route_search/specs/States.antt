@@ -21,7 +21,7 @@ abbrev pub cost_in : State → ℕ → ℕ
 cost_in state n = cost_at state.costs.items n
 
 abbrev pub last_in : State → ℕ → Last
-last_in state n = last_at state.lasts.items n
+last_in state n = last_at state.lasts n
 
 abbrev pub settled_in : State → ℕ → Bool
 settled_in state n = settled_at state.settled.items n
@@ -67,7 +67,7 @@ pub record IsEntry (nodes : ℕ) (state : State) (now cost n : ℕ) : Type 0 whe
 -- settled nodes cost at most `now`, what waits costs no less, and all known walks go over settled nodes
 pub record Grows (IsLink : Link → Type 0) (nodes : ℕ) (state : State) (now : ℕ) : Type 0 where
   pub costs_count : length state.costs.items ≡ nodes
-  pub lasts_count : length state.lasts.items ≡ nodes
+  pub lasts_count : length state.lasts ≡ nodes
   pub settled_count : length state.settled.items ≡ nodes
   pub few : nodes ≤ 400000
   pub comes : (n : ℕ) → IsReached state n → ComesBy IsLink state n (last_in state n).by
@@ -92,17 +92,17 @@ pub record IsBetween (IsLink : Link → Type 0) (nodes : ℕ) (state : State) : 
 -- a walk is known to the start alone, and it waits
 pub record IsBegun (nodes from : ℕ) (state : State) : Type 0 where
   pub costs : state.costs.items ≡ slice_set (replicate nodes no_cost) from 0
-  pub lasts : state.lasts.items ≡ replicate nodes (record { by = None; depth = 0 })
+  pub lasts : state.lasts ≡ replicate nodes (record { by = None; depth = 0 })
   pub settled : state.settled.items ≡ replicate nodes false
   pub waits : Waits state.frontier 0 from
   pub only : (cost n : ℕ) → Waits state.frontier cost n → (0 ≡ cost) × (from ≡ n)
 
 -- below the bound all is known, or there is no bound and all that can be reached is known
 pub record IsEnded (IsLink : Link → Type 0) (nodes from : ℕ) (bound : Option ℕ) (state : State) : Type 0 where
-  pub tree : IsTree nodes from state.costs.items state.lasts.items
+  pub tree : IsTree nodes from state.costs.items state.lasts
   pub near : (cost : ℕ) → bound ≡ Some cost → cost < 2 ^ 42
-  pub found : (cost : ℕ) → bound ≡ Some cost → IsFound IsLink cost state.costs.items state.lasts.items
-  pub spent : bound ≡ None → IsSpent IsLink state.costs.items state.lasts.items
+  pub found : (cost : ℕ) → bound ≡ Some cost → IsFound IsLink cost state.costs.items state.lasts
+  pub spent : bound ≡ None → IsSpent IsLink state.costs.items state.lasts
 
 -- ---- a label
 
@@ -114,7 +114,7 @@ IsQueued false old new cost node = new ≡ old
 -- the end of the link is known by it from now on
 pub record IsLowered (old new : State) (link : Link) (waits : Bool) : Type 0 where
   pub costs : new.costs.items ≡ slice_set old.costs.items link.to (cost_in old link.from + link.cost)
-  pub lasts : new.lasts.items
-      ≡ slice_set old.lasts.items link.to (record { by = Some link; depth = (last_in old link.from).depth + 1 })
+  pub lasts : new.lasts
+      ≡ slice_set old.lasts link.to (record { by = Some link; depth = (last_in old link.from).depth + 1 })
   pub settled : new.settled.items ≡ old.settled.items
   pub frontier : IsQueued waits old.frontier new.frontier (cost_in old link.from + link.cost) link.to

@@ -8,6 +8,7 @@ mod frontier;
 mod growth;
 mod handed;
 mod labels;
+mod lasts;
 mod node_scan;
 mod passed_links;
 mod queue;

@@ -103,7 +103,7 @@ fn scan_stretch<L: Ledger, E: Ends>(
     ways.graph.stretch_law();
     ways.graph.member_law();
     ways.graph.range_law();
-    let last = state.lasts[node as usize].by;
+    let last = state.lasts.get(node).by;
     if is_passed_over(ways, last, stretch.way) {
         ways.graph.detour_law();
         return Ok(());

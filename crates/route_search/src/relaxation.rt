@@ -23,17 +23,18 @@ fn queue(frontier: &mut Frontier, waits: bool, cost: u64, node: u32) -> Result<(
 pub(crate) fn lower(state: &mut State, link: &Link, waits: bool) -> Result<(), OutOfMemory>
     requires from { link.now.from < vec_len state.old.costs }
     requires to { link.now.to < vec_len state.old.costs }
-    requires lasts { vec_len state.old.lasts ≡ vec_len state.old.costs }
+    requires lasts { length state.old.lasts ≡ vec_len state.old.costs }
     requires cost { cost_in state.old link.now.from + link.now.cost < 2 ^ 64 }
     requires depth { (last_in state.old link.now.from).depth + 1 < 2 ^ 32 }
     ensures { OnOk result (IsLowered state.old state.new link.now waits) }
 {
     let cost = state.costs[link.from as usize] + u64::from(link.cost);
-    let depth = state.lasts[link.from as usize].depth + 1;
+    let depth = state.lasts.get(link.from).depth + 1;
     state.costs[link.to as usize] = cost;
-    state.lasts[link.to as usize] = Last {
+    let last = Last {
         by: Some(*link),
         depth,
     };
+    state.lasts.set(link.to, last)?;
     queue(&mut state.frontier, waits, cost, link.to)
 }

@@ -3,18 +3,18 @@
 ghost use Rattle.std.specs.Prelude.{◌≤◌, length, IfOk};
 ghost use Rattle.route_search.specs.Trails.{IsKnown, IsTrail, AreNodesBelow, ArePotentialsBelow};
 
-use crate::labels::Last;
+use crate::lasts::Lasts;
 use std::alloc::Global;
 use venue_types::{Link, List, OutOfMemory, Potential};
 
 /// The walk that is known to a node, over the last links back to the start. Takes time and memory in proportion to its links.
-pub(crate) fn walk_back(alloc: Global, lasts: &[Last], to: u32) -> Result<List<Link>, OutOfMemory>
+pub(crate) fn walk_back(alloc: Global, lasts: &Lasts, to: u32) -> Result<List<Link>, OutOfMemory>
     requires { IsKnown lasts.now to }
     ensures { IfOk result (λ walk. (known : IsKnown lasts.now to) → IsTrail known.costs lasts.now known.from to walk) }
 {
     let mut back = Vec::new(alloc);
     let mut here = to;
-    while let Some(link) = lasts[here as usize].by {
+    while let Some(link) = lasts.get(here).by {
         back.push(link)?;
         here = link.from;
     }

@@ -1,16 +1,18 @@
 //! Entries of a legal history, replayed one after the other.
 
-ghost use Rattle.std.specs.Prelude.{◌≡◌, [], ◌∷◌, ◌++◌, IfOk, OnOk};
+ghost use Rattle.std.specs.Prelude.{◌≡◌, [], ◌∷◌, ◌++◌, IfOk};
 ghost use Rattle.std.specs.Arc.{arc_value};
 ghost use Rattle.venue_hall.specs.Venues.{SeenVenue};
 ghost use Rattle.venue_hall.specs.Histories.{IsLegal, IsPublished};
+ghost use Rattle.venue_hall.specs.Act.TheVariants.{Published};
+ghost use Rattle.board_copies.specs.Replaying.{IsClosureAct};
 ghost use Rattle.board_copies.specs.Stamps.{entries_of};
 ghost use Rattle.venue_hall.specs.Openings.{HaveSettings};
 
 use board_copies::{Resumed, Resuming, first_law, following_law};
 use std::alloc::Global;
 use std::sync::Arc;
-use venue_hall::{Act, Entry, beginning_law};
+use venue_hall::{Act, Entry, Venue, beginning_law};
 use venue_types::{OutOfMemory, Settings};
 
 // The history that the first entry opens.
@@ -27,20 +29,51 @@ fn opened(alloc: Global, settings: &Arc<Settings>, entry: Entry) -> Result<Resum
     }
 }
 
-// Makes the next entry, which may follow.
-fn enter(alloc: Global, history: &mut Resuming, entry: Entry) -> Result<(), OutOfMemory>
-    requires legal { IsLegal (entries_of history.old.stamp ++ entry ∷ []) }
-    ensures entries { OnOk result (entries_of history.new.stamp ≡ entries_of history.old.stamp ++ entry ∷ []) }
-    ensures settings { history.new.version.settings ≡ history.old.version.settings }
+// Publishes a venue, which may follow.
+fn published(
+    alloc: Global,
+    history: Resuming,
+    venue: Arc<Venue>,
+    worker: u8,
+) -> Result<Resuming, OutOfMemory>
+    requires legal { IsLegal (entries_of history.stamp ++ record { worker = worker; act = Published venue } ∷ []) }
+    ensures entries { IfOk result (λ r. entries_of r.stamp ≡ entries_of history.stamp ++ record { worker = worker; act = Published venue } ∷ []) }
+    ensures settings { IfOk result (λ r. r.version.settings ≡ history.version.settings) }
 {
     following_law();
+    let awaiting = history.let_go(alloc)?;
+    match awaiting.publish(alloc, venue, worker)? {
+        Some(longer) => Ok(longer),
+        None => unreachable!(),
+    }
+}
+
+// Closes or reopens a feature, which may follow.
+fn changed(mut history: Resuming, act: Act, worker: u8) -> Result<Resuming, OutOfMemory>
+    requires legal { IsLegal (entries_of history.stamp ++ record { worker = worker; act = act } ∷ []) }
+    requires closure { IsClosureAct act }
+    ensures entries { IfOk result (λ r. entries_of r.stamp ≡ entries_of history.stamp ++ record { worker = worker; act = act } ∷ []) }
+    ensures settings { IfOk result (λ r. r.version.settings ≡ history.version.settings) }
+{
+    if history.step(act, worker)? {
+        Ok(history)
+    } else {
+        unreachable!()
+    }
+}
+
+// Makes the next entry, which may follow.
+fn entered(alloc: Global, history: Resuming, entry: Entry) -> Result<Resuming, OutOfMemory>
+    requires legal { IsLegal (entries_of history.stamp ++ entry ∷ []) }
+    ensures entries { IfOk result (λ r. entries_of r.stamp ≡ entries_of history.stamp ++ entry ∷ []) }
+    ensures settings { IfOk result (λ r. r.version.settings ≡ history.version.settings) }
+{
     let Entry { worker, act } = entry;
-    let is_made = match act {
-        Act::Published(venue) => history.publish(alloc, venue, worker)?,
-        Act::Closed(it) => history.step(Act::Closed(it), worker)?,
-        Act::Reopened(it) => history.step(Act::Reopened(it), worker)?,
-    };
-    if is_made { Ok(()) } else { unreachable!() }
+    match act {
+        Act::Published(venue) => published(alloc, history, venue, worker),
+        Act::Closed(it) => changed(history, Act::Closed(it), worker),
+        Act::Reopened(it) => changed(history, Act::Reopened(it), worker),
+    }
 }
 
 /// The board to which the entries lead.
@@ -61,7 +94,7 @@ pub(crate) fn resumed(
     };
     let mut history = opened(alloc, settings, first)?;
     for entry in entries {
-        enter(alloc, &mut history, entry)?;
+        history = entered(alloc, history, entry)?;
     }
     history.finish(alloc)
 }

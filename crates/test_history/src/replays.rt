@@ -1,8 +1,9 @@
 //! Histories of the station replayed in place, beside boards that go the same way step by step. What stands at their end was worked out by hand.
 //! Profile 0 is `walk`, 1 `wheelchair`.
 
-ghost use Rattle.std.specs.Prelude.{◌≡◌, ◌≤◌, IfOk};
+ghost use Rattle.std.specs.Prelude.{◌≡◌, ◌≤◌, IfOk, IfSome};
 ghost use Rattle.venue_state.specs.Preparing.{HasSettings};
+ghost use Rattle.venue_state.specs.Replaying.{IsClosureAct};
 
 use crate::boards::settings_until;
 use crate::profiles::{Closed, judge_rows_of};
@@ -35,26 +36,50 @@ fn any_closing(tail: u128, set: u16) -> Closing {
     }
 }
 
-// Whether the entry is made in place.
+// The history behind a closure or a reopening, and whether it was made in place.
+fn stepped(mut history: Resuming, act: Act, worker: u8) -> Result<(Option<Resuming>, bool), Fail>
+    requires { IsClosureAct act }
+    ensures { IfOk result (λ r. IfSome r.0 (λ h. h.version.settings ≡ history.version.settings)) }
+{
+    let is_made = history.step(act, worker)?;
+    Ok((Some(history), is_made))
+}
+
+// The history behind a publication, and whether it was made. Where it wasn't there is none any more, since the venue was let go before.
+fn republished(
+    alloc: Global,
+    settings: &Settings,
+    history: Resuming,
+    edits: &[Edit],
+    worker: u8,
+) -> Result<(Option<Resuming>, bool), Fail>
+    requires { history.version.settings ≡ settings.now }
+    ensures { IfOk result (λ r. IfSome r.0 (λ h. h.version.settings ≡ settings.now)) }
+{
+    let awaiting = history.let_go(alloc)?;
+    let venue = venue_of(alloc, settings, edits)?;
+    match awaiting.publish(alloc, venue, worker)? {
+        Some(longer) => Ok((Some(longer), true)),
+        None => Ok((None, false)),
+    }
+}
+
+// The history behind an entry, and whether it was made.
 fn replayed(
     alloc: Global,
     settings: &Settings,
-    history: &mut Resuming,
+    history: Resuming,
     deed: Deed,
     worker: u8,
-) -> Result<bool, Fail>
-    requires { history.old.version.settings ≡ settings.now }
-    ensures { IfOk result (λ _. history.new.version.settings ≡ settings.now) }
+) -> Result<(Option<Resuming>, bool), Fail>
+    requires { history.version.settings ≡ settings.now }
+    ensures { IfOk result (λ r. IfSome r.0 (λ h. h.version.settings ≡ settings.now)) }
 {
-    let is_made = match deed {
-        Deed::Close(tail, set) => history.step(Act::Closed(any_closing(tail, set)), worker)?,
-        Deed::Open(tail, set) => history.step(Act::Reopened(any_closing(tail, set)), worker)?,
-        Deed::Publish(edits) => {
-            let venue = venue_of(alloc, settings, edits)?;
-            history.publish(alloc, venue, worker)?
-        }
-    };
-    Ok(is_made)
+    match deed {
+        Deed::Close(tail, set) => stepped(history, Act::Closed(any_closing(tail, set)), worker),
+        Deed::Open(tail, set) => stepped(history, Act::Reopened(any_closing(tail, set)), worker),
+        Deed::Publish(edits) => republished(alloc, settings, history, edits, worker),
+    }
 }
 
 // Whether a board makes the act ready, which then is put in its place.
@@ -114,25 +139,30 @@ fn done(
     }
 }
 
+// An entry at a history, unless that has ended, and at a board.
 fn judge(
     rt: &impl Abort,
     alloc: Global,
     settings: &Settings,
-    history: &mut Resuming,
+    history: Option<Resuming>,
     board: &mut Board,
     row: &Row,
-) -> Result<(), Fail>
-    requires history { history.old.version.settings ≡ settings.now }
+) -> Result<Option<Resuming>, Fail>
+    requires history { IfSome history (λ h. h.version.settings ≡ settings.now) }
     requires board { board.old.settings ≡ settings.now }
-    ensures history { IfOk result (λ _. history.new.version.settings ≡ settings.now) }
+    ensures history { IfOk result (λ r. IfSome r (λ h. h.version.settings ≡ settings.now)) }
     ensures board { IfOk result (λ _. board.new.settings ≡ settings.now) }
 {
     let (deed, worker, is_made) = *row;
-    assert!(rt; replayed(alloc, settings, history, deed, worker)? == is_made);
+    let Some(history) = history else {
+        return Err(Fail::new("nothing follows a refused publication"));
+    };
+    let (longer, is_replayed) = replayed(alloc, settings, history, deed, worker)?;
+    assert!(rt; is_replayed == is_made);
     if worker >= 1 && worker <= 16 {
         assert!(rt; done(alloc, settings, board, deed, worker)? == is_made);
     }
-    Ok(())
+    Ok(longer)
 }
 
 // The number of the version, and what is closed at it.
@@ -151,7 +181,7 @@ fn judge_end(rt: &impl Abort, alloc: Global, board: &Board, number: u32, closed:
     }
 }
 
-// These entries, one after the other, behind the opening of the station, under a last version.
+// These entries, one after the other, behind the opening of the station, under a last version. A refused publication is the last of them.
 fn judge_history(
     rt: &impl Abort,
     alloc: Global,
@@ -163,12 +193,14 @@ fn judge_history(
     let settings = Arc::new(alloc, settings_until(alloc, last_version)?)?;
     let venue = venue_of(alloc, &settings, &[])?;
     let mut board = Board::first(alloc, Arc::try_clone(&venue)?, Arc::try_clone(&settings)?)?;
-    let mut history = Resuming::first(alloc, Arc::try_clone(&settings)?, venue)?;
+    let mut history = Some(Resuming::first(alloc, Arc::try_clone(&settings)?, venue)?);
     for row in rows {
-        judge(rt, alloc, &settings, &mut history, &mut board, row)?;
+        history = judge(rt, alloc, &settings, history, &mut board, row)?;
     }
-    let resumed = history.finish(alloc)?;
-    judge_end(rt, alloc, &resumed.held.board, number, closed);
+    if let Some(history) = history {
+        let resumed = history.finish(alloc)?;
+        judge_end(rt, alloc, &resumed.held.board, number, closed);
+    }
     judge_end(rt, alloc, &board, number, closed);
     Ok(())
 }
@@ -196,13 +228,25 @@ fn histories_are_replayed_in_place(rt: HostRuntime) -> Result<(), Fail> {
             (Deed::Open(0x0301, 1), 2, false),
             (Deed::Open(0x0301, 0), 2, false),
             (Deed::Open(0x0999, 3), 2, false),
-            (Deed::Publish(&[]), 0, false),
-            (Deed::Publish(&[]), 17, false),
             (Deed::Publish(&[]), 3, true),
         ],
         6,
         &[(0x0024, &[]), (0x0301, &["wheelchair"])],
     )?;
+    // No worker 0 and no worker 17 publishes.
+    for worker in [0u8, 17] {
+        judge_history(
+            &rt,
+            alloc,
+            u32::MAX,
+            &[
+                (Deed::Close(0x0301, 2), 1, true),
+                (Deed::Publish(&[]), worker, false),
+            ],
+            2,
+            &[(0x0301, &["wheelchair"])],
+        )?;
+    }
     // A folder without lifts drops the lift, and the ramp stays closed for whom it was.
     judge_history(
         &rt,

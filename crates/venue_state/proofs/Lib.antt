@@ -18,3 +18,4 @@ pub mod FirstEntries
 pub mod NextEntries
 pub mod Refusing
 pub mod Stands
+pub mod Outgoings

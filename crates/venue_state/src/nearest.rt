@@ -1,13 +1,13 @@
 //! Questions for the nearest amenities of a category.
 
-ghost use Rattle.std.specs.Prelude.{◌≡◌, ◌<◌, ◌≤◌, All, IfOk, Some, length, map, option_map};
+ghost use Rattle.std.specs.Prelude.{◌≡◌, ◌<◌, ◌≤◌, All, IfOk, length, map, option_map};
 ghost use Rattle.std.specs.List.Sorted.{IsStrictlyIncreasing};
 ghost use Rattle.venue_types.specs.declared.query.Ask.TheVariants as ask;
 ghost use Rattle.route_search.specs.Nodes.{nodes};
 ghost use Rattle.nearest_place.specs.Near.{IsNear};
 ghost use Rattle.venue_history.specs.Answers.{AnswersAsk};
 ghost use Rattle.venue_history.specs.Nearest.{AreCandidates, IsNearTrip, if_asked};
-ghost use Rattle.venue_history.specs.Ways.{Usable, mark_of, name_of};
+ghost use Rattle.venue_history.specs.Ways.{Usable, name_of};
 ghost use Rattle.venue_state.specs.Nearing.{TellsNear, told_row};
 
 use crate::board::Board;
@@ -17,9 +17,7 @@ use route_search::passable_law;
 use std::alloc::Global;
 use std::marker::Brand;
 use std::sync::ledger::{Blank, Ledger};
-use venue_types::{
-    FeatureId, List, Mark, NearQuery, NearRow, NearTold, OutOfMemory, Potential, Reply, Text, Which,
-};
+use venue_types::{FeatureId, List, NearQuery, NearRow, NearTold, OutOfMemory, Reply, Text, Which};
 use walk_laws::Steps;
 
 impl Board {
@@ -96,7 +94,7 @@ impl Board {
             category: asked.category().copy(alloc)?,
             profile: asked.profile().copy(alloc)?,
             places: self.near_rows(alloc, near.rows.as_slice())?,
-            potentials: self.near_marks(alloc, certificate, near.potentials.as_slice())?,
+            potentials: self.shown(alloc, certificate, near.potentials.as_slice())?,
             reached: self.near_reached(alloc, certificate, &near.reached)?,
         })
     }
@@ -123,23 +121,6 @@ impl Board {
         })
     }
 
-    // Potentials as marks, where they were asked for.
-    fn near_marks(
-        &self,
-        alloc: Global,
-        certificate: bool,
-        listed: &[Potential],
-    ) -> Result<Option<List<Mark>>, OutOfMemory>
-        ensures { IfOk result (λ told. told ≡ if_asked certificate (Some (map (mark_of self.now) listed.now))) }
-    {
-        if certificate {
-            let marks = self.potentials(alloc, listed)?;
-            Ok(Some(marks))
-        } else {
-            Ok(None)
-        }
-    }
-
     // The names of what is reached, where that was asked for and is there.
     fn near_reached(
         &self,
@@ -150,14 +131,7 @@ impl Board {
         ensures { IfOk result (λ told. told ≡ if_asked certificate (option_map (map (name_of self.now)) reached.now)) }
     {
         match reached {
-            Some(nodes) => {
-                if certificate {
-                    let names = self.names(alloc, nodes.as_slice())?;
-                    Ok(Some(names))
-                } else {
-                    Ok(None)
-                }
-            }
+            Some(nodes) => self.reached(alloc, certificate, nodes.as_slice()),
             None => Ok(None),
         }
     }

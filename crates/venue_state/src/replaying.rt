@@ -1,15 +1,15 @@
 //! A version in the making, changed in place entry by entry.
 
-ghost use Rattle.std.specs.Prelude.{◌≡◌, IfOk, OnErr};
+ghost use Rattle.std.specs.Prelude.{◌≡◌, IfOk};
 ghost use Rattle.std.specs.Arc.{arc_value};
 ghost use Rattle.venue_history.specs.Versions.{opening};
-ghost use Rattle.venue_history.specs.declared.entry.Act.TheVariants.{Published};
-ghost use Rattle.venue_state.specs.Replaying.{IsClosureAct, IsEntered};
+ghost use Rattle.venue_state.specs.Replaying.{IsClosureAct, IsEntered, IsLeft};
 
 use crate::act_checks::{has_settings, may_follow};
 use crate::board::Board;
+use crate::outgoing::Outgoing;
 use crate::stand::Stand;
-use crate::stand_after::{After, following, make};
+use crate::stand_after::make;
 use std::alloc::Global;
 use std::marker::Model;
 use std::sync::Arc;
@@ -19,7 +19,7 @@ use venue_types::{OutOfMemory, Settings};
 /// A version of which only the last is to be asked: the entries of a kept history are made in it one after the other.
 #[derive(Drop)]
 pub struct Replaying {
-    stand: Stand,
+    pub(crate) stand: Stand,
 }
 
 impl Model for Replaying {
@@ -63,25 +63,11 @@ impl Replaying {
         true
     }
 
-    /// Publishes a venue of this version's settings by a worker, and tells whether that may be done at it; else, and where memory runs out, the
-    /// version stays.
-    pub fn publish(
-        &mut self,
-        alloc: Global,
-        venue: Arc<Venue>,
-        worker: u8,
-    ) -> Result<bool, OutOfMemory>
-        requires { (arc_value venue).settings ≡ self.old.settings }
-        ensures entered { IfOk result (λ is_made. IsEntered self.old (record { worker = worker; act = Published venue }) is_made self.new) }
-        ensures kept { OnErr result (self.new ≡ self.old) }
+    /// Lets the venue go, so that only a publication goes on from what is left. Takes memory in proportion to what is closed.
+    pub fn let_go(self, alloc: Global) -> Result<Outgoing, OutOfMemory>
+        ensures { IfOk result (IsLeft self) }
     {
-        let act = Act::Published(venue);
-        if !may_follow(&self.stand, &act, worker) {
-            return Ok(false);
-        }
-        let After { stand, .. } = following(alloc, &self.stand, &act)?;
-        self.stand = stand;
-        Ok(true)
+        self.stand.outgoing(alloc)
     }
 
     /// The board of this version.

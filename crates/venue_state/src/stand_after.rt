@@ -3,16 +3,18 @@
 ghost use Rattle.std.specs.Prelude.{◌≡◌, ◌+◌, ◌<◌, IfOk};
 ghost use Rattle.std.specs.Arc.{arc_value};
 ghost use Rattle.route_search.specs.Nodes.{closables};
-ghost use Rattle.venue_history.specs.Changes.{dropped_ids};
-ghost use Rattle.venue_history.specs.Versions.{after, still_closed};
-ghost use Rattle.venue_state.specs.Boards.{IsStand, closed_by, version_of};
+ghost use Rattle.venue_history.specs.declared.entry.Act.TheVariants.{Published};
+ghost use Rattle.venue_history.specs.Closed.{Version};
+ghost use Rattle.venue_history.specs.Versions.{after};
+ghost use Rattle.venue_state.specs.Boards.{IsStand, version_of};
 ghost use Rattle.venue_state.specs.Preparing.{HasSettings, dropped_by};
-ghost use Rattle.venue_state.specs.Replaying.{IsClosureAct};
-ghost use Rattle.venue_state.specs.Tallies.{IsTally, remarked};
+ghost use Rattle.venue_state.specs.Replaying.{IsClosureAct, IsLeft};
+ghost use Rattle.venue_state.specs.Tallies.{remarked};
 
 use crate::closures::{Carried, carry_over};
+use crate::outgoing::Outgoing;
 use crate::stand::Stand;
-use crate::tally::{Tally, mark};
+use crate::tally::mark;
 use std::alloc::Global;
 use std::sync::Arc;
 use venue_history::{Act, Venue};
@@ -91,39 +93,32 @@ fn change(stand: &mut Stand, id: FeatureId, profiles: ProfileSet)
     stand.number += 1;
 }
 
-// After a publication: what is closed and can be closed still stays so, for the same profiles.
+// After a publication.
 fn published(alloc: Global, stand: &Stand, venue: &Arc<Venue>) -> Result<After, OutOfMemory>
     requires stands { IsStand stand.now }
     requires room { (version_of stand.now).number < (version_of stand.now).settings.last_version }
     requires settings { (arc_value venue.now).settings ≡ (version_of stand.now).settings }
     ensures stands { IfOk result (λ a. IsStand a.stand) }
-    ensures next { IfOk result (λ a. version_of a.stand ≡ record (version_of stand.now) { number = (version_of stand.now).number + 1; features = (arc_value venue.now).features; closed = still_closed (version_of stand.now) (arc_value venue.now).features }) }
-    ensures dropped { IfOk result (λ a. a.dropped ≡ dropped_ids (version_of stand.now) (arc_value venue.now).features) }
+    ensures next { IfOk result (λ a. version_of a.stand ≡ after (version_of stand.now) (Published venue.now)) }
+    ensures dropped { IfOk result (λ a. a.dropped ≡ dropped_by (version_of stand.now) (Published venue.now)) }
 {
-    stand.order_law();
-    let closed = stand.closed_list(alloc)?;
-    let Carried { tally, dropped } = carry_over(alloc, venue.graph(), closed.as_slice())?;
-    let stand = next_stand(stand, venue, tally)?;
-    Ok(After { stand, dropped })
+    let left = stand.outgoing(alloc)?;
+    succeeding(alloc, &left, venue)
 }
 
-// What stands next over a venue, with what is marked of it.
-#[tactic(auto, unfolding(crate::specs::Boards::version_of))]
-fn next_stand(stand: &Stand, venue: &Arc<Venue>, tally: Tally) -> Result<Stand, OutOfMemory>
-    requires stands { IsStand stand.now }
-    requires room { (version_of stand.now).number < (version_of stand.now).settings.last_version }
-    requires settings { (arc_value venue.now).settings ≡ (version_of stand.now).settings }
-    requires tallied { IsTally (closables (arc_value venue.now).features) tally }
-    ensures stands { IfOk result (λ next. IsStand next) }
-    ensures next { IfOk result (λ next. version_of next ≡ record (version_of stand.now) { number = (version_of stand.now).number + 1; features = (arc_value venue.now).features; closed = closed_by tally.marks (closables (arc_value venue.now).features) }) }
+/// After a publication behind a version of which this is left: what is closed and can be closed still stays so, for the same profiles.
+pub(crate) fn succeeding(
+    alloc: Global,
+    left: &Outgoing,
+    venue: &Arc<Venue>,
+) -> Result<After, OutOfMemory>
+    requires room { left.now.number < (arc_value left.now.settings).last_version }
+    requires settings { (arc_value venue.now).settings ≡ arc_value left.now.settings }
+    ensures stands { IfOk result (λ a. IsStand a.stand) }
+    ensures next { IfOk result (λ a. (v : Version) → IsLeft v left.now → version_of a.stand ≡ after v (Published venue.now)) }
+    ensures dropped { IfOk result (λ a. (v : Version) → IsLeft v left.now → a.dropped ≡ dropped_by v (Published venue.now)) }
 {
-    let _last = stand.settings.last_version;
-    let venue = Arc::try_clone(venue)?;
-    let settings = Arc::try_clone(&stand.settings)?;
-    Ok(Stand {
-        number: stand.number + 1,
-        venue,
-        tally,
-        settings,
-    })
+    let Carried { tally, dropped } = carry_over(alloc, venue.graph(), left.closed.as_slice())?;
+    let stand = left.next_stand(venue, tally)?;
+    Ok(After { stand, dropped })
 }

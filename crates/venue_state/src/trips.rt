@@ -144,8 +144,8 @@ impl Board {
         }
     }
 
-    // Potentials as marks, where they were asked for.
-    fn shown(
+    /// Potentials as marks, where they were asked for.
+    pub(crate) fn shown(
         &self,
         alloc: Global,
         certificate: bool,
@@ -161,8 +161,8 @@ impl Board {
         }
     }
 
-    // The names of nodes, where they were asked for.
-    fn reached(
+    /// The names of nodes, where they were asked for.
+    pub(crate) fn reached(
         &self,
         alloc: Global,
         certificate: bool,

@@ -1,12 +1,10 @@
-use Rattle.std.proofs.Common.{◌≡◌, ◌<◌, length, ap, arith}
+use Rattle.std.proofs.Common.{ap}
 use Rattle.route_search.specs.declared.labels.Last.{Last}
 use Rattle.link_graph.specs.Graphs.{network}
 use Rattle.link_graph.specs.Marking.{marked}
 use Rattle.route_search.specs.Scans.{CanPass, node_count}
-use Rattle.route_search.specs.States.{last_in}
 use Rattle.route_search.proofs.Covers.{out_from}
 use Rattle.route_search.proofs.Detours.{passed_over}
-use Rattle.route_search.proofs.Looked.{last_read}
 use Rattle.route_search.proofs.Walked.{markable}
 use Rattle.route_search.proofs.node_scan.scan_stretch.Goals as goal
 
@@ -15,9 +13,7 @@ is_passed_over-requires-clause-way g c = markable (network c.args.ways.now.graph
 
 pub returns-then-is_passed_over-clause-scanned : goal.returns-then-is_passed_over-clause-scanned
 returns-then-is_passed_over-clause-scanned g c =
-    let within : c.args.node < length c.args.state.now.lasts.items = omega (arith, c.requires.node, c.requires.amid.tree.lasts_count) in
-    let last : c.index.result.now ≡ last_in c.args.state.now c.args.node = last_read c.args.state.now.lasts.items c.args.node _ _ within c.index.ensures in
     passed_over (network c.args.ways.now.graph.now) (CanPass c.args.ways.now) (node_count c.args.ways.now.graph.now) c.args.node c.args.stretch.now _ c.args.state.now
     (c.detour_law.ensures (marked (network c.args.ways.now.graph.now) c.args.ways.now.marks.now c.args.ways.now.number) c.args.ways.now.profile.now)
     (λ l is. c.range_law.ensures.apart l is.there) (out_from (network c.args.ways.now.graph.now) c.args.node) (c.stretch_law.ensures c.args.node c.requires.node) c.requires.stretch c.requires.amid
-    (ap (λ (y : Last). y.by) last) (c.is_passed_over.ensures c.if-is_passed_over.true)
+    (ap (λ (y : Last). y.by) c.get-last.ensures) (c.is_passed_over.ensures c.if-is_passed_over.true)

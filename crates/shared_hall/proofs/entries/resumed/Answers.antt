@@ -17,8 +17,8 @@ opened-requires-clause-settings c =
     let split : c.in-Some.first ∷ rest ≡ c.args.entries.items = search rules in
     λ venue is. c.requires.settings c.in-Some.first venue (first_in c.in-Some.first rest c.args.entries.items split) is
 
-pub enter-requires : goal.enter-requires
-enter-requires c =
+pub entered-requires : goal.entered-requires
+entered-requires c =
     let done = entries_of c.loop-entry.history.stamp in
     let rest = into_iter_items c.next-in-loop-entry.new.self in
     let taken : into_iter_items c.loop-entry.entry-iterator ≡ c.in-Some-entry.entry ∷ rest = c.in-Some-entry.ensures.steps.0 in
