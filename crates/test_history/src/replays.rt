@@ -50,7 +50,7 @@ fn republished(
     alloc: Global,
     settings: &Settings,
     history: Resuming,
-    edits: &[Edit],
+    edits: &'static [Edit],
     worker: u8,
 ) -> Result<(Option<Resuming>, bool), Fail>
     requires { history.version.settings ≡ settings.now }
