@@ -2,11 +2,11 @@
 
 mod table;
 
-use exact_json::{Arena, JsonFault, Tree, read};
+use exact_json::{Arena, JsonFault, Members, Tree, read};
 use std::alloc::Global;
 use std::process::Abort;
 use std::test::Fail;
-use table::{STRINGS, TABLE};
+use table::{DEPTHS, LISTS, MARKS, NUMBERS, OBJECTS, STRINGS, TEXTS, WORDS};
 
 #[derive(Clone, Copy, PartialEq, Eq)]
 pub(crate) enum Answer {
@@ -44,10 +44,32 @@ fn judge_texts(rt: &impl Abort, alloc: Global, rows: &[(&[u8], &[u8])]) {
     }
 }
 
+fn judge_words_and_numbers(rt: &impl Abort, alloc: Global) {
+    judge_answers(rt, alloc, &WORDS);
+    judge_answers(rt, alloc, &NUMBERS);
+}
+
+fn judge_strings(rt: &impl Abort, alloc: Global) {
+    judge_answers(rt, alloc, &TEXTS);
+    judge_texts(rt, alloc, &STRINGS);
+}
+
+fn judge_lists_and_objects(rt: &impl Abort, alloc: Global) {
+    judge_answers(rt, alloc, &LISTS);
+    judge_answers(rt, alloc, &OBJECTS);
+}
+
+fn judge_marks_and_depths(rt: &impl Abort, alloc: Global) {
+    judge_answers(rt, alloc, &MARKS);
+    judge_answers(rt, alloc, &DEPTHS);
+}
+
 #[test]
 fn texts(rt: HostRuntime) {
-    judge_answers(&rt, rt.alloc(), &TABLE);
-    judge_texts(&rt, rt.alloc(), &STRINGS);
+    judge_words_and_numbers(&rt, rt.alloc());
+    judge_strings(&rt, rt.alloc());
+    judge_lists_and_objects(&rt, rt.alloc());
+    judge_marks_and_depths(&rt, rt.alloc());
 }
 
 // A list of two.
@@ -58,14 +80,24 @@ fn judge_list(rt: &impl Abort, list: &[Tree]) {
 }
 
 // The members of an object with one name twice.
-fn judge_members(rt: &impl Abort, tree: &Tree) -> Result<(), Fail> {
-    let object = tree.as_object().ok_or("object")?;
+fn judge_members(rt: &impl Abort, object: &Members) {
     assert!(rt; object.as_slice().len() == 3);
     assert!(rt; object.as_slice()[0].value.as_number() == Some(b"1e+2".as_slice()));
+    assert!(rt; object.get(b"c").is_none());
+}
+
+// Of two members with that name the last counts.
+fn judge_last(rt: &impl Abort, object: &Members) -> Result<(), Fail> {
     let last = object.get(b"a").ok_or("a")?;
     assert!(rt; last.as_text() == Some(b"x".as_slice()));
+    Ok(())
+}
+
+fn judge_object(rt: &impl Abort, tree: &Tree) -> Result<(), Fail> {
+    let object = tree.as_object().ok_or("object")?;
+    judge_members(rt, object);
+    judge_last(rt, object)?;
     judge_list(rt, object.get(b"b").ok_or("b")?.as_items().ok_or("list")?);
-    assert!(rt; object.get(b"c").is_none());
     Ok(())
 }
 
@@ -75,7 +107,7 @@ fn parts(rt: HostRuntime) -> Result<(), Fail> {
     let tree = read(&arena, b"{\"a\":1e+2,\"b\":[true,null],\"a\":\"x\"}")
         .ok()
         .ok_or("read")?;
-    judge_members(&rt, &tree)
+    judge_object(&rt, &tree)
 }
 
 // Brackets by the hundred thousand, which no recursion would survive.
