@@ -5,7 +5,6 @@ mod table;
 use exact_json::{Arena, Tree, read};
 use geo_shapes::{ReadGeometry, line, point, shape};
 use std::alloc::Global;
-use std::process::Abort;
 use std::test::Fail;
 use table::TABLE;
 use venue_types::{Line, OutOfMemory, Point, Shape};
@@ -98,16 +97,12 @@ fn seen(alloc: Global, kind: Kind, tree: &Tree) -> Result<Seen, OutOfMemory> {
     }
 }
 
-fn judge(rt: &impl Abort, alloc: Global, rows: &[(Kind, &[u8], Seen)]) -> Result<(), Fail> {
-    for (kind, text, wanted) in rows {
-        let arena = Arena::new(alloc);
-        let tree = read(&arena, text)?;
-        assert!(rt; seen(alloc, *kind, &tree)? == *wanted);
-    }
-    Ok(())
-}
-
 #[test]
 fn geometries(rt: HostRuntime) -> Result<(), Fail> {
-    judge(&rt, rt.alloc(), &TABLE)
+    for (kind, text, wanted) in &TABLE {
+        let arena = Arena::new(rt.alloc());
+        let tree = read(&arena, text)?;
+        assert!(rt; seen(rt.alloc(), *kind, &tree)? == *wanted);
+    }
+    Ok(())
 }
