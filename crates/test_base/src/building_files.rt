@@ -1,7 +1,5 @@
 //! The sizes of two buildings' files, and three of their features, worked out by hand.
 
-ghost use Rattle.std.specs.Prelude.{◌<◌, ◌≤◌};
-
 use gen_text::gen_files;
 use std::alloc::Global;
 use std::process::Abort;
@@ -54,39 +52,67 @@ fn text_of(files: &Files, file: usize) -> Option<&[u8]> {
     }
 }
 
+fn len_of(files: &Files, file: usize) -> Option<usize> {
+    match text_of(files, file) {
+        Some(text) => Some(text.len()),
+        None => None,
+    }
+}
+
+// How many bytes a file is to have, none where it is to be absent.
+fn size_of(sizes: &[(usize, usize)], file: usize) -> Option<usize> {
+    for (number, size) in sizes {
+        if *number == file {
+            return Some(*size);
+        }
+    }
+    None
+}
+
 fn judge_sizes(
     rt: &impl Abort,
     alloc: Global,
     levels: u8,
     sizes: &[(usize, usize)],
-) -> Result<(), Fail>
-    requires { (0 < levels) × (levels ≤ 200) }
-{
+) -> Result<(), Fail> {
+    if levels == 0 || levels > 200 {
+        return Err(Fail::new("no such building"));
+    }
     let files = gen_files(alloc, levels)?;
     assert!(rt; files.slots.len() == 17);
     for file in 0..17 {
-        let wanted = sizes.iter().find(|size| size.0 == file);
-        let text = text_of(&files, file);
-        assert!(rt; text.map(|text| text.len()) == wanted.map(|size| size.1));
+        assert!(rt; len_of(&files, file) == size_of(sizes, file));
     }
     Ok(())
 }
 
-#[test]
-fn files_are_as_counted(rt: HostRuntime) -> Result<(), Fail> {
-    let alloc = rt.alloc();
-    for (levels, sizes) in SIZES {
-        judge_sizes(&rt, alloc, levels, sizes)?;
+fn judge_buildings(
+    rt: &impl Abort,
+    alloc: Global,
+    rows: &[(u8, &[(usize, usize)])],
+) -> Result<(), Fail> {
+    for (levels, sizes) in rows {
+        judge_sizes(rt, alloc, *levels, sizes)?;
     }
-    let files = gen_files(alloc, 2)?;
-    for (file, first, wanted) in PARTS {
-        let text = text_of(&files, file).expect(&rt, "a file");
-        let stands = if first {
+    Ok(())
+}
+
+fn judge_parts(rt: &impl Abort, files: &Files, rows: &[(usize, bool, &[u8])]) {
+    for (file, first, wanted) in rows {
+        let text = text_of(files, *file).expect(rt, "a file");
+        let stands = if *first {
             text.starts_with(wanted)
         } else {
             text.ends_with(wanted)
         };
         assert!(rt; stands);
     }
+}
+
+#[test]
+fn files_are_as_counted(rt: HostRuntime) -> Result<(), Fail> {
+    judge_buildings(&rt, rt.alloc(), &SIZES)?;
+    let files = gen_files(rt.alloc(), 2)?;
+    judge_parts(&rt, &files, &PARTS);
     Ok(())
 }

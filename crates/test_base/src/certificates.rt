@@ -103,22 +103,33 @@ const NO_TABLES: [(&str, u64); 10] = [
     (ONE, 3),
 ];
 
-fn refuse_tables(rt: &impl Abort, alloc: Global) {
-    for (text, line) in &NO_TABLES {
+fn refuse_tables(rt: &impl Abort, alloc: Global, rows: &[(&str, u64)]) {
+    for (text, line) in rows {
         assert!(rt; matches!(table_of(alloc, text), Err(n) if n == *line));
-    }
-    for link in BAD_LINKS {
-        let text = format!(in alloc; "{ONE}{link}end\n").expect(rt, "memory");
-        assert!(rt; matches!(table_of(alloc, &text), Err(3)));
     }
 }
 
-// A table without nodes, and one as it is written.
-fn judge_tables(rt: &impl Abort, alloc: Global, table: &Table)
-    requires { FitsTable table.now }
-{
+fn refuse_link(rt: &impl Abort, alloc: Global, link: &str) {
+    let text = format!(in alloc; "{ONE}{link}end\n").expect(rt, "memory");
+    assert!(rt; matches!(table_of(alloc, &text), Err(3)));
+}
+
+fn refuse_links(rt: &impl Abort, alloc: Global, links: &[&str]) {
+    for link in links {
+        refuse_link(rt, alloc, link);
+    }
+}
+
+// A table without nodes.
+fn judge_empty(rt: &impl Abort, alloc: Global) {
     let empty = table_of(alloc, "imdf-links 1\nend\n").expect(rt, "a table");
     assert!(rt; priced(alloc, "imdf-walk 1\nfrom 0\nend\n", &empty) == Err(1));
+}
+
+// A table as it is written.
+fn judge_written(rt: &impl Abort, alloc: Global, table: &Table)
+    requires { FitsTable table.now }
+{
     let written = write_table(alloc, table).expect(rt, "memory");
     assert!(rt; written.as_slice() == THREE.as_bytes());
 }
@@ -165,9 +176,11 @@ fn judge_answers(rt: &impl Abort, alloc: Global, table: &Table)
 #[test]
 fn judges_texts(rt: HostRuntime) {
     let alloc = rt.alloc();
-    refuse_tables(&rt, alloc);
+    refuse_tables(&rt, alloc, &NO_TABLES);
+    refuse_links(&rt, alloc, &BAD_LINKS);
+    judge_empty(&rt, alloc);
     let table = table_of(alloc, THREE).expect(&rt, "a table");
-    judge_tables(&rt, alloc, &table);
+    judge_written(&rt, alloc, &table);
     judge_prices(&rt, alloc, &table);
     judge_answers(&rt, alloc, &table);
     table_law();

@@ -13,38 +13,34 @@ fn quoted(alloc: Global, text: &[u8]) -> Result<Vec<u8>, AllocError> {
     draft.finish().ok_or(AllocError)
 }
 
+// A text, and what is written of it.
+static TEXTS: [(&[u8], &[u8]); 11] = [
+    (b"", b"\"\""),
+    (b"plain", b"\"plain\""),
+    (b"a\"b\\c/", b"\"a\\\"b\\\\c/\""),
+    (
+        b"\x01\x1f\x0a\x00d\x7f",
+        b"\"\\u0001\\u001f\\u000a\\u0000d\x7f\"",
+    ),
+    (
+        b"\xc3\xbc\xe2\x80\xa8\xf0\x9f\x98\x80",
+        b"\"\xc3\xbc\xe2\x80\xa8\xf0\x9f\x98\x80\"",
+    ),
+    (b"12345678\"", b"\"12345678\\\"\""),
+    (b"1234567\\123456789", b"\"1234567\\\\123456789\""),
+    (b"sixteen bytes ok\x0a", b"\"sixteen bytes ok\\u000a\""),
+    (b"\"", b"\"\\\"\""),
+    (b"\\\\", b"\"\\\\\\\\\""),
+    (
+        b"\x00\x01\x02\x03\x04\x05\x06\x07\x08\x09\x0a\x0b\x0c\x0d\x0e\x0f\x10\x11\x12\x13\x14\x15\x16\x17\x18\x19\x1a\x1b\x1c\x1d\x1e\x1f",
+        b"\"\\u0000\\u0001\\u0002\\u0003\\u0004\\u0005\\u0006\\u0007\\u0008\\u0009\\u000a\\u000b\\u000c\\u000d\\u000e\\u000f\\u0010\\u0011\\u0012\\u0013\\u0014\\u0015\\u0016\\u0017\\u0018\\u0019\\u001a\\u001b\\u001c\\u001d\\u001e\\u001f\"",
+    ),
+];
+
 #[test]
 fn writes_texts_between_quotes(rt: HostRuntime) -> Result<(), Fail> {
-    let table = [
-        (b"".as_slice(), b"\"\"".as_slice()),
-        (b"plain".as_slice(), b"\"plain\"".as_slice()),
-        (b"a\"b\\c/".as_slice(), b"\"a\\\"b\\\\c/\"".as_slice()),
-        (
-            b"\x01\x1f\x0a\x00d\x7f".as_slice(),
-            b"\"\\u0001\\u001f\\u000a\\u0000d\x7f\"".as_slice(),
-        ),
-        (
-            b"\xc3\xbc\xe2\x80\xa8\xf0\x9f\x98\x80".as_slice(),
-            b"\"\xc3\xbc\xe2\x80\xa8\xf0\x9f\x98\x80\"".as_slice(),
-        ),
-        (b"12345678\"".as_slice(), b"\"12345678\\\"\"".as_slice()),
-        (
-            b"1234567\\123456789".as_slice(),
-            b"\"1234567\\\\123456789\"".as_slice(),
-        ),
-        (
-            b"sixteen bytes ok\x0a".as_slice(),
-            b"\"sixteen bytes ok\\u000a\"".as_slice(),
-        ),
-        (b"\"".as_slice(), b"\"\\\"\"".as_slice()),
-        (b"\\\\".as_slice(), b"\"\\\\\\\\\"".as_slice()),
-        (
-            b"\x00\x01\x02\x03\x04\x05\x06\x07\x08\x09\x0a\x0b\x0c\x0d\x0e\x0f\x10\x11\x12\x13\x14\x15\x16\x17\x18\x19\x1a\x1b\x1c\x1d\x1e\x1f".as_slice(),
-            b"\"\\u0000\\u0001\\u0002\\u0003\\u0004\\u0005\\u0006\\u0007\\u0008\\u0009\\u000a\\u000b\\u000c\\u000d\\u000e\\u000f\\u0010\\u0011\\u0012\\u0013\\u0014\\u0015\\u0016\\u0017\\u0018\\u0019\\u001a\\u001b\\u001c\\u001d\\u001e\\u001f\"".as_slice(),
-        ),
-    ];
-    for (text, wanted) in table {
-        assert!(rt; quoted(rt.alloc(), text)?.as_slice() == wanted);
+    for (text, wanted) in &TEXTS {
+        assert!(rt; quoted(rt.alloc(), text)?.as_slice() == *wanted);
     }
     Ok(())
 }

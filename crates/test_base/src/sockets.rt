@@ -109,6 +109,13 @@ fn for_any_thread<T: Send>(value: T) -> T
     value
 }
 
+// A client at an address.
+fn client_of<R: Net<Stream = TcpStream>>(rt: &R, address: &str) -> io::Result<TcpStream> {
+    let client = TcpStream::connect(rt, address)?;
+    client.set_read_timeout(Some(Duration::from_secs(5)))?;
+    Ok(client)
+}
+
 // Both ends of a connection: of the one who accepted it, and of the one who asked for it.
 fn connection<'a, R: Net<Listener = TcpListener, Stream = TcpStream> + Clock + Sync>(
     rt: &'a R,
@@ -119,8 +126,7 @@ fn connection<'a, R: Net<Listener = TcpListener, Stream = TcpStream> + Clock + S
     if doors.bind(address.as_str()).is_err() {
         return Err(io::Error::from(ErrorKind::AddrInUse));
     }
-    let client = TcpStream::connect(rt, address.as_str())?;
-    client.set_read_timeout(Some(Duration::from_secs(5)))?;
+    let client = client_of(rt, address.as_str())?;
     match doors.accept() {
         Ok(link) => Ok((link, client)),
         Err(_) => Err(io::Error::from(ErrorKind::Other)),
@@ -173,18 +179,27 @@ fn answer_at_once<L: Stream, R: Abort + Clock>(
     Ok(())
 }
 
-// All that is asked of a connection, up to its end.
-fn exchange<L: Stream + Drop, R: Abort + Clock>(
+// All that is asked of a connection.
+fn talk<L: Stream, R: Abort + Clock>(
     rt: &R,
-    mut link: L,
-    mut client: TcpStream,
+    link: &mut L,
+    client: &mut TcpStream,
 ) -> Result<(), Fail> {
-    give_back(rt, &mut link, &mut client, b"twenty bytes of text")?;
-    give_back(rt, &mut link, &mut client, b", seventeen more.")?;
+    give_back(rt, link, client, b"twenty bytes of text")?;
+    give_back(rt, link, client, b", seventeen more.")?;
     let mut back = [0; 37];
     client.read_exact(&mut back)?;
     assert!(rt; back.as_slice() == b"twenty bytes of text, seventeen more.".as_slice());
-    answer_at_once(rt, &mut link, &mut client)?;
+    answer_at_once(rt, link, client)
+}
+
+// The same, and its end.
+fn exchange<L: Stream, R: Abort + Clock>(
+    rt: &R,
+    link: &mut L,
+    mut client: TcpStream,
+) -> Result<(), Fail> {
+    talk(rt, link, &mut client)?;
     drop(client);
     assert!(rt; link.read(&mut [0; 64]) == Ok(0));
     assert!(rt; link.fault_count() == 0);
@@ -196,33 +211,53 @@ fn a_listener_takes_a_connection_and_its_bytes(rt: HostRuntime) -> Result<(), Fa
     let address = free_address(&rt, rt.alloc())?;
     let mut doors = for_any_thread(TcpDoors::new(&rt));
     doors.bind(address.as_str()).expect(&rt, "a bind");
-    let client = TcpStream::connect(&rt, address.as_str())?;
-    client.set_read_timeout(Some(Duration::from_secs(5)))?;
-    let link = for_any_thread(doors.accept().expect(&rt, "a connection"));
-    exchange(&rt, link, client)?;
+    let client = client_of(&rt, address.as_str())?;
+    let mut link = for_any_thread(doors.accept().expect(&rt, "a connection"));
+    exchange(&rt, &mut link, client)?;
     assert!(rt; doors.fault_count() == 0);
     Ok(())
 }
 
-#[test]
-fn what_the_system_refuses_is_a_fault(rt: HostRuntime) -> Result<(), Fail> {
-    let (listener, address) = listen(&rt, rt.alloc())?;
-    let mut doors = TcpDoors::new(&rt);
-    assert!(rt; doors.bind(address.as_str()).is_err());
+// Doors where another listens, until that one is let go.
+fn refuse_while_taken<R: Abort + Net<Listener = TcpListener, Stream = TcpStream> + Clock + Sync>(
+    rt: &R,
+    listener: TcpListener,
+    address: &str,
+)
+    requires { length address.now ≤ 256 }
+{
+    let mut doors = TcpDoors::new(rt);
+    assert!(rt; doors.bind(address).is_err());
     assert!(rt; doors.fault_count() == 1);
     drop(listener);
-    assert!(rt; doors.bind(address.as_str()).is_ok());
+    assert!(rt; doors.bind(address).is_ok());
     assert!(rt; doors.fault_count() == 1);
+}
+
+// Doors whose listener refuses to wait.
+fn refuse_to_wait<R: Abort + Net<Listener = TcpListener, Stream = TcpStream> + Sync>(
+    rt: &R,
+    address: &str,
+)
+    requires { length address.now ≤ 256 }
+{
     let refusing = Beside {
-        rt: &rt,
+        rt,
         clock: NoClock,
         refuses: true,
     };
-    let free = free_address(&rt, rt.alloc())?;
     let mut doors = TcpDoors::new(&refusing);
-    doors.bind(free.as_str()).expect(&rt, "a bind");
+    doors.bind(address).expect(rt, "a bind");
     assert!(rt; doors.accept().is_err());
     assert!(rt; doors.fault_count() == 1);
+}
+
+#[test]
+fn what_the_system_refuses_is_a_fault(rt: HostRuntime) -> Result<(), Fail> {
+    let free = free_address(&rt, rt.alloc())?;
+    refuse_to_wait(&rt, free.as_str());
+    let (listener, address) = listen(&rt, rt.alloc())?;
+    refuse_while_taken(&rt, listener, address.as_str());
     Ok(())
 }
 
@@ -341,6 +376,19 @@ fn a_client_that_is_silent_or_reads_nothing_is_a_fault(rt: HostRuntime) -> Resul
     Ok(())
 }
 
+// Five reads, of which the last is past the limit, and a write after three of them, where there is one.
+fn read_together<L: Stream>(rt: &impl Abort, link: &mut L, writes: bool) {
+    for read in 0..5 {
+        if writes && read == 3 {
+            assert!(rt; link.write(b"!") == Ok(1));
+        }
+        let past = read == 4 && !writes;
+        let answer = if past { Err(Failed) } else { Ok(1) };
+        assert!(rt; link.read(&mut [0; 1]) == answer);
+    }
+    assert!(rt; link.fault_count() == u64::from(!writes));
+}
+
 #[test]
 fn reads_together_have_a_limit_that_a_write_starts_anew(rt: HostRuntime) -> Result<(), Fail> {
     for writes in [false, true] {
@@ -351,17 +399,31 @@ fn reads_together_have_a_limit_that_a_write_starts_anew(rt: HostRuntime) -> Resu
         };
         let (mut link, mut client) = connection(&beside, rt.alloc())?;
         client.write_all(b"bytes")?;
-        for read in 0..5 {
-            if writes && read == 3 {
-                assert!(rt; link.write(b"!") == Ok(1));
-            }
-            let past = read == 4 && !writes;
-            let answer = if past { Err(Failed) } else { Ok(1) };
-            assert!(rt; link.read(&mut [0; 1]) == answer);
-        }
-        assert!(rt; link.fault_count() == u64::from(!writes));
+        read_together(&rt, &mut link, writes);
     }
     Ok(())
+}
+
+// Eight writes, of which the last is past the limit, and a read after six of them, which gives a byte or the end.
+fn write_together<L: Stream>(rt: &impl Abort, link: &mut L, gives: bool) {
+    for write in 0..8 {
+        if write == 6 {
+            assert!(rt; link.read(&mut [0; 1]) == Ok(usize::from(gives)));
+        }
+        let past = write == 7 && !gives;
+        let answer = if past { Err(Failed) } else { Ok(1) };
+        assert!(rt; link.write(b"!") == answer);
+    }
+    assert!(rt; link.fault_count() == u64::from(!gives));
+}
+
+// A client sends a few bytes, or that no more will come.
+fn send_or_end(client: &mut TcpStream, gives: bool) -> io::Result<()> {
+    if gives {
+        client.write_all(b"bytes")
+    } else {
+        client.shutdown(Shutdown::Write)
+    }
 }
 
 #[test]
@@ -373,20 +435,8 @@ fn writes_together_have_a_limit_that_a_read_starts_anew(rt: HostRuntime) -> Resu
             refuses: false,
         };
         let (mut link, mut client) = connection(&beside, rt.alloc())?;
-        if gives {
-            client.write_all(b"bytes")?;
-        } else {
-            client.shutdown(Shutdown::Write)?;
-        }
-        for write in 0..8 {
-            if write == 6 {
-                assert!(rt; link.read(&mut [0; 1]) == Ok(usize::from(gives)));
-            }
-            let past = write == 7 && !gives;
-            let answer = if past { Err(Failed) } else { Ok(1) };
-            assert!(rt; link.write(b"!") == answer);
-        }
-        assert!(rt; link.fault_count() == u64::from(!gives));
+        send_or_end(&mut client, gives)?;
+        write_together(&rt, &mut link, gives);
     }
     Ok(())
 }

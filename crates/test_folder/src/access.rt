@@ -4,7 +4,7 @@ use imdf_access::{
     EndFacts, allows, before_dot, built_in, known_unit, passage, passes_end, passes_way, unit_kind,
     walkable,
 };
-use std::alloc::Global;
+use std::alloc::{AllocError, Global};
 use std::process::Abort;
 use std::test::Fail;
 use venue_types::{Kind, LinkFacts, OutOfMemory, Profile, Text};
@@ -61,14 +61,13 @@ fn marked_walk(alloc: Global) -> Result<Profile, OutOfMemory> {
 }
 
 fn judge_facts(rt: &impl Abort, profile: &Profile, kind: Kind, held: &[bool; 5], allowed: bool) {
-    let [restricted, revolving, turnstile, unmarked, out] = *held;
     let facts = LinkFacts {
         kind,
-        restricted,
-        revolving,
-        turnstile,
-        unmarked,
-        out,
+        restricted: held[0],
+        revolving: held[1],
+        turnstile: held[2],
+        unmarked: held[3],
+        out: held[4],
     };
     assert!(rt; allows(profile, &facts) == allowed);
 }
@@ -179,37 +178,60 @@ static FACTS: [Facts; 13] = [
     ),
 ];
 
-#[test]
-fn the_tables_hold(rt: HostRuntime) -> Result<(), Fail> {
-    for row in &WORDS {
-        judge_word(&rt, row.0.as_bytes(), row);
-        let dotted = format!(in rt.alloc(); "{}.{}", row.0, "ramp.x")?;
-        judge_word(&rt, dotted.as_bytes(), row);
-        assert!(rt; before_dot(dotted.as_bytes()) == row.0.as_bytes());
-    }
-    let profiles = built_in(rt.alloc())?;
-    let profiles = profiles.as_slice();
-    assert!(rt; profiles.len() == 2);
-    let walk = profiles.first().ok_or("walk")?;
-    let wheelchair = profiles.get(1).ok_or("wheelchair")?;
+// A word by itself, and before a dot.
+fn judge_dotted(rt: &impl Abort, alloc: Global, row: &Word) -> Result<(), AllocError> {
+    judge_word(rt, row.0.as_bytes(), row);
+    let dotted = format!(in alloc; "{}.{}", row.0, "ramp.x")?;
+    judge_word(rt, dotted.as_bytes(), row);
+    assert!(rt; before_dot(dotted.as_bytes()) == row.0.as_bytes());
+    Ok(())
+}
+
+fn judge_built_in(rt: &impl Abort, walk: &Profile, wheelchair: &Profile) {
     judge_flags(
-        &rt,
+        rt,
         walk,
         "walk",
         [true, true, true, true, true, true, true, false, false],
     );
     judge_flags(
-        &rt,
+        rt,
         wheelchair,
         "wheelchair",
         [true, false, false, true, false, false, false, false, false],
     );
-    let marked = marked_walk(rt.alloc())?;
-    for (kind, held, allowed) in &FACTS {
-        judge_facts(&rt, walk, *kind, held, allowed[0]);
-        judge_facts(&rt, wheelchair, *kind, held, allowed[1]);
-        judge_facts(&rt, &marked, *kind, held, allowed[2]);
+}
+
+fn judge_words(rt: &impl Abort, alloc: Global, rows: &[Word]) -> Result<(), AllocError> {
+    for row in rows {
+        judge_dotted(rt, alloc, row)?;
     }
+    Ok(())
+}
+
+fn judge_row(rt: &impl Abort, walk: &Profile, wheelchair: &Profile, marked: &Profile, row: &Facts) {
+    let (kind, held, allowed) = row;
+    judge_facts(rt, walk, *kind, held, allowed[0]);
+    judge_facts(rt, wheelchair, *kind, held, allowed[1]);
+    judge_facts(rt, marked, *kind, held, allowed[2]);
+}
+
+fn judge_profiles(rt: &impl Abort, profiles: &[Profile], marked: &Profile) {
+    assert!(rt; profiles.len() == 2);
+    let walk = profiles.first().expect(rt, "walk");
+    let wheelchair = profiles.get(1).expect(rt, "wheelchair");
+    judge_built_in(rt, walk, wheelchair);
+    for row in &FACTS {
+        judge_row(rt, walk, wheelchair, marked, row);
+    }
+}
+
+#[test]
+fn the_tables_hold(rt: HostRuntime) -> Result<(), Fail> {
+    judge_words(&rt, rt.alloc(), &WORDS)?;
+    let marked = marked_walk(rt.alloc())?;
+    let profiles = built_in(rt.alloc())?;
+    judge_profiles(&rt, profiles.as_slice(), &marked);
     Ok(())
 }
 
@@ -256,15 +278,19 @@ fn judge_parts(rt: &impl Abort, profile: &Profile, kind: Kind, restricted: bool)
     }
 }
 
+fn judge_ways(rt: &impl Abort, profile: &Profile) {
+    for kind in &KINDS {
+        judge_parts(rt, profile, *kind, false);
+        judge_parts(rt, profile, *kind, true);
+    }
+}
+
 #[test]
 fn a_link_is_judged_by_its_parts(rt: HostRuntime) -> Result<(), Fail> {
-    let mut profiles = built_in(rt.alloc())?;
-    profiles.push(marked_walk(rt.alloc())?)?;
+    judge_ways(&rt, &marked_walk(rt.alloc())?);
+    let profiles = built_in(rt.alloc())?;
     for profile in profiles.as_slice() {
-        for kind in &KINDS {
-            judge_parts(&rt, profile, *kind, false);
-            judge_parts(&rt, profile, *kind, true);
-        }
+        judge_ways(&rt, profile);
     }
     Ok(())
 }

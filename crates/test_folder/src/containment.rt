@@ -1,6 +1,7 @@
 //! Units and amenities beside what is to hold them, worked out by hand.
 
 ghost use Rattle.std.specs.Prelude.{IfOk};
+ghost use Rattle.std.specs.Arc.{arc_value};
 ghost use Rattle.imdf_read.specs.Rows.{HaveOwnIds};
 ghost use Rattle.imdf_read.specs.Sound.{AreSound};
 
@@ -10,6 +11,8 @@ use crate::small_folders::{
 use contain_rules::add_hold_findings;
 use ring_rules::is_spread;
 use std::alloc::{AllocError, Global};
+use std::process::Abort;
+use std::sync::Arc;
 use std::test::Fail;
 use venue_types::{Features, Finding};
 
@@ -50,15 +53,28 @@ fn amenity_file(alloc: Global, amenities: &[Corner]) -> Result<String, Fail> {
     Ok(collection(alloc, points.as_str())?)
 }
 
+// What isn't held in rows that are sound and have identifiers of their own.
+fn findings_of(alloc: Global, features: &Features, tolerance: u32) -> Result<Vec<Finding>, Fail>
+    requires sound { AreSound features.now }
+    requires own_ids { HaveOwnIds features.now }
+{
+    if is_spread(features) {
+        return Err(Fail::new("positions far apart"));
+    }
+    let mut findings = Vec::new(alloc);
+    add_hold_findings(alloc, features, tolerance.min(1_000_000), &mut findings)?;
+    Ok(findings)
+}
+
 // The rows of a folder of these files.
 fn rows_of<'a>(
     alloc: Global,
     levels: &'a str,
     units: &'a str,
     points: &'a str,
-) -> Result<Features, Fail>
-    ensures sound { IfOk result AreSound }
-    ensures own_ids { IfOk result HaveOwnIds }
+) -> Result<Arc<Features>, Fail>
+    ensures sound { IfOk result (λ features. AreSound (arc_value features)) }
+    ensures own_ids { IfOk result (λ features. HaveOwnIds (arc_value features)) }
 {
     let files = files(
         alloc,
@@ -85,12 +101,7 @@ fn findings(
     let units = unit_file(alloc, unit)?;
     let points = amenity_file(alloc, amenities)?;
     let features = rows_of(alloc, levels.as_str(), units.as_str(), points.as_str())?;
-    if is_spread(&features) {
-        return Err(Fail::new("positions far apart"));
-    }
-    let mut findings = Vec::new(alloc);
-    add_hold_findings(alloc, &features, tolerance.min(1_000_000), &mut findings)?;
-    Ok(findings)
+    findings_of(alloc, &features, tolerance)
 }
 
 // The only unit leaves its level.
@@ -105,38 +116,45 @@ const LEVEL: &[Corner] = &[(0, 0), (1000, 0), (1000, 1000), (0, 1000), (0, 0)];
 
 const HOLE: &[Corner] = &[(400, 400), (400, 600), (600, 600), (600, 400), (400, 400)];
 
-#[test]
-fn units_leave_their_level(rt: HostRuntime) -> Result<(), Fail> {
-    let alloc = rt.alloc();
-    let level = polygons(alloc, &[&[LEVEL, HOLE]])?;
-    // The tolerance, two opposite corners of the unit, and whether it leaves the level.
-    let table = [
-        (0, (100, 100), (300, 300), false),
-        (0, (0, 0), (1000, 1000), false),
-        // One side beyond the east, the north, the west and the south.
-        (0, (100, 100), (1001, 300), true),
-        (1, (100, 100), (1001, 300), false),
-        (5, (100, 100), (300, 1006), true),
-        (6, (100, 100), (300, 1006), false),
-        (5, (-6, 100), (300, 300), true),
-        (6, (-6, 100), (300, 300), false),
-        (5, (100, -6), (300, 300), true),
-        (6, (100, -6), (300, 300), false),
-        // One corner in the middle of the hole.
-        (99, (100, 100), (500, 500), true),
-        (100, (100, 100), (500, 500), false),
-        // One corner off the level's corner, at the distances 5 and the square root of 32.
-        (5, (900, 900), (1003, 1004), false),
-        (5, (900, 900), (1004, 1004), true),
-    ];
-    for (tolerance, low, high, want) in table {
-        let corners = [low, (high.0, low.1), high, (low.0, high.1), low];
-        let unit = polygons(alloc, &[&[&corners]])?;
-        let found = findings(alloc, level.as_str(), tolerance, unit.as_str(), &[])?;
-        let wanted: &[Finding] = if want { &[UNIT_LEAVES] } else { &[] };
-        assert!(rt; found.as_slice() == wanted);
-    }
-    // Of eight amenities the last lies beside its unit, which is the level without its hole.
+// The tolerance, two opposite corners of the unit, and whether it leaves the level.
+type Unit = (u32, Corner, Corner, bool);
+
+static UNITS: [Unit; 14] = [
+    (0, (100, 100), (300, 300), false),
+    (0, (0, 0), (1000, 1000), false),
+    // One side beyond the east, the north, the west and the south.
+    (0, (100, 100), (1001, 300), true),
+    (1, (100, 100), (1001, 300), false),
+    (5, (100, 100), (300, 1006), true),
+    (6, (100, 100), (300, 1006), false),
+    (5, (-6, 100), (300, 300), true),
+    (6, (-6, 100), (300, 300), false),
+    (5, (100, -6), (300, 300), true),
+    (6, (100, -6), (300, 300), false),
+    // One corner in the middle of the hole.
+    (99, (100, 100), (500, 500), true),
+    (100, (100, 100), (500, 500), false),
+    // One corner off the level's corner, at the distances 5 and the square root of 32.
+    (5, (900, 900), (1003, 1004), false),
+    (5, (900, 900), (1004, 1004), true),
+];
+
+// What is found where a unit leaves its level, or doesn't.
+fn wanted(leaves: bool) -> &'static [Finding] {
+    if leaves { &[UNIT_LEAVES] } else { &[] }
+}
+
+fn judge_unit(rt: &impl Abort, alloc: Global, level: &str, row: &Unit) -> Result<(), Fail> {
+    let (tolerance, low, high, leaves) = *row;
+    let corners = [low, (high.0, low.1), high, (low.0, high.1), low];
+    let unit = polygons(alloc, &[&[&corners]])?;
+    let found = findings(alloc, level, tolerance, unit.as_str(), &[])?;
+    assert!(rt; found.as_slice() == wanted(leaves));
+    Ok(())
+}
+
+// Of eight amenities the last lies beside its unit, which is the level without its hole.
+fn judge_amenities(rt: &impl Abort, alloc: Global) -> Result<(), Fail> {
     let inside = (100, 100);
     let mut amenities = [inside; 8];
     amenities[7] = (1001, 100);
@@ -150,6 +168,16 @@ fn units_leave_their_level(rt: HostRuntime) -> Result<(), Fail> {
     };
     assert!(rt; found.as_slice() == [finding].as_slice());
     Ok(())
+}
+
+#[test]
+fn units_leave_their_level(rt: HostRuntime) -> Result<(), Fail> {
+    let alloc = rt.alloc();
+    let level = polygons(alloc, &[&[LEVEL, HOLE]])?;
+    for row in &UNITS {
+        judge_unit(&rt, alloc, level.as_str(), row)?;
+    }
+    judge_amenities(&rt, alloc)
 }
 
 // How many teeth the comb has.
@@ -185,24 +213,35 @@ fn tips(alloc: Global, north: i64) -> Result<String, AllocError> {
     polygons(alloc, &[&[corners.as_slice()]])
 }
 
+// The tolerance, how far north of the tips the unit's vertices lie, and whether it leaves the level.
+static TIPS: [(u32, i64, bool); 6] = [
+    (0, 0, false),
+    (0, 1, true),
+    (1, 1, false),
+    (5000, 5001, true),
+    (5001, 5001, false),
+    (0, -1, false),
+];
+
+fn judge_tips(
+    rt: &impl Abort,
+    alloc: Global,
+    level: &str,
+    row: &(u32, i64, bool),
+) -> Result<(), Fail> {
+    let (tolerance, north, leaves) = *row;
+    let unit = tips(alloc, north)?;
+    let found = findings(alloc, level, tolerance, unit.as_str(), &[])?;
+    assert!(rt; found.as_slice() == wanted(leaves));
+    Ok(())
+}
+
 #[test]
 fn a_unit_of_the_tips_of_a_comb(rt: HostRuntime) -> Result<(), Fail> {
     let alloc = rt.alloc();
     let level = comb(alloc)?;
-    // The tolerance, how far north of the tips the unit's vertices lie, and whether it leaves the level.
-    let table = [
-        (0, 0, false),
-        (0, 1, true),
-        (1, 1, false),
-        (5000, 5001, true),
-        (5001, 5001, false),
-        (0, -1, false),
-    ];
-    for (tolerance, north, want) in table {
-        let unit = tips(alloc, north)?;
-        let found = findings(alloc, level.as_str(), tolerance, unit.as_str(), &[])?;
-        let wanted: &[Finding] = if want { &[UNIT_LEAVES] } else { &[] };
-        assert!(rt; found.as_slice() == wanted);
+    for row in &TIPS {
+        judge_tips(&rt, alloc, level.as_str(), row)?;
     }
     Ok(())
 }

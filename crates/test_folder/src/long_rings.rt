@@ -1,32 +1,30 @@
 //! Levels whose rings are of the greatest length.
 
-use crate::small_folders::{
-    Corner, MANIFEST, VENUE, collection, files, polygons, push_feature, sound_rows,
-};
-use ring_rules::{add_ring_findings, is_spread};
+use crate::rings::ring_findings;
+use crate::small_folders::{Corner, MANIFEST, VENUE, collection, files, polygons, push_feature};
 use std::alloc::{AllocError, Global};
+use std::process::Abort;
 use std::test::Fail;
 use venue_types::Finding;
 
-// What is wrong with the rings of forty levels, of which the last has a border of its own.
-fn findings(alloc: Global, usual: &str, last: &str) -> Result<Vec<Finding>, Fail> {
+// The file of forty levels, of which the last has a border of its own.
+fn level_file(alloc: Global, usual: &str, last: &str) -> Result<String, AllocError> {
     let mut levels = String::new(alloc);
     for number in 0..39u32 {
         push_feature(alloc, &mut levels, "level", number, usual, "\"ordinal\":0")?;
     }
     push_feature(alloc, &mut levels, "level", 39, last, "\"ordinal\":0")?;
-    let levels = collection(alloc, levels.as_str())?;
+    collection(alloc, levels.as_str())
+}
+
+// What is wrong with the rings of these levels.
+fn findings(alloc: Global, usual: &str, last: &str) -> Result<Vec<Finding>, Fail> {
+    let levels = level_file(alloc, usual, last)?;
     let files = files(
         alloc,
         &[(0, MANIFEST), (10, levels.as_bytes()), (16, VENUE)],
     )?;
-    let features = sound_rows(alloc, &files)?;
-    if is_spread(&features) {
-        return Err(Fail::new("positions far apart"));
-    }
-    let mut findings = Vec::new(alloc);
-    add_ring_findings(alloc, &features, &mut findings)?;
-    Ok(findings)
+    ring_findings(alloc, &files)
 }
 
 // Up and to the right step by step, and back by way of the end.
@@ -59,6 +57,26 @@ fn comb(alloc: Global, back: i64) -> Result<String, AllocError> {
     polygons(alloc, &[&[corners.as_slice()]])
 }
 
+// Of forty levels the last alone crosses itself, if any does.
+fn judge(
+    rt: &impl Abort,
+    alloc: Global,
+    usual: &str,
+    last: &str,
+    crosses: bool,
+) -> Result<(), Fail> {
+    let findings = findings(alloc, usual, last)?;
+    let only = Finding {
+        rule: 27,
+        file: 10,
+        index: 39,
+        member: 0,
+    };
+    assert!(rt; findings.len() == crosses as usize);
+    assert!(rt; findings.iter().all(|finding| *finding == only));
+    Ok(())
+}
+
 #[test]
 fn the_last_of_forty_levels_crosses_itself(rt: HostRuntime) -> Result<(), Fail> {
     let alloc = rt.alloc();
@@ -66,22 +84,13 @@ fn the_last_of_forty_levels_crosses_itself(rt: HostRuntime) -> Result<(), Fail> 
     let stair_crossed = stairs(alloc, (0, 500))?;
     let teeth = comb(alloc, 0)?;
     let teeth_crossed = comb(alloc, 5000)?;
-    let table = [
+    for (usual, last, crosses) in [
         (&stair, &stair, false),
         (&stair, &stair_crossed, true),
         (&teeth, &teeth, false),
         (&teeth, &teeth_crossed, true),
-    ];
-    for (usual, last, crosses) in table {
-        let findings = findings(alloc, usual.as_str(), last.as_str())?;
-        let only = Finding {
-            rule: 27,
-            file: 10,
-            index: 39,
-            member: 0,
-        };
-        assert!(rt; findings.len() == crosses as usize);
-        assert!(rt; findings.iter().all(|finding| *finding == only));
+    ] {
+        judge(&rt, alloc, usual.as_str(), last.as_str(), crosses)?;
     }
     Ok(())
 }

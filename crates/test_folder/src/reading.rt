@@ -1,10 +1,14 @@
 //! Folders beside what is found in them: the rules by their numbers, and the places.
 
+ghost use Rattle.std.specs.Prelude.{◌≡◌, IfOk, length};
+
 use crate::small_folders::{MANIFEST, files};
-use imdf_read::read_folder;
+use imdf_read::{ReadOut, read_folder};
 use std::alloc::Global;
 use std::process::Abort;
+use std::sync::Arc;
 use std::test::Fail;
+use venue_types::{Files, Finding};
 
 // A rule, a file, an index and a member.
 type Place = (u8, u8, u32, u32);
@@ -65,19 +69,34 @@ static TABLE: [Row; 11] = [
     ),
 ];
 
-// What is found in a folder of this file and a sound manifest; without a file, there is no manifest either.
-fn judge(rt: &impl Abort, alloc: Global, row: &Row) -> Result<(), Fail> {
-    let (file, bytes, wanted) = *row;
-    let files = if file == NONE {
-        files(alloc, &[])?
+// This file and a sound manifest; without a file, there is no manifest either.
+fn folder(alloc: Global, file: usize, bytes: &[u8]) -> Result<Files, Fail>
+    ensures { IfOk result (λ files. length files.slots ≡ 17) }
+{
+    if file == NONE {
+        files(alloc, &[])
     } else {
-        files(alloc, &[(file, bytes), (0, MANIFEST)])?
-    };
-    let out = read_folder(alloc, &files).expect(rt, "memory");
-    assert!(rt; out.findings.len() == wanted.len());
-    for (finding, place) in out.findings.as_slice().iter().zip(wanted) {
+        files(alloc, &[(file, bytes), (0, MANIFEST)])
+    }
+}
+
+// What is read of them.
+fn read(alloc: Global, file: usize, bytes: &[u8]) -> Result<Arc<ReadOut>, Fail> {
+    let files = folder(alloc, file, bytes)?;
+    Ok(Arc::new(alloc, read_folder(alloc, &files)?)?)
+}
+
+fn judge_findings(rt: &impl Abort, findings: &[Finding], wanted: &[Place]) {
+    assert!(rt; findings.len() == wanted.len());
+    for (finding, place) in findings.iter().zip(wanted) {
         assert!(rt; (finding.rule, finding.file, finding.index, finding.member) == *place);
     }
+}
+
+fn judge(rt: &impl Abort, alloc: Global, row: &Row) -> Result<(), Fail> {
+    let (file, bytes, wanted) = *row;
+    let out = read(alloc, file, bytes)?;
+    judge_findings(rt, out.findings.as_slice(), wanted);
     assert!(rt; out.notes.is_empty());
     if file == 16 && wanted.is_empty() {
         assert!(rt; out.features.venues.len() == 1);

@@ -1,9 +1,15 @@
 //! A folder of a few features, of which the findings were worked out by hand.
 
+ghost use Rattle.std.specs.Prelude.{◌≡◌, IfOk, length};
+ghost use Rattle.std.specs.Arc.{arc_value};
+ghost use Rattle.imdf_read.specs.Sound.{AreSound};
+
 use crate::small_folders::{MANIFEST, VENUE, collection, files, push_feature, sound_rows};
 use imdf_refs::reference_findings;
 use std::alloc::{AllocError, Global};
+use std::sync::Arc;
 use std::test::Fail;
+use venue_types::{Features, Files};
 
 // A rule, a file, an index and a member.
 type Place = (u8, u8, u32, u32);
@@ -61,32 +67,60 @@ fn alike(
     collection(alloc, text.as_str())
 }
 
+// A file, the type of its features, the ends of their identifiers, their geometry and their properties.
+type Alike = (
+    usize,
+    &'static str,
+    &'static [u32],
+    &'static str,
+    &'static str,
+);
+
+static FILES: [Alike; 7] = [
+    (1, "address", &[1, 2, 2], "null", ""),
+    (2, "amenity", &[7], POINT, AMENITY),
+    (3, "anchor", &[3], POINT, ANCHOR),
+    (4, "building", &[1], "null", ""),
+    (5, "detail", &[4], "null", DETAIL),
+    (9, "kiosk", &[5], "null", KIOSK),
+    (13, "relationship", &[6], "null", RELATIONSHIP),
+];
+
+// The texts of these files.
+fn texts(alloc: Global) -> Result<Vec<(usize, String)>, AllocError> {
+    let mut texts = Vec::new(alloc);
+    for (file, feature_type, numbers, geometry, properties) in &FILES {
+        let text = alike(alloc, feature_type, numbers, geometry, properties)?;
+        texts.push((*file, text))?;
+    }
+    Ok(texts)
+}
+
+// The folder of them, a manifest and a venue.
+fn folder(alloc: Global, texts: &[(usize, String)]) -> Result<Files, Fail>
+    ensures { IfOk result (λ files. length files.slots ≡ 17) }
+{
+    let mut parts: Vec<(usize, &[u8])> = Vec::new(alloc);
+    for (file, text) in texts {
+        parts.push((*file, text.as_bytes()))?;
+    }
+    parts.push((0, MANIFEST))?;
+    parts.push((16, VENUE))?;
+    files(alloc, parts.as_slice())
+}
+
+fn rows(alloc: Global) -> Result<Arc<Features>, Fail>
+    ensures { IfOk result (λ features. AreSound (arc_value features)) }
+{
+    let texts = texts(alloc)?;
+    let files = folder(alloc, texts.as_slice())?;
+    sound_rows(alloc, &files)
+}
+
 #[test]
 fn a_folder_has_its_findings(rt: HostRuntime) -> Result<(), Fail> {
-    let alloc = rt.alloc();
-    let addresses = alike(alloc, "address", &[1, 2, 2], "null", "")?;
-    let amenities = alike(alloc, "amenity", &[7], POINT, AMENITY)?;
-    let anchors = alike(alloc, "anchor", &[3], POINT, ANCHOR)?;
-    let buildings = alike(alloc, "building", &[1], "null", "")?;
-    let details = alike(alloc, "detail", &[4], "null", DETAIL)?;
-    let kiosks = alike(alloc, "kiosk", &[5], "null", KIOSK)?;
-    let relationships = alike(alloc, "relationship", &[6], "null", RELATIONSHIP)?;
-    let files = files(
-        alloc,
-        &[
-            (0, MANIFEST),
-            (1, addresses.as_bytes()),
-            (2, amenities.as_bytes()),
-            (3, anchors.as_bytes()),
-            (4, buildings.as_bytes()),
-            (5, details.as_bytes()),
-            (9, kiosks.as_bytes()),
-            (13, relationships.as_bytes()),
-            (16, VENUE),
-        ],
-    )?;
-    let features = sound_rows(alloc, &files)?;
-    let findings = reference_findings(alloc, &features)?;
+    let features = rows(rt.alloc())?;
+    let findings = reference_findings(rt.alloc(), &features)?;
     assert!(rt; findings.len() == WANTED.len());
     for (finding, place) in findings.as_slice().iter().zip(&WANTED) {
         assert!(rt; (finding.rule, finding.file, finding.index, finding.member) == *place);

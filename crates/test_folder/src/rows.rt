@@ -38,44 +38,44 @@ fn judge_label(rt: &impl Abort, label: &Label, tag: &str, text: &str) {
     assert!(rt; label.text.as_str() == text);
 }
 
+fn judge_level(rt: &impl Abort, row: &LevelRow) {
+    assert!(rt; row.address == Some(numbered(0x1)));
+    assert!(rt; row.ordinal == -1);
+}
+
 #[test]
 fn a_level(rt: HostRuntime) -> Result<(), Fail> {
-    let mut rows = Vec::new(rt.alloc());
-    let arena = Arena::new(rt.alloc());
-    let item = read(&arena, LEVEL)?;
     items_have_texts_law();
     labels_law();
     tags_law();
     doors_law();
     passages_law();
-    push_row(rt.alloc(), &mut rows, &item, Figure::Nothing)?;
-    let row: &LevelRow = rows.first().ok_or("level")?;
-    assert!(rt; row.address == Some(numbered(0x1)));
-    assert!(rt; row.ordinal == -1);
+    let arena = Arena::new(rt.alloc());
+    let item = read(&arena, LEVEL)?;
     assert!(rt; ordinal(Some(&item)) == None);
+    let mut rows = Vec::new(rt.alloc());
+    push_row(rt.alloc(), &mut rows, &item, Figure::Nothing)?;
+    judge_level(&rt, rows.first().ok_or("level")?);
     Ok(())
+}
+
+fn judge_opening(rt: &impl Abort, row: &OpeningRow) {
+    assert!(rt; row.level == numbered(0x10));
+    assert!(rt; (row.revolving, row.turnstile) == (false, true));
+    assert!(rt; (row.marked, row.out) == (true, false));
 }
 
 #[test]
 fn an_opening(rt: HostRuntime) -> Result<(), Fail> {
-    let mut rows = Vec::new(rt.alloc());
     let arena = Arena::new(rt.alloc());
     let item = read(&arena, OPENING)?;
+    let mut rows = Vec::new(rt.alloc());
     push_row(rt.alloc(), &mut rows, &item, Figure::Nothing)?;
-    let row: &OpeningRow = rows.first().ok_or("opening")?;
-    assert!(rt; row.level == numbered(0x10));
-    assert!(rt; (row.revolving, row.turnstile) == (false, true));
-    assert!(rt; (row.marked, row.out) == (true, false));
+    judge_opening(&rt, rows.first().ok_or("opening")?);
     Ok(())
 }
 
-#[test]
-fn a_relationship(rt: HostRuntime) -> Result<(), Fail> {
-    let mut rows = Vec::new(rt.alloc());
-    let arena = Arena::new(rt.alloc());
-    let item = read(&arena, RELATIONSHIP)?;
-    push_row(rt.alloc(), &mut rows, &item, Figure::Nothing)?;
-    let row: &RelationshipRow = rows.first().ok_or("relationship")?;
+fn judge_relationship(rt: &impl Abort, row: &RelationshipRow) {
     assert!(rt; row.kind == Some(Kind::Stairs));
     assert!(rt; (row.directed, row.destination) == (true, None));
     assert!(rt;
@@ -85,8 +85,12 @@ fn a_relationship(rt: HostRuntime) -> Result<(), Fail> {
                 feature_type: 15
             })
     );
-    assert!(rt; row.between.len() == 2);
-    let first = row.between.as_slice().first().ok_or("between")?;
+}
+
+// The openings in between.
+fn judge_between(rt: &impl Abort, between: &[Ref]) -> Result<(), Fail> {
+    assert!(rt; between.len() == 2);
+    let first = between.first().ok_or("between")?;
     assert!(rt;
         *first
             == Ref {
@@ -98,12 +102,17 @@ fn a_relationship(rt: HostRuntime) -> Result<(), Fail> {
 }
 
 #[test]
-fn a_unit(rt: HostRuntime) -> Result<(), Fail> {
-    let mut rows = Vec::new(rt.alloc());
+fn a_relationship(rt: HostRuntime) -> Result<(), Fail> {
     let arena = Arena::new(rt.alloc());
-    let item = read(&arena, UNIT)?;
+    let item = read(&arena, RELATIONSHIP)?;
+    let mut rows = Vec::new(rt.alloc());
     push_row(rt.alloc(), &mut rows, &item, Figure::Nothing)?;
-    let row: &UnitRow = rows.first().ok_or("unit")?;
+    let row: &RelationshipRow = rows.first().ok_or("relationship")?;
+    judge_relationship(&rt, row);
+    judge_between(&rt, row.between.as_slice())
+}
+
+fn judge_unit(rt: &impl Abort, row: &UnitRow) {
     assert!(rt; row.id == numbered(0x300));
     assert!(rt; row.category.as_str() == "room");
     assert!(rt; row.restricted == true);
@@ -114,10 +123,24 @@ fn a_unit(rt: HostRuntime) -> Result<(), Fail> {
                 y: 50_000_040_000
             })
     );
-    let [first, second] = row.name.as_slice() else {
+}
+
+fn judge_name(rt: &impl Abort, name: &[Label]) -> Result<(), Fail> {
+    let [first, second] = name else {
         return Err("two labels".into());
     };
-    judge_label(&rt, first, "de", "Raum");
-    judge_label(&rt, second, "fr", "Pi\u{e8}ce");
+    judge_label(rt, first, "de", "Raum");
+    judge_label(rt, second, "fr", "Pi\u{e8}ce");
     Ok(())
+}
+
+#[test]
+fn a_unit(rt: HostRuntime) -> Result<(), Fail> {
+    let arena = Arena::new(rt.alloc());
+    let item = read(&arena, UNIT)?;
+    let mut rows = Vec::new(rt.alloc());
+    push_row(rt.alloc(), &mut rows, &item, Figure::Nothing)?;
+    let row: &UnitRow = rows.first().ok_or("unit")?;
+    judge_unit(&rt, row);
+    judge_name(&rt, row.name.as_slice())
 }

@@ -4,7 +4,7 @@ use std::alloc::{AllocError, Global};
 use std::process::Abort;
 use std::test::Fail;
 use venue_settings::{SettingsFault, read_settings};
-use venue_types::Settings;
+use venue_types::{Extras, Profile, Settings, Text};
 
 // The number that is printed for the fault, and its key or name.
 fn told(fault: &SettingsFault) -> (u8, &str) {
@@ -31,6 +31,12 @@ fn judge(rt: &impl Abort, alloc: Global, bytes: &[u8], number: u8, key: &str) {
     }
 }
 
+fn judge_rows(rt: &impl Abort, alloc: Global, rows: &[(&str, u8, &str)]) {
+    for (text, number, key) in rows {
+        judge(rt, alloc, text.as_bytes(), *number, key);
+    }
+}
+
 fn repeated(alloc: Global, front: &str, item: &str, count: u8) -> Result<String, AllocError> {
     let mut text = String::from_str(alloc, front)?;
     for _ in 0..count {
@@ -39,27 +45,46 @@ fn repeated(alloc: Global, front: &str, item: &str, count: u8) -> Result<String,
     Ok(text)
 }
 
-fn judge_station(rt: &impl Abort, settings: &Settings) {
+fn judge_numbers(rt: &impl Abort, settings: &Settings) {
     assert!(rt; settings.kx == 10_000_000);
     assert!(rt; settings.ky == 10_000_000);
     assert!(rt; settings.border_tol == 1_000);
     assert!(rt; settings.contain_tol == 5_000);
     assert!(rt; settings.last_version == 4_294_967_295);
-    assert!(rt; settings.extras.elevator == 3_000);
-    assert!(rt; settings.extras.escalator == 800);
-    assert!(rt; settings.extras.movingwalkway == 0);
-    assert!(rt; settings.extras.ramp == 2_000);
-    assert!(rt; settings.extras.stairs == 1_500);
-    assert!(rt; settings.extras.traversal == 0);
-    let keys = settings.staff_keys.as_slice();
+}
+
+fn judge_extras(rt: &impl Abort, extras: &Extras) {
+    assert!(rt; extras.elevator == 3_000);
+    assert!(rt; extras.escalator == 800);
+    assert!(rt; extras.movingwalkway == 0);
+    assert!(rt; extras.ramp == 2_000);
+    assert!(rt; extras.stairs == 1_500);
+    assert!(rt; extras.traversal == 0);
+}
+
+fn judge_keys(rt: &impl Abort, keys: &[Text]) {
     assert!(rt; keys.len() == 1);
     assert!(rt; keys[0].as_str() == "desk-key-1");
-    let profiles = settings.profiles.as_slice();
+}
+
+// The profile of the station's own.
+fn judge_night(rt: &impl Abort, profile: &Profile) {
+    assert!(rt; profile.name.as_str() == "night-staff_1");
+    assert!(rt; profile.restricted && profile.marked && !profile.stairs);
+}
+
+fn judge_profiles(rt: &impl Abort, profiles: &[Profile]) {
     assert!(rt; profiles.len() == 3);
     assert!(rt; profiles[0].name.as_str() == "walk");
     assert!(rt; profiles[1].name.as_str() == "wheelchair");
-    assert!(rt; profiles[2].name.as_str() == "night-staff_1");
-    assert!(rt; profiles[2].restricted && profiles[2].marked && !profiles[2].stairs);
+    judge_night(rt, &profiles[2]);
+}
+
+fn judge_station(rt: &impl Abort, settings: &Settings) {
+    judge_numbers(rt, settings);
+    judge_extras(rt, &settings.extras);
+    judge_keys(rt, settings.staff_keys.as_slice());
+    judge_profiles(rt, settings.profiles.as_slice());
 }
 
 // A text, the number of its fault and the fault's key or name.
@@ -140,29 +165,57 @@ static ROWS: [(&str, u8, &str); 38] = [
     ("\u{feff}kx = 1\nky = 1\n", 0, ""),
 ];
 
+const STATION: &str =
+    "kx = 10000000\nky = 10000000\nelevator_extra = 3000\nescalator_extra = 800\nramp_extra = 2000\nstairs_extra = 1500\nstaff_keys = [\"desk-key-1\"]\n[[profile]]\nname = \"night-staff_1\"\nrestricted = true\nmarked = true\n";
+
+fn read_station(rt: &impl Abort, alloc: Global) -> Result<(), Fail> {
+    match read_settings(alloc, STATION.as_bytes()) {
+        Ok(settings) => judge_station(rt, &settings),
+        Err(_) => return Err(Fail::from("the station's settings")),
+    }
+    Ok(())
+}
+
+// Settings with so many keys.
+fn judge_key_count(
+    rt: &impl Abort,
+    alloc: Global,
+    count: u8,
+    number: u8,
+    key: &str,
+) -> Result<(), AllocError> {
+    let keys = "kx = 1\nky = 1\nstaff_keys = [";
+    let mut text = repeated(alloc, keys, "\"12345678\",", count)?;
+    text.push_str("]\n")?;
+    judge(rt, alloc, text.as_bytes(), number, key);
+    Ok(())
+}
+
+// Settings with so many profiles.
+fn judge_profile_count(
+    rt: &impl Abort,
+    alloc: Global,
+    count: u8,
+    number: u8,
+    key: &str,
+) -> Result<(), AllocError> {
+    let profiles = "kx = 1\nky = 1\n";
+    let text = repeated(alloc, profiles, "[[profile]]\nname = \"p\"\n", count)?;
+    judge(rt, alloc, text.as_bytes(), number, key);
+    Ok(())
+}
+
 #[test]
 fn settings_are_read(rt: HostRuntime) -> Result<(), Fail> {
     let alloc = rt.alloc();
-    let station =
-        "kx = 10000000\nky = 10000000\nelevator_extra = 3000\nescalator_extra = 800\nramp_extra = 2000\nstairs_extra = 1500\nstaff_keys = [\"desk-key-1\"]\n[[profile]]\nname = \"night-staff_1\"\nrestricted = true\nmarked = true\n";
-    match read_settings(alloc, station.as_bytes()) {
-        Ok(settings) => judge_station(&rt, &settings),
-        Err(_) => return Err(Fail::from("the station's settings")),
-    }
-    for (text, number, key) in &ROWS {
-        judge(&rt, alloc, text.as_bytes(), *number, key);
-    }
+    read_station(&rt, alloc)?;
+    judge_rows(&rt, alloc, &ROWS);
     judge(&rt, alloc, b"kx = 1\xff", 1, "");
-    let keys = "kx = 1\nky = 1\nstaff_keys = [";
     for (count, number, key) in [(64, 0, ""), (65, 4, "staff_keys")] {
-        let mut text = repeated(alloc, keys, "\"12345678\",", count)?;
-        text.push_str("]\n")?;
-        judge(&rt, alloc, text.as_bytes(), number, key);
+        judge_key_count(&rt, alloc, count, number, key)?;
     }
-    let profiles = "kx = 1\nky = 1\n";
     for (count, number, key) in [(14, 6, "p"), (15, 4, "profile")] {
-        let text = repeated(alloc, profiles, "[[profile]]\nname = \"p\"\n", count)?;
-        judge(&rt, alloc, text.as_bytes(), number, key);
+        judge_profile_count(&rt, alloc, count, number, key)?;
     }
     Ok(())
 }

@@ -1,12 +1,14 @@
 //! Folders of a few features as texts, and their rows where the first phases find nothing in them.
 
-ghost use Rattle.std.specs.Prelude.{◌≡◌, IfOk, length};
+ghost use Rattle.std.specs.Prelude.{◌≡◌, IfOk, OnOk, length};
+ghost use Rattle.std.specs.Arc.{arc_value};
 ghost use Rattle.imdf_read.specs.Rows.{HaveOwnIds};
 ghost use Rattle.imdf_read.specs.Sound.{AreSound};
 
 use imdf_read::{ReadOut, read_folder, sound_reading_law};
 use imdf_refs::{own_ids_law, reference_findings};
 use std::alloc::{AllocError, Global};
+use std::sync::Arc;
 use std::test::Fail;
 use venue_types::{Bytes, Features, Files, List, Slot};
 
@@ -83,6 +85,13 @@ pub(crate) fn polygons(alloc: Global, parts: &[&[&[Corner]]]) -> Result<String, 
     format!(in alloc; "{{\"type\":\"MultiPolygon\",\"coordinates\":[{text}]]}}")
 }
 
+// Adds the identifier that ends in this number.
+fn push_id(alloc: Global, text: &mut String, number: u32) -> Result<(), AllocError> {
+    let end = format!(in alloc; "{number:012}")?;
+    text.push_str("00000000-0000-4000-8000-")?;
+    text.push_str(end.as_str())
+}
+
 /// Adds a feature whose identifier ends in this number, to the text of those before it.
 pub(crate) fn push_feature(
     alloc: Global,
@@ -92,10 +101,9 @@ pub(crate) fn push_feature(
     geometry: &str,
     properties: &str,
 ) -> Result<(), AllocError> {
-    let end = format!(in alloc; "{number:012}")?;
     text.push_str(if text.is_empty() { "" } else { "," })?;
-    text.push_str("{\"type\":\"Feature\",\"id\":\"00000000-0000-4000-8000-")?;
-    text.push_str(end.as_str())?;
+    text.push_str("{\"type\":\"Feature\",\"id\":\"")?;
+    push_id(alloc, text, number)?;
     text.push_str("\",\"feature_type\":\"")?;
     text.push_str(feature_type)?;
     text.push_str("\",\"geometry\":")?;
@@ -110,8 +118,8 @@ pub(crate) fn collection(alloc: Global, features: &str) -> Result<String, AllocE
     format!(in alloc; "{{\"type\":\"FeatureCollection\",\"features\":[{features}]}}")
 }
 
-/// The rows of files in which the first phase finds nothing.
-pub(crate) fn sound_rows(alloc: Global, files: &Files) -> Result<Features, Fail>
+// The rows of files in which the first phase finds nothing.
+fn rows_of(alloc: Global, files: &Files) -> Result<Features, Fail>
     requires { length files.now.slots ≡ 17 }
     ensures { IfOk result AreSound }
 {
@@ -127,17 +135,36 @@ pub(crate) fn sound_rows(alloc: Global, files: &Files) -> Result<Features, Fail>
     Ok(features)
 }
 
-/// The rows of files in which the first two phases find nothing.
-pub(crate) fn named_rows(alloc: Global, files: &Files) -> Result<Features, Fail>
+/// The same, shared.
+pub(crate) fn sound_rows(alloc: Global, files: &Files) -> Result<Arc<Features>, Fail>
     requires { length files.now.slots ≡ 17 }
-    ensures sound { IfOk result AreSound }
-    ensures own_ids { IfOk result HaveOwnIds }
+    ensures { IfOk result (λ features. AreSound (arc_value features)) }
+{
+    let features = rows_of(alloc, files)?;
+    let shared = Arc::new(alloc, features)?;
+    Ok(shared)
+}
+
+// The second phase finds nothing in these rows.
+fn have_own_ids(alloc: Global, features: &Features) -> Result<(), Fail>
+    requires { AreSound features.now }
+    ensures { OnOk result (HaveOwnIds features.now) }
 {
     own_ids_law();
-    let features = sound_rows(alloc, files)?;
-    let misnamed = reference_findings(alloc, &features)?;
+    let misnamed = reference_findings(alloc, features)?;
     if !misnamed.is_empty() {
         return Err(Fail::new("a finding of the second phase"));
     }
+    Ok(())
+}
+
+/// The rows of files in which the first two phases find nothing.
+pub(crate) fn named_rows(alloc: Global, files: &Files) -> Result<Arc<Features>, Fail>
+    requires { length files.now.slots ≡ 17 }
+    ensures sound { IfOk result (λ features. AreSound (arc_value features)) }
+    ensures own_ids { IfOk result (λ features. HaveOwnIds (arc_value features)) }
+{
+    let features = sound_rows(alloc, files)?;
+    have_own_ids(alloc, &features)?;
     Ok(features)
 }

@@ -7,6 +7,7 @@ use test_station::{
     AMENITY, Change, DETAIL, Edit, GONE, MANIFEST, UNIT, folder_files, settings_file, slots_of,
     station_files,
 };
+use venue_ports::MemoryFile;
 use venue_types::Slot;
 
 const MANIFEST_TEXT: &str =
@@ -39,33 +40,57 @@ fn judge_fault(
     Ok(())
 }
 
-#[test]
-fn the_station_has_twelve_files(rt: HostRuntime) -> Result<(), Fail> {
-    let alloc = rt.alloc();
+// What three files of the station hold.
+fn judge_slots(rt: &impl Abort, alloc: Global) -> Result<(), Fail> {
     let slots = slots_of(alloc, Change::of(&[]))?;
     let texts = slots.slots.as_slice();
     assert!(rt; text_of(&texts[MANIFEST]) == Some(MANIFEST_TEXT.as_bytes()));
     assert!(rt; text_of(&texts[AMENITY]) == Some(AMENITY_TEXT.as_bytes()));
     assert!(rt; text_of(&texts[DETAIL]) == None);
-    let files = folder_files(alloc, "base/night", Change::of(&[]))?;
+    Ok(())
+}
+
+// The first and the last of a folder's files.
+fn judge_names(rt: &impl Abort, files: &[MemoryFile]) {
     assert!(rt; files.len() == 12);
     let (first, last) = (
-        files.first().expect(&rt, "a file"),
-        files.last().expect(&rt, "a file"),
+        files.first().expect(rt, "a file"),
+        files.last().expect(rt, "a file"),
     );
     assert!(rt; first.file.as_str() == "manifest.json");
     assert!(rt; last.folder.as_str() == "base/night");
     assert!(rt; last.file.as_str() == "venue.geojson");
-    let settings = settings_file(alloc, "base", Change::of(&[]))?.expect(&rt, "the settings");
+}
+
+fn judge_folder(rt: &impl Abort, alloc: Global) -> Result<(), Fail> {
+    let files = folder_files(alloc, "base/night", Change::of(&[]))?;
+    judge_names(rt, files.as_slice());
+    Ok(())
+}
+
+fn judge_settings(rt: &impl Abort, alloc: Global) -> Result<(), Fail> {
+    let settings = settings_file(alloc, "base", Change::of(&[]))?.expect(rt, "the settings");
     assert!(rt; settings.file.as_str() == "venue.toml");
+    Ok(())
+}
+
+// Of the station without its units.
+fn judge_fewer(rt: &impl Abort, alloc: Global) -> Result<(), Fail> {
     let fewer = station_files(alloc, "base", "night", Change::of(&[(UNIT, "", "", GONE)]))?;
     assert!(rt; fewer.len() == 12);
     Ok(())
 }
 
 #[test]
-fn edits_follow_each_other(rt: HostRuntime) -> Result<(), Fail> {
-    let alloc = rt.alloc();
+fn the_station_has_twelve_files(rt: HostRuntime) -> Result<(), Fail> {
+    judge_slots(&rt, rt.alloc())?;
+    judge_folder(&rt, rt.alloc())?;
+    judge_settings(&rt, rt.alloc())?;
+    judge_fewer(&rt, rt.alloc())
+}
+
+// One edit after the other, each in the text that the one before made.
+fn judge_edited(rt: &impl Abort, alloc: Global) -> Result<(), Fail> {
     let change = Change::of(&[
         (AMENITY, "", "", "one and two"),
         (AMENITY, "one", " two", "(1,2)"),
@@ -73,6 +98,13 @@ fn edits_follow_each_other(rt: HostRuntime) -> Result<(), Fail> {
     let slots = slots_of(alloc, change)?;
     let told = text_of(&slots.slots.as_slice()[AMENITY]);
     assert!(rt; told == Some(b"one and[10.00001,50.00002]".as_slice()));
+    Ok(())
+}
+
+#[test]
+fn edits_follow_each_other(rt: HostRuntime) -> Result<(), Fail> {
+    let alloc = rt.alloc();
+    judge_edited(&rt, alloc)?;
     judge_fault(&rt, alloc, &[(DETAIL, "", "a", "b")], "NoFile")?;
     judge_fault(
         &rt,

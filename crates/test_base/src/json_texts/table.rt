@@ -1,7 +1,8 @@
 // Each text with what reading it answers, as Python's json module and a count of its brackets say.
 use super::Answer;
 
-pub(super) static TABLE: [(&[u8], Answer); 158] = [
+// Words, white space and what stands beside them.
+pub(super) static WORDS: [(&[u8], Answer); 20] = [
     (b"", Answer::Text),
     (b" ", Answer::Text),
     (b"\t\n\r ", Answer::Text),
@@ -22,6 +23,10 @@ pub(super) static TABLE: [(&[u8], Answer); 158] = [
     (b"null\x00", Answer::Text),
     (b"NaN", Answer::Text),
     (b"-Infinity", Answer::Text),
+];
+
+// Numbers.
+pub(super) static NUMBERS: [(&[u8], Answer); 29] = [
     (b"0", Answer::Fine),
     (b"-0", Answer::Fine),
     (b"10", Answer::Fine),
@@ -51,6 +56,10 @@ pub(super) static TABLE: [(&[u8], Answer); 158] = [
     (b"1a", Answer::Text),
     (b"[-]", Answer::Text),
     (b"2.0E-7 ", Answer::Fine),
+];
+
+// Strings.
+pub(super) static TEXTS: [(&[u8], Answer); 38] = [
     (b"\"\"", Answer::Fine),
     (b"\"a\"", Answer::Fine),
     (b"\"\xc3\xa9\xf0\x9f\x98\x80\"", Answer::Fine),
@@ -89,6 +98,10 @@ pub(super) static TABLE: [(&[u8], Answer); 158] = [
     (b"\"\xe2\x82\xac\"", Answer::Fine),
     (b"\xff", Answer::Text),
     (b"[\"\x80\"]", Answer::Text),
+];
+
+// Lists.
+pub(super) static LISTS: [(&[u8], Answer); 19] = [
     (b"[]", Answer::Fine),
     (b"[ ]", Answer::Fine),
     (b"[1]", Answer::Fine),
@@ -108,6 +121,10 @@ pub(super) static TABLE: [(&[u8], Answer); 158] = [
     (b"[1}", Answer::Text),
     (b"[[]", Answer::Text),
     (b"[ \"a\" , null ]", Answer::Fine),
+];
+
+// Objects.
+pub(super) static OBJECTS: [(&[u8], Answer); 27] = [
     (b"{}", Answer::Fine),
     (b"{ }", Answer::Fine),
     (b"{\"a\":1}", Answer::Fine),
@@ -135,6 +152,10 @@ pub(super) static TABLE: [(&[u8], Answer); 158] = [
     (b"{null:1}", Answer::Text),
     (b"{\"\\u0061\":1,\"a\\n\":\"\\t\"}", Answer::Fine),
     (b"{\"a\":1;\"b\":2}", Answer::Text),
+];
+
+// Byte order marks, and what is none.
+pub(super) static MARKS: [(&[u8], Answer); 7] = [
     (b"\xef\xbb\xbf[]", Answer::Fine),
     (b"\xef\xbb\xbf {} ", Answer::Fine),
     (b"\xef\xbb\xbf\xef\xbb\xbf[]", Answer::Text),
@@ -142,6 +163,10 @@ pub(super) static TABLE: [(&[u8], Answer); 158] = [
     (b" \xef\xbb\xbf1", Answer::Text),
     (b"\xef\xbb", Answer::Text),
     (b"\xfe\xff\x001", Answer::Text),
+];
+
+// Lists and objects within each other, at the greatest depth and past it.
+pub(super) static DEPTHS: [(&[u8], Answer); 18] = [
     (
         b"[[[[[[[[[[[[[[[[[[[[[[[[[[[[[[[[[[[[[[[[[[[[[[[[[[[[[[[[[[[[[[[[]]]]]]]]]]]]]]]]]]]]]]]]]]]]]]]]]]]]]]]]]]]]]]]]]]]]]]]]]]]]]]]]",
         Answer::Fine,

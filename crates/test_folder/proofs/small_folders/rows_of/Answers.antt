@@ -1,6 +1,6 @@
 use Rattle.imdf_read.specs.Broken.{IsBroken}
 use Rattle.test_folder.proofs.Silence.{nothing}
-use Rattle.test_folder.proofs.small_folders.sound_rows.Goals as goal
+use Rattle.test_folder.proofs.small_folders.rows_of.Goals as goal
 
 pub returns : goal.returns
 returns c =
