@@ -35,7 +35,9 @@ impl Lasts {
         ensures { IfOk result (λ l. l ≡ replicate nodes no_last) }
     {
         let places = vec![in alloc; 0u32; nodes as usize]?;
-        let found = vec![in alloc; Last { by: None, depth: 0 }; 1]?;
+        // Room for all at once: memory that isn't written to costs next to nothing, and a search that finds all never moves what it found.
+        let mut found = Vec::with_capacity(alloc, nodes as usize + 1)?;
+        found.push(Last { by: None, depth: 0 })?;
         Ok(Lasts { places, found })
     }
 
