@@ -35,4 +35,4 @@ pub use venue_state::{
     BaseFolders, NextBoard, Outcome, Unready, first_law, following_law, ready_change,
 };
 pub use view::View;
-pub use writer_side::{publish, queue, settle, show};
+pub use writer_side::{fall_back, publish, queue, settle, show};

@@ -26,7 +26,8 @@ use Rattle.journal_restore.specs.Going.{IsAt, IsReadWhole, HasTold}
 use Rattle.journal_restore.specs.Judging.{HasSettings, history_entries}
 use Rattle.journal_restore.specs.Restores.{IsReplayed, IsRestored, IsUnder, resumed_entries}
 use Rattle.journal_restore.proofs.OnlyRead.{backward, now_maps, settled_image, told_then}
-use Rattle.journal_restore.proofs.Records.{ClosedThere, stand_count}
+use Rattle.venue_hall.proofs.Standing.{stand_count}
+use Rattle.journal_restore.proofs.Records.{ClosedThere}
 
 abbrev pub AllSettings : Type 0
 AllSettings = (h : List Entry) (v : Version) (e : Entry) (venue : Venue) → Replays h v → Contains h e → IsPublished venue e.act → venue.settings ≡ v.settings

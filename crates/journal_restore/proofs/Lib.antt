@@ -2,3 +2,4 @@ mod OnlyRead
 mod Unfit
 mod Records
 mod Ends
+mod Restarts

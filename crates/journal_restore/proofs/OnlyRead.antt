@@ -65,6 +65,10 @@ all_maps : (P Q : List ℕ → Type 0) (ms : List Moment) → ((image : List ℕ
 all_maps P Q [] f all = tt
 all_maps P Q (m ∷ ms) f all = ((λ image left. f image (all.0 image left)), all_maps P Q ms f all.1)
 
+pub only_maps : (P Q : List ℕ → Type 0) (old new : List Moment) → ((image : List ℕ) → P image → Q image) → LeavesOnly P old new → LeavesOnly Q old new
+only_maps P Q old [] f only = tt
+only_maps P Q old (now ∷ past) f only = record { added = only.added; grows = only.grows; each = all_maps P Q only.added f only.each }
+
 all_joins : (P : List ℕ → Type 0) (ms ns : List Moment) → AllLeft P ms → AllLeft P ns → AllLeft P (ms ++ ns)
 all_joins P [] ns one two = two
 all_joins P (m ∷ ms) ns one two = (one.0, all_joins P ms ns one.1 two)

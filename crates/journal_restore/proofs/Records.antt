@@ -6,7 +6,8 @@ use Rattle.venue_ports.specs.Moments.{Moment, Now}
 use Rattle.venue_hall.specs.Entry.{Entry}
 use Rattle.venue_hall.specs.Histories.{IsLegal}
 use Rattle.venue_hall.specs.Records.{Logged}
-use Rattle.venue_hall.specs.Standing.{StandsFor, StandFor}
+use Rattle.venue_hall.specs.Standing.{StandFor}
+use Rattle.venue_hall.proofs.Standing.{stand_more, stand_count}
 use Rattle.board_copies.specs.declared.resuming.Resuming.{Resuming}
 use Rattle.change_journal.specs.Places.{AreRecordsTo, IsBrokenAt, IsClosedAt, IsDamagedAt, IsRecordAt}
 use Rattle.change_journal.specs.Readers.{IsNextOf}
@@ -29,20 +30,6 @@ ClosedThere = (place : ℕ) (records : List Logged) (bytes : List ℕ) → AreRe
 pub begun_more : Longer → (place next : ℕ) (records : List Logged) (entry : Logged) (bytes : List ℕ) → IsBegun place records bytes
     → IsRecordAt place next entry bytes → IsBegun next (records ++ entry ∷ []) bytes
 begun_more law place next records entry bytes begun at = record { more = begun.more; to = law place next records entry bytes begun.to at }
-
--- records one by one stand for entries one by one
-stand_more : (settings : Settings) (records : List Logged) (entries : List Entry) (kept : Logged) (entry : Entry) → StandFor settings records entries
-    → StandsFor settings kept entry → StandFor settings (records ++ kept ∷ []) (entries ++ entry ∷ [])
-stand_more settings [] [] kept entry stand one = (one, tt)
-stand_more settings [] (e ∷ es) kept entry stand one = absurd stand
-stand_more settings (k ∷ ks) [] kept entry stand one = absurd stand
-stand_more settings (k ∷ ks) (e ∷ es) kept entry stand one = (stand.0, stand_more settings ks es kept entry stand.1 one)
-
-pub stand_count : (settings : Settings) (records : List Logged) (entries : List Entry) → StandFor settings records entries → length records ≡ length entries
-stand_count settings [] [] stand = refl
-stand_count settings [] (e ∷ es) stand = absurd stand
-stand_count settings (k ∷ ks) [] stand = absurd stand
-stand_count settings (k ∷ ks) (e ∷ es) stand = let rest = stand_count settings ks es stand.1 in omega arith
 
 -- one record on
 pub read_more : Longer → (settings : Settings) (so_far longer : SoFar) (kept : Logged) (bytes : List ℕ) → IsReadTo settings so_far bytes

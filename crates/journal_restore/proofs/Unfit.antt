@@ -34,13 +34,13 @@ closing_is it feature profiles same set =
     first ∙ ap (λ (n : ℕ). record { feature = feature; profiles = record { 0 = n } }) set
 
 -- the act for which a closure stands, or a reopening
-closed_act : (settings : Settings) (act : Act) (feature : FeatureId) (profiles : ProfileSet) → StandsForAct settings (closed feature profiles.0) act
+pub closed_act : (settings : Settings) (act : Act) (feature : FeatureId) (profiles : ProfileSet) → StandsForAct settings (closed feature profiles.0) act
     → act ≡ Closed (record { feature = feature; profiles = profiles })
 closed_act settings (Published venue) feature profiles stands = absurd stands
 closed_act settings (Closed it) feature profiles stands = ap Closed (closing_is it feature profiles stands.0 stands.1)
 closed_act settings (Reopened it) feature profiles stands = absurd stands
 
-reopened_act : (settings : Settings) (act : Act) (feature : FeatureId) (profiles : ProfileSet) → StandsForAct settings (reopened feature profiles.0) act
+pub reopened_act : (settings : Settings) (act : Act) (feature : FeatureId) (profiles : ProfileSet) → StandsForAct settings (reopened feature profiles.0) act
     → act ≡ Reopened (record { feature = feature; profiles = profiles })
 reopened_act settings (Published venue) feature profiles stands = absurd stands
 reopened_act settings (Closed it) feature profiles stands = absurd stands

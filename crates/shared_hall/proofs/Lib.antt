@@ -2,3 +2,4 @@ pub mod Seen
 pub mod Passes
 pub mod FirstEntries
 pub mod Telling
+pub mod Keeping

@@ -1,7 +1,11 @@
 pub mod Names
 pub mod Offices
+pub mod Keeping
 pub mod Copied
 pub use Rattle.venue_hall.specs.Facts
+pub use Rattle.venue_hall.specs.Histories
+pub use Rattle.venue_hall.specs.Records
+pub use Rattle.venue_hall.specs.Standing
 pub use Rattle.board_copies.specs.Making
 pub use Rattle.venue_hall.specs.Venues
 pub use Rattle.venue_hall.specs.Openings

@@ -1,6 +1,6 @@
 //! The two copies of the board, before a hall is opened over them.
 
-ghost use Rattle.std.specs.Prelude.{◌≡◌, ◌≤◌, IfOk};
+ghost use Rattle.std.specs.Prelude.{◌≡◌, ◌≤◌, length, IfOk};
 ghost use Rattle.std.specs.Arc.{arc_value};
 ghost use Rattle.left_right.specs.Sides.{view};
 ghost use Rattle.board_copies.specs.Rules.{book_of, Knows};
@@ -10,7 +10,7 @@ use crate::entries::resumed;
 use board_copies::{Keep, Keeper, Resumed, Roll, make_writer, settle};
 use std::alloc::Global;
 use std::sync::{Arc, Wait};
-use venue_hall::Entry;
+use venue_hall::{Entry, NoLog, number_law};
 use venue_types::{OutOfMemory, Settings};
 
 /// The two copies of the board to which a history leads, their writer, and the settings. They have no name yet.
@@ -69,5 +69,16 @@ impl Copies {
             roll,
             settings,
         })
+    }
+
+    /// The log of a hall that keeps its changes nowhere: it counts these entries.
+    pub fn no_log(&self) -> NoLog
+        ensures { result.count ≡ length (entries_in self.now) }
+    {
+        number_law();
+        let number = self.keeper.writer.published().held.board.number();
+        NoLog {
+            count: u64::from(number),
+        }
     }
 }

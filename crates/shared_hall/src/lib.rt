@@ -11,6 +11,9 @@ mod thread_bounds;
 pub use board_copies::{first_law, following_law};
 pub use copies::Copies;
 pub use name::HallName;
-pub use office::{Closed, Office, OfficeOf, Opened, Pass, PassOf, close_hall, open_hall};
-pub use seat::{Seat, SeatIn};
-pub use venue_hall::{Unopened, opening_entries};
+pub use office::{
+    Closed, LoggedOffice, Office, OfficeOf, Opened, OpenedOf, Pass, PassOf, UnopenedOf, close_hall,
+    open_hall, open_kept,
+};
+pub use seat::{LoggedSeat, Seat, SeatIn};
+pub use venue_hall::{Log, NoLog, Unopened, opening_entries};

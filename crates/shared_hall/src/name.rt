@@ -22,6 +22,9 @@ pub trait HallName: Ledger {
     /// How often the folders had failed then.
     ghost folder_count: { ℕ };
 
+    /// How often its log had failed then.
+    ghost log_count: { ℕ };
+
     /// The folders below its base, where they are told.
     ghost folder_files: { Option Shelf };
 
@@ -52,6 +55,8 @@ impl HallName for Brand {
     ghost keys = { [] };
 
     ghost folder_count = { 0 };
+
+    ghost log_count = { 0 };
 
     ghost folder_files = { None };
 

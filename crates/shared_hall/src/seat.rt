@@ -4,28 +4,32 @@ ghost use Rattle.std.specs.Prelude.{◌≡◌, ◌+◌, ◌≤◌};
 ghost use mathlib.Core.List.{IsPrefix};
 
 use crate::name::HallName;
-use crate::office::{Office, OfficeOf, Pass, PassOf};
+use crate::office::{LoggedOffice, OfficeOf, Pass, PassOf};
 use board_copies::{Keeper, Reads, SideReader, Writes};
 use std::alloc::Global;
 use std::marker::Model;
 use std::sync::{Mutex, Wait};
-use venue_hall::{Asks, Hall};
+use venue_hall::{Asks, Hall, Log, NoLog};
 use venue_ports::Folders;
 use venue_types::{Change, Query, Reply};
 
 /// What one worker serves with: it answers questions without waiting, and takes the hall's lock to make a change.
 #[derive(Drop)]
-pub struct SeatIn<'a, N: HallName, F: Folders, Q: Reads, W: Writes, R> {
+pub struct SeatIn<'a, N: HallName, F: Folders, Q: Reads, W: Writes, J: Log, R> {
     pass: PassOf<N, Q>,
-    office: &'a Mutex<OfficeOf<N, F, W>>,
+    office: &'a Mutex<OfficeOf<N, F, W, J>>,
     rt: &'a R,
     alloc: Global,
 }
 
-/// A seat at the copies that a hall has.
-pub type Seat<'a, N, F, R> = SeatIn<'a, N, F, SideReader, Keeper, R>;
+/// A seat at the copies that a hall has, with a log.
+pub type LoggedSeat<'a, N, F, J, R> = SeatIn<'a, N, F, SideReader, Keeper, J, R>;
 
-impl<'a, N: HallName, F: Folders, Q: Reads, W: Writes, R> Model for SeatIn<'a, N, F, Q, W, R> {
+/// A seat at a hall that keeps its changes nowhere.
+pub type Seat<'a, N, F, R> = LoggedSeat<'a, N, F, NoLog, R>;
+
+impl<'a, N: HallName, F: Folders, Q: Reads, W: Writes, J: Log, R> Model
+    for SeatIn<'a, N, F, Q, W, J, R> {
     ghost use Rattle.venue_hall.specs.Facts.{Facts};
 
     ghost Value = { Facts };
@@ -33,14 +37,14 @@ impl<'a, N: HallName, F: Folders, Q: Reads, W: Writes, R> Model for SeatIn<'a, N
     ghost view = { λ s. s.pass };
 }
 
-impl<'a, N: HallName, F: Folders, R> SeatIn<'a, N, F, SideReader, Keeper, R> {
+impl<'a, N: HallName, F: Folders, J: Log, R> SeatIn<'a, N, F, SideReader, Keeper, J, R> {
     /// Takes a seat. Takes no memory.
     pub fn sit(
         rt: &'a R,
         alloc: Global,
         pass: Pass<N>,
-        office: &'a Mutex<Office<N, F>>,
-    ) -> Seat<'a, N, F, R>
+        office: &'a Mutex<LoggedOffice<N, F, J>>,
+    ) -> LoggedSeat<'a, N, F, J, R>
         ensures { result ≡ pass }
     {
         SeatIn {
@@ -67,7 +71,7 @@ impl<'a, N: HallName, F: Folders, R> SeatIn<'a, N, F, SideReader, Keeper, R> {
     }
 }
 
-impl<N: HallName, F: Folders, R> Asks for SeatIn<'_, N, F, SideReader, Keeper, R> {
+impl<N: HallName, F: Folders, J: Log, R> Asks for SeatIn<'_, N, F, SideReader, Keeper, J, R> {
     ghost facts = { λ s. s };
 
     fn number(&self) -> u32 {
@@ -79,7 +83,7 @@ impl<N: HallName, F: Folders, R> Asks for SeatIn<'_, N, F, SideReader, Keeper, R
     }
 }
 
-impl<N: HallName, F: Folders, R: Wait> Hall for SeatIn<'_, N, F, SideReader, Keeper, R> {
+impl<N: HallName, F: Folders, J: Log, R: Wait> Hall for SeatIn<'_, N, F, SideReader, Keeper, J, R> {
     fn change(&mut self, change: &Change) -> Reply {
         let mut guard = self.office.lock(self.rt);
         let office = &mut *guard;

@@ -3,11 +3,11 @@
 ghost use Rattle.venue_hall.specs.Facts.{IsAnswered};
 
 use crate::name::HallName;
-use crate::office::{Office, Pass};
-use crate::seat::{Seat, SeatIn};
+use crate::office::{LoggedOffice, Pass};
+use crate::seat::{LoggedSeat, SeatIn};
 use board_copies::{Reads, Writes};
 use std::sync::Mutex;
-use venue_hall::Asks;
+use venue_hall::{Asks, Log};
 use venue_ports::Folders;
 use venue_types::{Query, Reply};
 
@@ -19,7 +19,9 @@ pub fn sent_pass<N: HallName + Send>(pass: &Pass<N>) {
     sent(pass);
 }
 
-pub fn shared_office<N: HallName + Send, F: Folders + Send>(office: &Mutex<Office<N, F>>) {
+pub fn shared_office<N: HallName + Send, F: Folders + Send, J: Log + Send>(
+    office: &Mutex<LoggedOffice<N, F, J>>,
+) {
     shared(office);
 }
 
@@ -28,18 +30,21 @@ pub fn sent_seat_in<
     F: Folders + Send,
     Q: Reads + Send,
     W: Writes + Send,
+    J: Log + Send,
     R: Sync,
->(seat: &SeatIn<'_, N, F, Q, W, R>) {
+>(seat: &SeatIn<'_, N, F, Q, W, J, R>) {
     sent(seat);
 }
 
-pub fn sent_seat<N: HallName + Send + Sync, F: Folders + Send, R: Sync>(seat: &Seat<'_, N, F, R>) {
+pub fn sent_seat<N: HallName + Send + Sync, F: Folders + Send, J: Log + Send, R: Sync>(
+    seat: &LoggedSeat<'_, N, F, J, R>,
+) {
     sent(seat);
 }
 
 /// A question at a seat. Nothing here may wait, so the seat waits for nobody to answer it.
-pub fn asked_unwaiting<N: HallName, F: Folders, R>(
-    seat: &mut Seat<'_, N, F, R>,
+pub fn asked_unwaiting<N: HallName, F: Folders, J: Log, R>(
+    seat: &mut LoggedSeat<'_, N, F, J, R>,
     query: &Query,
 ) -> Reply
     ensures { IsAnswered seat.new.seen query.now result }

@@ -11,8 +11,8 @@ ghost use Rattle.shared_hall.specs.Offices.{parts_of};
 
 use crate::station::{folders, id, tail, venue_of};
 use shared_hall::{
-    Closed, Copies, HallName, Office, Opened, Pass, Seat, close_hall, first_law, following_law,
-    open_hall, opening_entries,
+    Closed, Copies, HallName, NoLog, Office, Opened, Pass, Seat, close_hall, first_law,
+    following_law, open_hall, opening_entries,
 };
 use std::alloc::{AllocError, Global};
 use std::marker::Brand;
@@ -164,7 +164,7 @@ fn rows_under<N: HallName, F: Folders + Drop, R: Abort + Wait>(
     folders: F,
     base: Text,
     rows: &[Row],
-) -> Result<Closed<F>, Fail>
+) -> Result<Closed<F, NoLog>, Fail>
     requires name { blank.name ≡ N.name }
     requires parts { blank.parts ≡ N.parts }
     requires two { blank.parts ≡ 2 }
@@ -172,6 +172,7 @@ fn rows_under<N: HallName, F: Folders + Drop, R: Abort + Wait>(
     requires opening { entries_in copies ≡ N.opening }
     requires count { N.folder_count ≤ F.faults folders }
     requires files { shelf_of (F.files folders) base ≡ N.folder_files }
+    requires log_count { N.log_count ≡ 0 }
 {
     let Ok(opened) = open_hall::<N, F>(alloc, blank, copies, folders, base, 2) else {
         return Err(Fail::new("no hall"));
@@ -196,7 +197,7 @@ fn rows_at<F: Folders + Drop, R: Abort + Wait>(
     folders: F,
     base: Text,
     rows: &[Row],
-) -> Result<Closed<F>, Fail> {
+) -> Result<Closed<F, NoLog>, Fail> {
     rows_under::<Brand, F, R>(rt, alloc, Blank::new(2), copies, folders, base, rows)
 }
 
@@ -475,7 +476,7 @@ fn work_under<
     folders: F,
     base: Text,
     workers: u8,
-) -> Result<Closed<F>, Fail>
+) -> Result<Closed<F, NoLog>, Fail>
     requires some { 1 ≤ workers }
     requires range { workers ≤ 16 }
     requires name { blank.name ≡ N.name }
@@ -485,6 +486,7 @@ fn work_under<
     requires opening { entries_in copies ≡ N.opening }
     requires count { N.folder_count ≤ F.faults folders }
     requires files { shelf_of (F.files folders) base ≡ N.folder_files }
+    requires log_count { N.log_count ≡ 0 }
 {
     let Ok(opened) = open_hall::<N, F>(alloc, blank, copies, folders, base, workers) else {
         return Err(Fail::new("no hall"));
@@ -503,7 +505,7 @@ fn work_at<F: Folders + Drop + Send, R: Abort + Threads + Wait + Sync>(
     folders: F,
     base: Text,
     workers: u8,
-) -> Result<Closed<F>, Fail>
+) -> Result<Closed<F, NoLog>, Fail>
     requires some { 1 ≤ workers }
     requires range { workers ≤ 16 }
 {

@@ -79,6 +79,7 @@ fn judge_under<N: HallName, R: Abort + Wait>(
     requires opening { entries_in copies ≡ N.opening }
     requires count { N.folder_count ≤ memory_faults folders }
     requires files { shelf_of (memory_files folders) base ≡ N.folder_files }
+    requires log_count { N.log_count ≡ 0 }
     requires ready { doors_ready doors ≡ true }
     requires binds { doors_binds doors ≡ N.binds }
     requires bound { doors_bound doors ≡ N.bound }

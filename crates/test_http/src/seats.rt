@@ -131,6 +131,7 @@ fn serve_under<N: HallName, F: Folders + Drop, R: Wait>(
     requires opening { entries_in copies ≡ N.opening }
     requires count { N.folder_count ≤ F.faults folders }
     requires files { shelf_of (F.files folders) base ≡ N.folder_files }
+    requires log_count { N.log_count ≡ 0 }
 {
     let Ok(opened) = open_hall::<N, F>(alloc, blank, copies, folders, base, 1) else {
         return Err(Fail::new("no hall"));

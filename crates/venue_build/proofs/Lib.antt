@@ -8,4 +8,5 @@ mod Builds
 mod FirstRows
 mod PlaceRanges
 mod FewPlaces
+mod Sizes
 pub mod Silent

@@ -1,7 +1,8 @@
 //! What holds of every venue, and that a folder has one outcome.
 
-ghost use Rattle.std.specs.Prelude.{◌≡◌, length};
+ghost use Rattle.std.specs.Prelude.{◌≡◌, ℕ, ◌^◌, ◌<◌, ◌≤◌, List, length, slice_get, Some};
 ghost use Rattle.venue_types.specs.declared.files.Files.{Files};
+ghost use Rattle.venue_types.specs.declared.files.Slot.TheVariants.{Held};
 ghost use Rattle.venue_types.specs.declared.settings.Settings.{Settings};
 ghost use Rattle.venue_types.specs.declared.finding.Finding.{Finding};
 ghost use Rattle.venue_types.specs.declared.finding.Report.{Report};
@@ -68,3 +69,9 @@ pub fn one_outcome()
 {
     one_reading_law();
 }
+
+/// No file of a venue has more than 33,554,432 bytes.
+pub fn sizes_law()
+    ensures { (files : Files) (settings : Settings) (venue : TheVenue) (number : ℕ) (bytes : List ℕ) → IsVenueOf files settings venue → number < 17
+        → slice_get files.slots number ≡ Some (Held bytes) → length bytes ≤ 2 ^ 25 }
+{}

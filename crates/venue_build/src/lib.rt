@@ -14,6 +14,6 @@ mod venue;
 
 pub use built::Built;
 pub use imdf_refs::own_ids_law;
-pub use law::{every_name, every_venue, one_outcome};
+pub use law::{every_name, every_venue, one_outcome, sizes_law};
 pub use phases::build;
 pub use venue::Venue;

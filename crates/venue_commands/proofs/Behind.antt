@@ -14,6 +14,7 @@ use Rattle.version_board.specs.Entry.{Entry}
 use Rattle.version_board.specs.Changes.{Changes, IsRefused, IsAccepted, IsAcceptedIf, IsActOf, TellsOf}
 use Rattle.version_board.specs.Closed.{Version, closed_set, everybody}
 use Rattle.version_board.specs.Histories.{Replays}
+use Rattle.version_board.specs.Replies.{IsJournalFault}
 use Rattle.version_board.specs.Versions.{after, Fits, MayFollow}
 use Rattle.venue_commands.specs.BuildingReports.{IsNamed, IsBehindClosing, closing}
 use Rattle.venue_commands.specs.Costs.{IsBehindChange}
@@ -78,34 +79,35 @@ either : (changed : Bool) (shelf : Option Shelf) (worker : ℕ) (asked : Change)
 either true shelf worker asked h k r made = inl made
 either false shelf worker asked h k r left = inr left
 
-pub behind_change : (enters : Enters) (shelf : Option Shelf) (id : FeatureId) (h k : List Entry) (r : Reply) → r ≢ reply.OutOfMemory
+pub behind_change : (enters : Enters) (shelf : Option Shelf) (id : FeatureId) (h k : List Entry) (r : Reply) → r ≢ reply.OutOfMemory → ¬ IsJournalFault r
     → Changes shelf 1 (closure_of id) h r k
     → (v w : Version) → v.number < v.settings.last_version → Replays h v → Replays k w → IsBehindChange id v w
-behind_change enters shelf id h k (reply.ClosureDone it) some is v w room before behind = elim (either it.changed shelf 1 (closure_of id) h k (reply.ClosureDone it) is) [
+behind_change enters shelf id h k (reply.ClosureDone it) some kept is v w room before behind = elim (either it.changed shelf 1 (closure_of id) h k (reply.ClosureDone it) is) [
   | inl made ↦ accepted_behind enters shelf id h k (reply.ClosureDone it) made v w before behind
   | inr left ↦ stays id h k left.version v w left.kept left.stands before behind (fits_not left.version id left.cause.0 left.cause.1.named left.cause.2)
 ]
-behind_change enters shelf id h k (reply.Published number dropped) some is v w room before behind =
+behind_change enters shelf id h k (reply.Published number dropped) some kept is v w room before behind =
     absurd (published_never is.version id is.entry.act number dropped is.tells)
-behind_change enters shelf id h k reply.NoFeature some is v w room before behind =
+behind_change enters shelf id h k reply.NoFeature some kept is v w room before behind =
     stays id h k is.version v w is.kept is.stands before behind (λ fits. is.cause.2 fits.1)
-behind_change enters shelf id h k (reply.HistoryFull number) some is v w room before behind =
+behind_change enters shelf id h k (reply.JournalFault earlier later) some kept is v w room before behind = absurd (kept tt)
+behind_change enters shelf id h k (reply.HistoryFull number) some kept is v w room before behind =
     absurd (full_never h is.version v is.stands before is.cause.1.1 room)
-behind_change enters shelf id h k reply.OutOfMemory some is v w room before behind = absurd (some refl)
-behind_change enters shelf id h k (reply.Route number from to name start cost steps potentials) some is v w room before behind = absurd is.cause.1
-behind_change enters shelf id h k (reply.NoRoute number from to name reached) some is v w room before behind = absurd is.cause.1
-behind_change enters shelf id h k (reply.Tour it) some is v w room before behind = absurd is.cause.1
-behind_change enters shelf id h k (reply.NoTour it) some is v w room before behind = absurd is.cause.1
-behind_change enters shelf id h k (reply.Nearest it) some is v w room before behind = absurd is.cause.1
-behind_change enters shelf id h k reply.NoProfile some is v w room before behind = absurd (cc is.cause)
-behind_change enters shelf id h k (reply.NoPlace end) some is v w room before behind = absurd is.cause.1
-behind_change enters shelf id h k (reply.Ahead since number) some is v w room before behind = absurd is.cause.1
-behind_change enters shelf id h k (reply.Version number closed count) some is v w room before behind = absurd is.cause.1
-behind_change enters shelf id h k (reply.Places number rows) some is v w room before behind = absurd is.cause.1
-behind_change enters shelf id h k (reply.Place it) some is v w room before behind = absurd is.cause.1
-behind_change enters shelf id h k (reply.Closures it) some is v w room before behind = absurd is.cause.1
-behind_change enters shelf id h k (reply.FolderFault earlier later) some is v w room before behind = absurd is.cause.1
-behind_change enters shelf id h k (reply.Rejected report) some is v w room before behind = absurd is.cause.1
+behind_change enters shelf id h k reply.OutOfMemory some kept is v w room before behind = absurd (some refl)
+behind_change enters shelf id h k (reply.Route number from to name start cost steps potentials) some kept is v w room before behind = absurd is.cause.1
+behind_change enters shelf id h k (reply.NoRoute number from to name reached) some kept is v w room before behind = absurd is.cause.1
+behind_change enters shelf id h k (reply.Tour it) some kept is v w room before behind = absurd is.cause.1
+behind_change enters shelf id h k (reply.NoTour it) some kept is v w room before behind = absurd is.cause.1
+behind_change enters shelf id h k (reply.Nearest it) some kept is v w room before behind = absurd is.cause.1
+behind_change enters shelf id h k reply.NoProfile some kept is v w room before behind = absurd (cc is.cause)
+behind_change enters shelf id h k (reply.NoPlace end) some kept is v w room before behind = absurd is.cause.1
+behind_change enters shelf id h k (reply.Ahead since number) some kept is v w room before behind = absurd is.cause.1
+behind_change enters shelf id h k (reply.Version number closed count) some kept is v w room before behind = absurd is.cause.1
+behind_change enters shelf id h k (reply.Places number rows) some kept is v w room before behind = absurd is.cause.1
+behind_change enters shelf id h k (reply.Place it) some kept is v w room before behind = absurd is.cause.1
+behind_change enters shelf id h k (reply.Closures it) some kept is v w room before behind = absurd is.cause.1
+behind_change enters shelf id h k (reply.FolderFault earlier later) some kept is v w room before behind = absurd is.cause.1
+behind_change enters shelf id h k (reply.Rejected report) some kept is v w room before behind = absurd is.cause.1
 
 some_id : (x y : FeatureId) → Some x ≡ Some y → x ≡ y
 some_id x y e = cc e

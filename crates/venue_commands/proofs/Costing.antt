@@ -63,6 +63,7 @@ told_cost v name from to reply.NoFeature some (now, never) = absurd never
 told_cost v name from to (reply.FolderFault before after) some (now, never) = absurd never
 told_cost v name from to (reply.Rejected report) some (now, never) = absurd never
 told_cost v name from to (reply.HistoryFull number) some (now, never) = absurd never
+told_cost v name from to (reply.JournalFault before after) some (now, never) = absurd never
 
 -- where a feature of a number stands, that of its identifier stands
 stands_at : (v : Version) (number n : ℕ) (id : FeatureId) → IsNamed number id → StandsAt v number n → place_of v.features id ≡ Some n

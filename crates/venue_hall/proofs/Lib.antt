@@ -1,2 +1,4 @@
 mod Answered
 mod Changed
+mod Sizes
+pub mod Standing

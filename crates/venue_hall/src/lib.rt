@@ -8,7 +8,7 @@ mod records;
 mod unopened;
 
 pub use hall::{Asks, Hall};
-pub use laws::{answered_law, changed_law};
+pub use laws::{answered_law, changed_law, slots_law};
 pub use no_log::NoLog;
 pub use records::{Log, Record};
 pub use unopened::Unopened;

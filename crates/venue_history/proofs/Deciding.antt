@@ -43,20 +43,22 @@ data PublishCause (shelf : Option Shelf) (v : Version) (folder : List ℕ) : Rep
   full : (venue : Venue) → Makes shelf v folder venue → v.number ≡ v.settings.last_version → PublishCause shelf v folder kind.history_full 0
   done : (venue : Venue) → Makes shelf v folder venue → v.number < v.settings.last_version → PublishCause shelf v folder kind.published 1
 
-refused_closure : (shelf : Option Shelf) (v : Version) (asked : Closure) (r : Reply)
+refused_closure : (shelf : Option Shelf) (v : Version) (asked : Closure) (r : Reply) → ¬ IsOutsideFault r
     → Refuses shelf v (change.Closure asked) r → ClosureCause v asked (kind_of r) (told r)
-refused_closure shelf v asked reply.NoProfile is = unnamed is
-refused_closure shelf v asked reply.NoFeature is = missing is.0 is.1 is.2
-refused_closure shelf v asked (reply.ClosureDone it) is =
+refused_closure shelf v asked reply.NoProfile inside is = unnamed is
+refused_closure shelf v asked reply.NoFeature inside is = missing is.0 is.1 is.2
+refused_closure shelf v asked (reply.ClosureDone it) inside is =
     subst (λ (b : Bool). ClosureCause v asked kind.closure_done (if b then 1 else 0)) (sym is.3.changed_is) (same is.0 is.1 is.2)
-refused_closure shelf v asked (reply.HistoryFull number) is = full is.0 is.1.1
-refused_closure shelf v asked _ is = absurd is.1
+refused_closure shelf v asked (reply.HistoryFull number) inside is = full is.0 is.1.1
+refused_closure shelf v asked (reply.JournalFault before after) inside is = absurd (inside tt)
+refused_closure shelf v asked _ inside is = absurd is.1
 
 refused_publish : (shelf : Option Shelf) (v : Version) (folder : List ℕ) (r : Reply) → ¬ IsOutsideFault r
     → Refuses shelf v (change.Publish folder) r → PublishCause shelf v folder (kind_of r) (told r)
 refused_publish shelf v folder (reply.FolderFault before after) inside is = absurd (inside tt)
 refused_publish shelf v folder (reply.Rejected report) inside is = rejected report is
 refused_publish shelf v folder (reply.HistoryFull number) inside is = full is.0.0 is.0.1 is.1.1
+refused_publish shelf v folder (reply.JournalFault before after) inside is = absurd (inside tt)
 refused_publish shelf v folder _ inside is = absurd is.1
 
 stands_otherwise : (shelf : Option Shelf) (v : Version) (asked : Closure) (a : Act) → IsActOf shelf v (change.Closure asked) a → StandsOtherwise v asked
@@ -86,21 +88,21 @@ record ClosureAt (asked : Closure) (h : List Entry) (r : Reply) : Type 0 where
   stands : Replays h version
   cause : ClosureCause version asked (kind_of r) (told r)
 
-closure_at : (shelf : Option Shelf) (worker : ℕ) (asked : Closure) (h k : List Entry) (r : Reply) → r ≢ reply.OutOfMemory
+closure_at : (shelf : Option Shelf) (worker : ℕ) (asked : Closure) (h k : List Entry) (r : Reply) → r ≢ reply.OutOfMemory → ¬ IsOutsideFault r
     → Changes shelf worker (change.Closure asked) h r k → ClosureAt asked h r
-closure_at shelf worker asked h k reply.OutOfMemory some is = absurd (some refl)
-closure_at shelf worker asked h k (reply.ClosureDone it) some is = elim (closure_way shelf worker (change.Closure asked) h k it is) [
+closure_at shelf worker asked h k reply.OutOfMemory some inside is = absurd (some refl)
+closure_at shelf worker asked h k (reply.ClosureDone it) some inside is = elim (closure_way shelf worker (change.Closure asked) h k it is) [
   | inl (e, made) ↦ record {
     version = made.version;
     stands = made.stands;
     cause = subst (λ (b : Bool). ClosureCause made.version asked kind.closure_done (if b then 1 else 0)) (sym e)
         (done (stands_otherwise shelf made.version asked made.entry.act made.of_change) made.may.room);
   }
-  | inr (e, left) ↦ record { version = left.version; stands = left.stands; cause = refused_closure shelf left.version asked (reply.ClosureDone it) left.cause }
+  | inr (e, left) ↦ record { version = left.version; stands = left.stands; cause = refused_closure shelf left.version asked (reply.ClosureDone it) inside left.cause }
 ]
-closure_at shelf worker asked h k (reply.Published number dropped) some is =
+closure_at shelf worker asked h k (reply.Published number dropped) some inside is =
     absurd (not_published shelf is.version asked is.entry.act number dropped is.of_change is.tells)
-closure_at shelf worker asked h k r some is = record { version = is.version; stands = is.stands; cause = refused_closure shelf is.version asked r is.cause }
+closure_at shelf worker asked h k r some inside is = record { version = is.version; stands = is.stands; cause = refused_closure shelf is.version asked r inside is.cause }
 
 -- a reply to a publication at the version of the history, and its cause
 record PublishAt (shelf : Option Shelf) (folder : List ℕ) (h : List Entry) (r : Reply) : Type 0 where
@@ -198,6 +200,6 @@ pub one_reply : OneOutcome → (shelf : Shelf) (worker : ℕ) (asked : Change) (
     → Changes (Some shelf) worker asked h r k → Changes (Some shelf) worker asked h s l → (kind_of r ≡ kind_of s) × (told r ≡ told s)
 unfolding Same
 one_reply outcome shelf worker (change.Closure asked) h k l r s some some' inside inside' is also =
-    same_closure asked h r s (closure_at (Some shelf) worker asked h k r some is) (closure_at (Some shelf) worker asked h l s some' also)
+    same_closure asked h r s (closure_at (Some shelf) worker asked h k r some inside is) (closure_at (Some shelf) worker asked h l s some' inside' also)
 one_reply outcome shelf worker (change.Publish folder) h k l r s some some' inside inside' is also =
     same_publish outcome shelf folder h r s (publish_at (Some shelf) worker folder h k r some inside is) (publish_at (Some shelf) worker folder h l s some' inside' also)

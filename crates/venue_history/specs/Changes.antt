@@ -1,5 +1,5 @@
 -- Which reply answers which change, and what becomes of the history.
-use Rattle.std.specs.Prelude.{◌≡◌, ℕ, ◌+◌, List, [], ◌∷◌, ◌++◌, length, filter, Contains, Option, Some, None, IfSome, Bool, true, false, not, if◌then◌else◌, IsTrue}
+use Rattle.std.specs.Prelude.{◌≡◌, ℕ, ◌+◌, ◌<◌, List, [], ◌∷◌, ◌++◌, length, filter, Contains, Option, Some, None, IfSome, Bool, true, false, not, if◌then◌else◌, IsTrue}
 use Rattle.std.specs.Arc.{arc_value}
 use Rattle.venue_types.specs.declared.feature_id.FeatureId.{FeatureId}
 use Rattle.venue_types.specs.declared.features.Features.{Features}
@@ -67,9 +67,11 @@ abbrev pub IsDue : Option Shelf → Version → Change → Type 0
 IsDue shelf v (change.Closure asked) = StandsOtherwise v asked
 IsDue shelf v (change.Publish folder) = (venue : Venue) × Makes shelf v folder venue
 
--- a change that is due comes late: the version is the last one, and the reply tells its number
+-- a change that is due comes late: the version is the last one, and the reply tells its number; or there is room for one version more, but the
+-- journal didn't keep the change, and the reply tells how its count of failures rose
 abbrev pub IsLate : Version → Reply → Type 0
 IsLate v (reply.HistoryFull number) = (number ≡ v.number) × (v.number ≡ v.settings.last_version)
+IsLate v (reply.JournalFault before after) = (v.number < v.settings.last_version) × Rose before after
 IsLate v _ = ⊥
 
 -- the reply tells, by this number of a version, that the feature stands as asked, and the profiles of the set where some were named; `changed`

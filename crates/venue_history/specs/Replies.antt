@@ -15,9 +15,15 @@ abbrev pub IsAhead : Reply → Type 0
 IsAhead (reply.Ahead since number) = Unit {0}
 IsAhead _ = ⊥
 
--- the reply tells a fault of the outside: today that a folder could not be read
+-- the reply tells that the journal didn't keep a change
+abbrev pub IsJournalFault : Reply → Type 0
+IsJournalFault (reply.JournalFault before after) = Unit {0}
+IsJournalFault _ = ⊥
+
+-- the reply tells a fault of the outside: that a folder could not be read, or that the journal didn't keep a change
 abbrev pub IsOutsideFault : Reply → Type 0
 IsOutsideFault (reply.FolderFault before after) = Unit {0}
+IsOutsideFault (reply.JournalFault before after) = Unit {0}
 IsOutsideFault _ = ⊥
 
 -- the kinds of replies
@@ -40,6 +46,7 @@ pub data ReplyKind : Type 0 where
   folder_fault : ReplyKind
   rejected : ReplyKind
   history_full : ReplyKind
+  journal_fault : ReplyKind
   out_of_memory : ReplyKind
 
 -- the kind of a reply
@@ -62,4 +69,5 @@ kind_of reply.NoFeature = no_feature
 kind_of (reply.FolderFault before after) = folder_fault
 kind_of (reply.Rejected report) = rejected
 kind_of (reply.HistoryFull number) = history_full
+kind_of (reply.JournalFault before after) = journal_fault
 kind_of reply.OutOfMemory = out_of_memory

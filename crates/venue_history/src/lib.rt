@@ -12,5 +12,5 @@ pub use laws::{
     refusal_law, version_law,
 };
 pub use opening::opening_entries;
-pub use venue_build::{Built, Venue, build, every_name, every_venue, one_outcome};
+pub use venue_build::{Built, Venue, build, every_name, every_venue, one_outcome, sizes_law};
 pub use venue_folder::files_of;

@@ -1,5 +1,5 @@
 -- What `serve BASE FOLDER ADDRESS WORKERS CONNECTIONS` does where the folder makes a venue.
-use Rattle.std.specs.Prelude.{◌≡◌, ◌⊎◌, ℕ, true, false, List, ◌++◌, Option, IfSome, codes}
+use Rattle.std.specs.Prelude.{◌≡◌, ◌⊎◌, ℕ, true, false, List, ◌++◌, Option, None, IfSome, codes}
 use Rattle.std.specs.Arc.{arc_value}
 use Rattle.std.specs.Fmt.{decimal}
 use Rattle.std.specs.declared.alloc.Global.{Global}
@@ -62,7 +62,7 @@ pub record AreTerms (base : List ℕ) (venue : Venue) (workers connections : ℕ
 
 -- so many connections were accepted as are counted, and an accept failed where it is said
 pub record WereServed (terms : HallTerms) (doors : DoorsRun) (counts : Counts) : Type 0 where
-  pub counts_are : AreCounts terms.workers terms.connections terms.opening counts
+  pub counts_are : AreCounts terms.workers terms.connections terms.opening None counts
   pub accepted : doors.accepted_now ≡ raised counts.sessions doors.accepted
   pub sound : counts.failed ≡ false → doors.faults_now ≡ doors.faults
   pub failed : counts.failed ≡ true → Rose doors.faults doors.faults_now

@@ -1,6 +1,6 @@
 //! The command `serve`: binds, prints the address, serves at a shared hall, and prints the result.
 
-ghost use Rattle.std.specs.Prelude.{◌≡◌, ◌⊎◌, ◌≤◌, ℕ, List, ◌++◌, Option, codes, string_bytes, true, false, IfOk, IfSome, IfNone};
+ghost use Rattle.std.specs.Prelude.{◌≡◌, ◌⊎◌, ◌≤◌, ℕ, List, ◌++◌, Option, codes, string_bytes, true, false, None, IfOk, IfSome, IfNone};
 ghost use Rattle.std.specs.Fmt.{decimal};
 ghost use Rattle.venue_ports.specs.Files.{StoredFile};
 ghost use Rattle.venue_ports.specs.Causes.{Rose};
@@ -29,7 +29,7 @@ use std::sync::ledger::Blank;
 use std::thread::Threads;
 use venue_commands::{Printout, Reached, ServiceOf, Status, reach_folder, tell, write_all};
 use venue_ports::{Doors, Folders, ReadFault, Stream};
-use venue_service::{Counts, Service, serve_hall};
+use venue_service::{Counts, NoLog, Service, serve_hall};
 use venue_types::OutOfMemory;
 
 // Serves at a hall whose name has the values of what it is opened with.
@@ -39,9 +39,9 @@ fn serve_named<F: Folders + Send, D: Doors + Send, R: Threads + Wait + Sync>(
     ready: Ready<'_>,
     folders: F,
     doors: D,
-) -> Service<F, D>
+) -> Service<F, NoLog, D>
     requires { D.ready doors ≡ true }
-    ensures counts { IfSome result.counts (AreCounts ready.entry.plan.workers ready.entry.plan.connections (entries_in ready.entry.plan.copies)) }
+    ensures counts { IfSome result.counts (AreCounts ready.entry.plan.workers ready.entry.plan.connections (entries_in ready.entry.plan.copies) None) }
     ensures folders { F.files result.folders ≡ F.files folders }
     ensures folders_later { F.faults folders ≤ F.faults result.folders }
     ensures doors_later { D.faults doors ≤ D.faults result.doors }
@@ -58,7 +58,8 @@ fn serve_named<F: Folders + Send, D: Doors + Send, R: Threads + Wait + Sync>(
         listening: _listening,
     } = ready;
     let blank = Blank::new(u64::from(plan.workers));
-    serve_hall::<Brand, F, D, R>(rt, alloc, blank, plan, folders, doors)
+    let log = plan.copies.no_log();
+    serve_hall::<Brand, F, NoLog, D, R>(rt, alloc, blank, plan, folders, log, doors)
 }
 
 // A word, a number behind it, and what follows.
@@ -131,6 +132,7 @@ fn serve_told<F: Folders + Send, D: Doors + Send, C: Stream, R: Threads + Wait +
         folders,
         doors,
         counts,
+        ..
     } = serve_named(rt, alloc, ready, folders, doors);
     match counts {
         Some(counts) => {

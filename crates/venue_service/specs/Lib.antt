@@ -5,5 +5,7 @@ pub mod Services
 pub use Rattle.shared_hall.specs.Venues
 pub use Rattle.shared_hall.specs.Openings
 pub use Rattle.shared_hall.specs.Making
+pub use Rattle.shared_hall.specs.Records
+pub use Rattle.shared_hall.specs.Standing
 pub use Rattle.shared_hall.specs.Copied
 pub use Rattle.venue_session.specs.Ends

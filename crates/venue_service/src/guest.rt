@@ -6,7 +6,7 @@ ghost use Rattle.venue_session.specs.Moments.{IsPrompt, reads_between};
 ghost use Rattle.venue_session.specs.Sessions.{IsSession, HasServed};
 ghost use Rattle.venue_service.specs.Guests.{conn_of};
 
-use shared_hall::{HallName, Seat};
+use shared_hall::{HallName, Log, LoggedSeat};
 use std::alloc::Global;
 use std::marker::PhantomData;
 use std::sync::Wait;
@@ -32,10 +32,10 @@ impl<N: HallName, C: Stream> Guest<N, C> {
     }
 
     /// Serves it by a session at a seat, and hands the connection back.
-    pub fn serve<F: Folders, R: Wait>(
+    pub fn serve<F: Folders, J: Log, R: Wait>(
         self,
         alloc: Global,
-        seat: &mut Seat<'_, N, F, R>,
+        seat: &mut LoggedSeat<'_, N, F, J, R>,
         front: &Front,
     ) -> (End, C)
         requires keys { front.now ≡ N.keys }

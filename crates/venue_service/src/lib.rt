@@ -10,5 +10,5 @@ mod worker;
 pub use desk::{DoorDesk, Next};
 pub use guest::Guest;
 pub use service::{Counts, Plan, Service, serve_hall};
-pub use shared_hall::{Copies, opening_entries};
+pub use shared_hall::{Copies, Log, NoLog, opening_entries};
 pub use worker::work;

@@ -7,7 +7,7 @@ ghost use Rattle.shared_hall.specs.Offices.{parts_of};
 
 use crate::desk::{DoorDesk, Next};
 use crate::worker::work;
-use shared_hall::{HallName, Office, Pass, Seat};
+use shared_hall::{HallName, Log, LoggedOffice, LoggedSeat, Pass};
 use std::alloc::Global;
 use std::sync::{Mutex, Wait};
 use std::thread;
@@ -17,12 +17,12 @@ use venue_types::push_reserved;
 use venue_wire::Front;
 
 /// Gives each pass a seat, in turn. There is room for them.
-pub(crate) fn sit_all<'a, N: HallName, F: Folders, R>(
+pub(crate) fn sit_all<'a, N: HallName, F: Folders, J: Log, R>(
     rt: &'a R,
     alloc: Global,
-    office: &'a Mutex<Office<N, F>>,
+    office: &'a Mutex<LoggedOffice<N, F, J>>,
     passes: Vec<Pass<N>>,
-    seats: &mut Vec<Seat<'a, N, F, R>>,
+    seats: &mut Vec<LoggedSeat<'a, N, F, J, R>>,
 )
     requires room { HasRoom seats.old (length passes.items) }
     requires none { length seats.old.items ≡ 0 }
@@ -30,13 +30,13 @@ pub(crate) fn sit_all<'a, N: HallName, F: Folders, R>(
     ensures parts { parts_of seats.new.items ≡ parts_of passes.items }
 {
     for pass in passes {
-        push_reserved(seats, Seat::sit(rt, alloc, pass, office));
+        push_reserved(seats, LoggedSeat::sit(rt, alloc, pass, office));
     }
 }
 
 /// Takes the passes from their seats. There is room for them.
-pub(crate) fn leave_all<N: HallName, F: Folders, R>(
-    seats: Vec<Seat<'_, N, F, R>>,
+pub(crate) fn leave_all<N: HallName, F: Folders, J: Log, R>(
+    seats: Vec<LoggedSeat<'_, N, F, J, R>>,
     passes: &mut Vec<Pass<N>>,
 )
     requires room { HasRoom passes.old (length seats.items) }
@@ -50,9 +50,9 @@ pub(crate) fn leave_all<N: HallName, F: Folders, R>(
 }
 
 // Serves at one seat what is left, unless an accept failed before.
-fn work_rest<N: HallName, F: Folders, D: Doors, R: Wait>(
+fn work_rest<N: HallName, F: Folders, J: Log, D: Doors, R: Wait>(
     alloc: Global,
-    seat: &mut Seat<'_, N, F, R>,
+    seat: &mut LoggedSeat<'_, N, F, J, R>,
     desk: &mut DoorDesk<N, D>,
     front: &Front,
 )
@@ -75,12 +75,13 @@ fn work_rest<N: HallName, F: Folders, D: Doors, R: Wait>(
 fn work_each<
     N: HallName + Send + Sync,
     F: Folders + Send,
+    J: Log + Send,
     D: Doors + Send,
     R: Threads + Wait + Sync,
 >(
     rt: &R,
     alloc: Global,
-    seats: &mut [Seat<'_, N, F, R>],
+    seats: &mut [LoggedSeat<'_, N, F, J, R>],
     desk: &Mutex<DoorDesk<N, D>>,
     front: &Front,
 )
@@ -101,9 +102,9 @@ fn work_each<
 }
 
 // Serves at the first seat what is left, unless an accept failed before.
-fn work_first<N: HallName, F: Folders, D: Doors, R: Wait>(
+fn work_first<N: HallName, F: Folders, J: Log, D: Doors, R: Wait>(
     alloc: Global,
-    seats: &mut [Seat<'_, N, F, R>],
+    seats: &mut [LoggedSeat<'_, N, F, J, R>],
     desk: &mut DoorDesk<N, D>,
     front: &Front,
 )
@@ -120,12 +121,13 @@ fn work_first<N: HallName, F: Folders, D: Doors, R: Wait>(
 pub(crate) fn work_all<
     N: HallName + Send + Sync,
     F: Folders + Send,
+    J: Log + Send,
     D: Doors + Send,
     R: Threads + Wait + Sync,
 >(
     rt: &R,
     alloc: Global,
-    seats: &mut [Seat<'_, N, F, R>],
+    seats: &mut [LoggedSeat<'_, N, F, J, R>],
     desk: Mutex<DoorDesk<N, D>>,
     front: &Front,
 ) -> DoorDesk<N, D>

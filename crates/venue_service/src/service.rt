@@ -6,13 +6,15 @@ ghost use Rattle.venue_ports.specs.Causes.{Rose};
 ghost use Rattle.shared_hall.specs.Making.{shelf_of};
 ghost use Rattle.shared_hall.specs.Copied.{entries_in, book_in};
 ghost use Rattle.shared_hall.specs.Offices.{parts_of, HasShelf, IsOneHistory};
+ghost use Rattle.shared_hall.specs.Standing.{AreRecordsOf};
 ghost use Rattle.venue_service.specs.Desks.{raised};
-ghost use Rattle.venue_service.specs.Services.{AreCounts};
+ghost use Rattle.venue_service.specs.Services.{AreCounts, IsKeptOn};
 
 use crate::desk::DoorDesk;
 use crate::seats::{leave_all, sit_all, work_all};
 use shared_hall::{
-    Closed, Copies, HallName, Office, Opened, Pass, Seat, Unopened, close_hall, open_hall,
+    Closed, Copies, HallName, Log, LoggedOffice, LoggedSeat, OpenedOf, Pass, UnopenedOf,
+    close_hall, open_kept,
 };
 use std::alloc::Global;
 use std::sync::ledger::Blank;
@@ -53,9 +55,9 @@ pub struct Counts {
 
 // Passes that are to sit, with room for their seats and for the passes once they leave again.
 #[derive(Drop)]
-struct Sitting<'a, N: HallName, F: Folders, R> {
+struct Sitting<'a, N: HallName, F: Folders, J: Log, R> {
     passes: Vec<Pass<N>>,
-    seats: Vec<Seat<'a, N, F, R>>,
+    seats: Vec<LoggedSeat<'a, N, F, J, R>>,
     left: Vec<Pass<N>>,
 }
 
@@ -68,51 +70,58 @@ struct Served<N: HallName, D: Doors> {
 
 /// What a service hands back. No counts are told where memory ran out before the first connection.
 #[derive(Drop)]
-pub struct Service<F, D> {
+pub struct Service<F, J, D> {
     pub folders: F,
+    /// The log, which has a record of each entry of the history.
+    pub log: J,
     pub doors: D,
     pub counts: Option<Counts>,
 }
 
 // Closes a hall that served nobody.
-fn close_unserved<N: HallName, F: Folders, D: Doors, R: Wait>(
+fn close_unserved<N: HallName, F: Folders, J: Log, D: Doors, R: Wait>(
     rt: &R,
-    office: Mutex<Office<N, F>>,
+    office: Mutex<LoggedOffice<N, F, J>>,
     passes: Vec<Pass<N>>,
     doors: D,
-) -> Service<F, D>
+) -> Service<F, J, D>
     requires some { 0 < length passes.items }
     requires parts { parts_of passes.items ≡ N.parts }
     ensures untold { IsNone result.counts }
+    ensures kept { IsKeptOn N.opening (J.records result.log) }
+    ensures log_later { N.log_count ≤ J.faults result.log }
     ensures shelf { HasShelf (F.files result.folders) N.folder_files }
     ensures later { N.folder_count ≤ F.faults result.folders }
     ensures doors { result.doors ≡ doors }
 {
-    let Closed { folders, .. } = close_hall(rt, office, passes);
+    let Closed { folders, log, .. } = close_hall(rt, office, passes);
     Service {
         folders,
+        log,
         doors,
         counts: None,
     }
 }
 
 // Closes a hall that served all that was accepted at a desk for so many connections, and counts.
-fn close_served<N: HallName, F: Folders, D: Doors, R: Wait>(
+fn close_served<N: HallName, F: Folders, J: Log, D: Doors, R: Wait>(
     rt: &R,
-    office: Mutex<Office<N, F>>,
+    office: Mutex<LoggedOffice<N, F, J>>,
     passes: Vec<Pass<N>>,
     desk: DoorDesk<N, D>,
     connections: u32,
-) -> Service<F, D>
+) -> Service<F, J, D>
     requires some { 0 < length passes.items }
     requires range { length passes.items ≤ 16 }
     requires parts { parts_of passes.items ≡ N.parts }
     requires connections { connections ≡ N.connections }
     requires ended { (desk.left ≡ 0) ⊎ (desk.failed ≡ true) }
     ensures told { IsSome result.counts }
-    ensures counts { IfSome result.counts (AreCounts (length passes.items) connections N.opening) }
+    ensures counts { IfSome result.counts (AreCounts (length passes.items) connections N.opening (J.records result.log)) }
     ensures workers { IfSome result.counts (λ counts. counts.workers ≡ length passes.items) }
-    ensures history { IfSome result.counts (λ counts. IsOneHistory N.opening passes.items counts.versions counts.changes) }
+    ensures history { IfSome result.counts (λ counts. IsOneHistory N.opening passes.items (J.records result.log) counts.versions counts.changes) }
+    ensures kept { IsKeptOn N.opening (J.records result.log) }
+    ensures log_later { N.log_count ≤ J.faults result.log }
     ensures shelf { HasShelf (F.files result.folders) N.folder_files }
     ensures later { N.folder_count ≤ F.faults result.folders }
     ensures ready { D.ready result.doors ≡ true }
@@ -128,11 +137,13 @@ fn close_served<N: HallName, F: Folders, D: Doors, R: Wait>(
     let sessions = connections - desk.left();
     let Closed {
         folders,
+        log,
         number,
         changes,
     } = close_hall(rt, office, passes);
     Service {
         folders,
+        log,
         doors: desk.into_doors(),
         counts: Some(Counts {
             workers,
@@ -149,13 +160,14 @@ fn run_seats<
     'a,
     N: HallName + Send + Sync,
     F: Folders + Send,
+    J: Log + Send,
     D: Doors + Send,
     R: Threads + Wait + Sync,
 >(
     rt: &'a R,
     alloc: Global,
-    office: &'a Mutex<Office<N, F>>,
-    sitting: Sitting<'a, N, F, R>,
+    office: &'a Mutex<LoggedOffice<N, F, J>>,
+    sitting: Sitting<'a, N, F, J, R>,
     desk: DoorDesk<N, D>,
     front: &Front,
 ) -> Served<N, D>
@@ -184,16 +196,17 @@ fn run_seats<
 fn serve_opened<
     N: HallName + Send + Sync,
     F: Folders + Send,
+    J: Log + Send,
     D: Doors + Send,
     R: Threads + Wait + Sync,
 >(
     rt: &R,
     alloc: Global,
-    opened: Opened<N, F>,
+    opened: OpenedOf<N, F, J>,
     doors: D,
     front: &Front,
     connections: u32,
-) -> Service<F, D>
+) -> Service<F, J, D>
     requires some { 0 < length opened.passes.items }
     requires range { length opened.passes.items ≤ 16 }
     requires parts { parts_of opened.passes.items ≡ N.parts }
@@ -204,7 +217,9 @@ fn serve_opened<
     requires connections { connections ≡ N.connections }
     requires accepted { D.accepted doors ≡ N.accepted }
     requires faults { D.faults doors ≡ N.door_count }
-    ensures counts { IfSome result.counts (AreCounts (length opened.passes.items) connections N.opening) }
+    ensures counts { IfSome result.counts (AreCounts (length opened.passes.items) connections N.opening (J.records result.log)) }
+    ensures kept { IsKeptOn N.opening (J.records result.log) }
+    ensures log_later { N.log_count ≤ J.faults result.log }
     ensures shelf { HasShelf (F.files result.folders) N.folder_files }
     ensures later { N.folder_count ≤ F.faults result.folders }
     ensures ready { D.ready result.doors ≡ true }
@@ -216,7 +231,7 @@ fn serve_opened<
     ensures unserved { IfNone result.counts (result.doors ≡ doors) }
     ensures doors_later { D.faults doors ≤ D.faults result.doors }
 {
-    let Opened { office, passes } = opened;
+    let OpenedOf { office, passes } = opened;
     let mut seats = Vec::new(alloc);
     let mut left = Vec::new(alloc);
     if reserve(&mut seats, passes.len()).is_err() || reserve(&mut left, passes.len()).is_err() {
@@ -232,15 +247,16 @@ fn serve_opened<
     close_served(rt, office, passes, desk, connections)
 }
 
-/// Serves so many connections at a hall under a name, opened with the entries of the copies, over folders below a base, by one to
-/// `workers` workers, who know the keys of its staff. It ends when all were accepted and served, or an accept failed and what had been
+/// Serves so many connections at a hall under a name, opened with the entries of the copies and a log that has a record of each, over
+/// folders below a base, by one to `workers` workers, who know the keys of its staff. It ends when all were accepted and served, or an accept failed and what had been
 /// accepted was served.
 pub fn serve_hall<
     N: HallName + Send + Sync,
     F: Folders + Send,
+    J: Log + Send,
     D: Doors + Send,
     R: Threads + Wait + Sync,
->(rt: &R, alloc: Global, blank: Blank, plan: Plan, folders: F, doors: D) -> Service<F, D>
+>(rt: &R, alloc: Global, blank: Blank, plan: Plan, folders: F, log: J, doors: D) -> Service<F, J, D>
     requires some { 1 ≤ plan.workers }
     requires range { plan.workers ≤ 16 }
     requires name { blank.name ≡ N.name }
@@ -251,13 +267,18 @@ pub fn serve_hall<
     requires keys { plan.front ≡ N.keys }
     requires count { N.folder_count ≡ F.faults folders }
     requires files { shelf_of (F.files folders) plan.base ≡ N.folder_files }
+    requires length { J.length log ≡ length (entries_in plan.copies) }
+    requires records { AreRecordsOf (J.records log) (entries_in plan.copies) }
+    requires log_count { N.log_count ≡ J.faults log }
     requires ready { D.ready doors ≡ true }
     requires binds { D.binds doors ≡ N.binds }
     requires bound { D.bound doors ≡ N.bound }
     requires connections { plan.connections ≡ N.connections }
     requires accepted { D.accepted doors ≡ N.accepted }
     requires faults { D.faults doors ≡ N.door_count }
-    ensures counts { IfSome result.counts (AreCounts plan.workers plan.connections N.opening) }
+    ensures counts { IfSome result.counts (AreCounts plan.workers plan.connections N.opening (J.records result.log)) }
+    ensures kept { IsKeptOn N.opening (J.records result.log) }
+    ensures log_later { J.faults log ≤ J.faults result.log }
     ensures folders { F.files result.folders ≡ F.files folders }
     ensures folders_later { F.faults folders ≤ F.faults result.folders }
     ensures doors_later { D.faults doors ≤ D.faults result.doors }
@@ -276,10 +297,11 @@ pub fn serve_hall<
         workers,
         connections,
     } = plan;
-    match open_hall::<N, F>(alloc, blank, copies, folders, base, workers) {
+    match open_kept::<N, F, J>(alloc, blank, copies, folders, base, workers, log) {
         Ok(opened) => serve_opened(rt, alloc, opened, doors, &front, connections),
-        Err(Unopened { folders }) => Service {
+        Err(UnopenedOf { folders, log }) => Service {
             folders,
+            log,
             doors,
             counts: None,
         },

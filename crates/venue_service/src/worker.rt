@@ -4,7 +4,7 @@ ghost use Rattle.std.specs.Prelude.{◌≡◌};
 ghost use Rattle.shared_hall.specs.Facts.{IsSameHall};
 
 use crate::desk::{DoorDesk, Next};
-use shared_hall::{HallName, Seat};
+use shared_hall::{HallName, Log, LoggedSeat};
 use std::alloc::Global;
 use std::sync::{Mutex, Wait};
 use venue_ports::{Doors, Folders};
@@ -23,10 +23,10 @@ fn next_of<N: HallName, D: Doors, R: Wait>(
 }
 
 /// Serves one connection after the other at a seat, until all are accepted or an accept fails.
-pub fn work<N: HallName, F: Folders, D: Doors, R: Wait>(
+pub fn work<N: HallName, F: Folders, J: Log, D: Doors, R: Wait>(
     rt: &R,
     alloc: Global,
-    seat: &mut Seat<'_, N, F, R>,
+    seat: &mut LoggedSeat<'_, N, F, J, R>,
     desk: &Mutex<DoorDesk<N, D>>,
     front: &Front,
 )

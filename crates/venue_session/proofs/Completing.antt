@@ -18,6 +18,7 @@ use mathlib.Core.List.{IsPrefix}
 use Rattle.venue_hall.specs.Venues.{SeenVenue as Venue}
 use Rattle.venue_hall.specs.Built.{IsRejected, IsVenueOf}
 use Rattle.venue_hall.specs.Shelves.{Shelf}
+use Rattle.venue_types.specs.declared.feature_id.FeatureId.{FeatureId}
 use Rattle.venue_hall.specs.Act.{Act}
 use Rattle.venue_hall.specs.Act.TheVariants as act
 use Rattle.venue_hall.specs.Entry.{Entry}
@@ -76,18 +77,20 @@ not_both outcome s v folder report venue b m =
 not_refused : OneOutcome → (s : Shelf) (v : Version) (asked : Change) (r : Reply) → HasRoom v → CanBeMade (Some s) v asked → Refuses (Some s) v asked r → IsMadeKind asked (kind_of r)
 not_refused outcome s v (change.Closure closure) reply.NoProfile room can is = absurd (cc (is, can.1.named))
 not_refused outcome s v (change.Closure closure) reply.NoFeature room can is = absurd (is.2 can.1.closable)
-not_refused outcome s v (change.Closure closure) (reply.ClosureDone it) room can is = refl
+not_refused outcome s v (change.Closure closure) (reply.ClosureDone it) room can is = inl refl
 not_refused outcome s v (change.Closure closure) (reply.HistoryFull number) room can is = absurd (omega (arith, room, is.1.1))
+not_refused outcome s v (change.Closure closure) (reply.JournalFault before after) room can is = inr refl
 not_refused outcome s v (change.Closure closure) _ room can is = absurd is.1
-not_refused outcome s v (change.Publish folder) (reply.FolderFault before after) room can is = inr refl
+not_refused outcome s v (change.Publish folder) (reply.FolderFault before after) room can is = inr (inl refl)
 not_refused outcome s v (change.Publish folder) (reply.Rejected report) room can is = absurd (not_both outcome s v folder report can.0 is can.1)
 not_refused outcome s v (change.Publish folder) (reply.HistoryFull number) room can is = absurd (omega (arith, room, is.1.1))
+not_refused outcome s v (change.Publish folder) (reply.JournalFault before after) room can is = inr (inr refl)
 not_refused outcome s v (change.Publish folder) _ room can is = absurd is.1
 
 -- an act is told by the kind of reply that its change asks for
 act_told : (shelf : Option Shelf) (v : Version) (asked : Change) (a : Act) (r : Reply) → IsActOf shelf v asked a → TellsOf v asked a r → IsMadeKind asked (kind_of r)
-act_told shelf v (change.Closure closure) (act.Closed closing) (reply.ClosureDone it) is tells = refl
-act_told shelf v (change.Closure closure) (act.Reopened closing) (reply.ClosureDone it) is tells = refl
+act_told shelf v (change.Closure closure) (act.Closed closing) (reply.ClosureDone it) is tells = inl refl
+act_told shelf v (change.Closure closure) (act.Reopened closing) (reply.ClosureDone it) is tells = inl refl
 act_told shelf v (change.Publish folder) (act.Published venue) (reply.Published number dropped) is tells = inl refl
 act_told shelf v (change.Closure closure) (act.Closed closing) _ is tells = absurd tells
 act_told shelf v (change.Closure closure) (act.Reopened closing) _ is tells = absurd tells
@@ -137,14 +140,22 @@ not_moved shelf v closure reply.NoProfile so is = absurd (cc (is, so.1.named))
 not_moved shelf v closure reply.NoFeature so is = absurd (is.2 so.1.closable)
 not_moved shelf v closure (reply.ClosureDone it) so is = refl
 not_moved shelf v closure (reply.HistoryFull number) so is = absurd (not_otherwise v closure so is.0)
+not_moved shelf v closure (reply.JournalFault before after) so is = absurd (not_otherwise v closure so is.0)
 not_moved shelf v closure _ so is = absurd is.1
+
+-- no closure is told as a publication
+published_never : (v : Version) (closure : Closure) (a : Act) (number : ℕ) (dropped : List FeatureId)
+    → TellsOf v (change.Closure closure) a (reply.Published number dropped) → ⊥
+published_never v closure (act.Closed closing) number dropped tells = tells
+published_never v closure (act.Reopened closing) number dropped tells = tells
+published_never v closure (act.Published venue) number dropped tells = tells
 
 pub standing_told : (shelf : Option Shelf) (worker : ℕ) (closure : Closure) (h k : List Entry) (v : Version) (r : Reply) → Replays h v
     → StandsSo v closure → Changes shelf worker (change.Closure closure) h r k → (kind_of r ≡ closure_done) ⊎ (kind_of r ≡ out_of_memory)
 standing_told shelf worker closure h k v reply.OutOfMemory stands so is = inr refl
 standing_told shelf worker closure h k v (reply.ClosureDone it) stands so is = inl refl
 standing_told shelf worker closure h k v (reply.Published number dropped) stands so is =
-    inl (act_told shelf is.version (change.Closure closure) is.entry.act (reply.Published number dropped) is.of_change is.tells)
+    absurd (published_never is.version closure is.entry.act number dropped is.tells)
 standing_told shelf worker closure h k v r stands so is =
     inl (not_moved shelf v closure r so (refused_here shelf (change.Closure closure) h is.version v r is.stands stands is.cause))
 

@@ -12,7 +12,7 @@ use Rattle.venue_hall.specs.Shelves.{Shelf}
 use Rattle.venue_hall.specs.Answers.{HasProfile, IsPlace}
 use Rattle.venue_hall.specs.Changes.{Makes, IsClosureFor}
 use Rattle.venue_hall.specs.Closed.{Version}
-use Rattle.venue_hall.specs.Replies.{ReplyKind, kind_of, version, places, place, closures, route, no_route, tour, no_tour, nearest, closure_done, published, folder_fault, out_of_memory}
+use Rattle.venue_hall.specs.Replies.{ReplyKind, kind_of, version, places, place, closures, route, no_route, tour, no_tour, nearest, closure_done, published, folder_fault, journal_fault, out_of_memory}
 
 -- what a question names is there: a place; for a route a profile and both places; for a tour its stops too; for the nearest a profile and the start
 abbrev pub IsThere : Version → Ask → Type 0
@@ -43,10 +43,10 @@ abbrev pub CanBeMade : Option Shelf → Version → Change → Type 0
 CanBeMade shelf v (change.Closure asked) = (set : ProfileSet) × IsClosureFor v asked set
 CanBeMade shelf v (change.Publish folder) = (venue : Venue) × Makes shelf v folder venue
 
--- the reply tells that the change stands; or, of a publication, that the folder couldn't be read
+-- the reply tells that the change stands; or that the journal didn't keep it, or, of a publication, that the folder couldn't be read
 abbrev pub IsMadeKind : Change → ReplyKind → Type 0
-IsMadeKind (change.Closure asked) kind = kind ≡ closure_done
-IsMadeKind (change.Publish folder) kind = (kind ≡ published) ⊎ (kind ≡ folder_fault)
+IsMadeKind (change.Closure asked) kind = (kind ≡ closure_done) ⊎ (kind ≡ journal_fault)
+IsMadeKind (change.Publish folder) kind = (kind ≡ published) ⊎ (kind ≡ folder_fault) ⊎ (kind ≡ journal_fault)
 
 -- the answer is a reply of such a kind, or that memory ran out
 abbrev pub IsReplyOf : (ReplyKind → Type 0) → Response → Type 0

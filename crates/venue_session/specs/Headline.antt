@@ -82,6 +82,7 @@ TellsTheWay seen (Of reply.NoFeature) = Unit {0}
 TellsTheWay seen (Of (reply.FolderFault before after)) = Unit {0}
 TellsTheWay seen (Of (reply.Rejected report)) = Unit {0}
 TellsTheWay seen (Of (reply.HistoryFull number)) = Unit {0}
+TellsTheWay seen (Of (reply.JournalFault before after)) = Unit {0}
 TellsTheWay seen (Of reply.OutOfMemory) = Unit {0}
 TellsTheWay seen (No refusal) = Unit {0}
 TellsTheWay seen (Bare refusal) = Unit {0}

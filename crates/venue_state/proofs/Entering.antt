@@ -1,8 +1,10 @@
 -- From what becomes of a change at a board to what becomes of the history.
-use Rattle.std.proofs.Common.{◌≡◌, ℕ, ◌≤◌, Bool, true, false, refl, sym, subst, arith, List, [], ◌∷◌, ◌++◌, Option, Some, None, length}
+use Rattle.std.proofs.Common.{◌≡◌, ℕ, ◌<◌, ◌≤◌, Bool, true, false, refl, sym, subst, arith, List, [], ◌∷◌, ◌++◌, Option, Some, None, length}
 use Rattle.venue_types.specs.declared.files.Files.{Files}
+use Rattle.std.specs.Arc.{arc_value}
 use Rattle.venue_types.specs.declared.query.Change.{Change}
 use Rattle.venue_types.specs.declared.query.Change.TheVariants as change
+use Rattle.venue_types.specs.declared.query.Closure.{Closure}
 use Rattle.venue_types.specs.declared.reply.ClosureDone.{ClosureDone}
 use Rattle.venue_types.specs.declared.reply.Reply.{Reply}
 use Rattle.venue_types.specs.declared.reply.Reply.TheVariants as reply
@@ -10,9 +12,11 @@ use Rattle.venue_history.specs.Shelves.{Shelf}
 use Rattle.venue_history.specs.declared.entry.Act.{Act}
 use Rattle.venue_history.specs.declared.entry.Act.TheVariants as act
 use Rattle.venue_history.specs.declared.entry.Entry.{Entry}
-use Rattle.venue_history.specs.Changes.{IsActOf, TellsOf, Refuses, IsRefused, IsAccepted, IsAcceptedIf, Changes}
+use Rattle.venue_ports.specs.Causes.{Rose}
+use Rattle.venue_history.specs.Changes.{IsActOf, IsDue, TellsOf, Refuses, IsRefused, IsAccepted, IsAcceptedIf, Changes}
 use Rattle.venue_history.specs.Closed.{Version}
 use Rattle.venue_history.specs.Histories.{Replays}
+use Rattle.venue_history.specs.Replies.{IsJournalFault}
 use Rattle.venue_history.specs.Versions.{after}
 use Rattle.venue_state.specs.declared.prepared.NextBoard.{NextBoard}
 use Rattle.venue_state.specs.Making.{Brings, IsMade, Leaves, CountsFault}
@@ -73,8 +77,50 @@ pub stays : (shelf : Option Shelf) (v : Version) (worker : ℕ) (asked : Change)
 stays shelf v worker asked h k (reply.ClosureDone told) stands leaves same =
     refused_closure shelf worker asked h k told (unchanged shelf v asked told leaves) (record { kept = same; version = v; stands = stands; cause = leaves })
 stays shelf v worker asked h k (reply.Published number dropped) stands leaves same = absurd leaves
+stays shelf v worker asked h k (reply.JournalFault before after) stands leaves same = absurd leaves
 stays shelf v worker asked h k reply.OutOfMemory stands leaves same = same
 stays shelf v worker asked h k _ stands leaves same = record { kept = same; version = v; stands = stands; cause = leaves }
+
+-- what is ready would add an entry
+due_closure : (shelf : Option Shelf) (v : Version) (asked : Closure) (done : Act) → IsActOf shelf v (change.Closure asked) done → IsDue shelf v (change.Closure asked)
+due_closure shelf v asked (act.Closed it) is = (it.profiles, is.1.closure_for, is.1.stood)
+due_closure shelf v asked (act.Reopened it) is = (it.profiles, is.1.closure_for, is.1.stood)
+due_closure shelf v asked (act.Published venue) is = absurd is
+
+due_publication : (shelf : Option Shelf) (v : Version) (folder : List ℕ) (done : Act) → IsActOf shelf v (change.Publish folder) done → IsDue shelf v (change.Publish folder)
+due_publication shelf v folder (act.Published venue) is = (arc_value venue, is)
+due_publication shelf v folder (act.Closed it) is = absurd is
+due_publication shelf v folder (act.Reopened it) is = absurd is
+
+-- what is ready and isn't kept changes nothing
+unkept_at : (shelf : Option Shelf) (v : Version) (worker : ℕ) (asked : Change) (done : Act) (h k : List Entry) (before after : ℕ) → Replays h v → IsActOf shelf v asked done
+    → v.number < v.settings.last_version → Rose before after → k ≡ h → Changes shelf worker asked h (reply.JournalFault before after) k
+unkept_at shelf v worker (change.Closure asked) done h k before after stands is room rose same =
+    record { kept = same; version = v; stands = stands; cause = (due_closure shelf v asked done is, (room, rose)) }
+unkept_at shelf v worker (change.Publish folder) done h k before after stands is room rose same =
+    record { kept = same; version = v; stands = stands; cause = (due_publication shelf v folder done is, (room, rose)) }
+
+pub unkept : (shelf : Option Shelf) (v : Version) (worker : ℕ) (asked : Change) (h k : List Entry) (ready : NextBoard) (r : Reply) (files : Option Files) (before after : ℕ)
+    → Replays h v → IsMade shelf v worker asked ready r files → Rose before after → k ≡ h → Changes shelf worker asked h (reply.JournalFault before after) k
+unkept shelf v worker asked h k ready r files before after stands made rose same =
+    unkept_at shelf v worker asked ready.entry.act h k before after stands (act_of shelf v asked ready.entry.act files made.brings) made.may.room rose same
+
+-- what leaves the history as it is isn't told as a fault of the journal, and neither is what is ready
+pub no_journal_leaves : (shelf : Option Shelf) (v : Version) (asked : Change) (r : Reply) → Leaves shelf v asked r → ¬ IsJournalFault r
+no_journal_leaves shelf v asked (reply.JournalFault before after) leaves is = leaves
+no_journal_leaves shelf v asked _ leaves is = absurd is
+
+untold : (v : Version) (asked : Change) (done : Act) (before after : ℕ) → TellsOf v asked done (reply.JournalFault before after) → ⊥
+untold v (change.Closure asked) (act.Closed it) before after tells = tells
+untold v (change.Closure asked) (act.Reopened it) before after tells = tells
+untold v (change.Closure asked) (act.Published venue) before after tells = tells
+untold v (change.Publish folder) (act.Closed it) before after tells = tells
+untold v (change.Publish folder) (act.Reopened it) before after tells = tells
+untold v (change.Publish folder) (act.Published venue) before after tells = tells
+
+pub no_journal_tells : (v : Version) (asked : Change) (done : Act) (r : Reply) → TellsOf v asked done r → ¬ IsJournalFault r
+no_journal_tells v asked done (reply.JournalFault before after) tells is = untold v asked done before after tells
+no_journal_tells v asked done _ tells is = absurd is
 
 -- a history has an entry
 pub begun : (h : List Entry) (v : Version) → Replays h v → 1 ≤ length h

@@ -31,10 +31,11 @@ shelf_of (Some stored) base = Some (record { stored = stored; base = base })
 abbrev pub closure_act : Closure → ProfileSet → Act
 closure_act asked set = if asked.closed then act.Closed (record { feature = asked.feature; profiles = set }) else act.Reopened (record { feature = asked.feature; profiles = set })
 
--- the reply leaves the history as it is, and is right where it does, or memory ran out
+-- the reply leaves the history as it is, and is right where it does, or memory ran out; that a journal fails is known only behind this
 abbrev pub Leaves : Option Shelf → Version → Change → Reply → Type 0
 Leaves shelf v asked reply.OutOfMemory = Unit {0}
 Leaves shelf v asked (reply.Published number dropped) = ⊥
+Leaves shelf v asked (reply.JournalFault before after) = ⊥
 Leaves shelf v asked r = Refuses shelf v asked r
 
 -- the act to which the change comes, and the files that were read for it: a publication's venue is made of them, a closure has none
@@ -61,7 +62,13 @@ abbrev pub CountsFault : ℕ → ℕ → Reply → Type 0
 CountsFault before now (reply.FolderFault earlier later) = (earlier ≡ before) × (later ≡ now) × (before ≤ now) × Rose before now
 CountsFault before now _ = now ≡ before
 
--- the same of what becomes of a change: one that is ready comes without a fault
+-- the journal's counts of failures before and now: they differ only where the reply tells that it didn't keep the change, and then they rose and it
+-- tells both
+abbrev pub CountsJournalFault : ℕ → ℕ → Reply → Type 0
+CountsJournalFault before now (reply.JournalFault earlier later) = (earlier ≡ before) × (later ≡ now) × (before ≤ now) × Rose before now
+CountsJournalFault before now _ = now ≡ before
+
+-- the same of the folders and of what becomes of a change: one that is ready comes without a fault
 abbrev pub CountsOutcome : ℕ → ℕ → Outcome → Type 0
 CountsOutcome before now (outcome.Stays r) = CountsFault before now r
 CountsOutcome before now (outcome.Made ready r files) = now ≡ before

@@ -191,5 +191,10 @@ pub enum Reply {
     HistoryFull {
         number: u32,
     },
+    /// The journal could not keep the change, which isn't made; its counts of failures before and after.
+    JournalFault {
+        before: u64,
+        after: u64,
+    },
     OutOfMemory,
 }

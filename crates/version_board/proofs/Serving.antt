@@ -8,7 +8,7 @@ use Rattle.venue_ports.specs.Files.{StoredFile}
 use Rattle.venue_hall.specs.Entry.{Entry}
 use Rattle.venue_hall.specs.Closed.{Version}
 use Rattle.venue_hall.specs.Histories.{Replays}
-use Rattle.venue_hall.specs.Replies.{told, IsOutsideFault}
+use Rattle.venue_hall.specs.Replies.{told, IsJournalFault, IsOutsideFault}
 use Rattle.board_copies.specs.Making.{shelf_of, CountsFault}
 use Rattle.board_copies.proofs.Entering.{begun}
 
@@ -28,9 +28,10 @@ pub later_faults : (before now : ℕ) (r : Reply) → CountsFault before now r �
 later_faults before now (reply.FolderFault earlier later) counts = counts.2
 later_faults before now _ same = omega arith
 
-pub risen_faults : (before now : ℕ) (r : Reply) → CountsFault before now r → IsOutsideFault r → Rose before now
-risen_faults before now (reply.FolderFault earlier later) counts is = counts.3
-risen_faults before now _ same is = absurd is
+pub risen_faults : (before now : ℕ) (r : Reply) → CountsFault before now r → ¬ IsJournalFault r → IsOutsideFault r → Rose before now
+risen_faults before now (reply.FolderFault earlier later) counts kept is = counts.3
+risen_faults before now (reply.JournalFault earlier later) counts kept is = absurd (kept tt)
+risen_faults before now _ same kept is = absurd is
 
 pub same_shelf : (one other : Option (List StoredFile)) (x y : List ℕ) → one ≡ other → x ≡ y → shelf_of one x ≡ shelf_of other y
 same_shelf one other x y files base = cc

@@ -10,6 +10,7 @@ pub use Rattle.venue_hall.specs.BuiltType
 pub use Rattle.venue_hall.specs.Closed
 pub use Rattle.venue_hall.specs.Histories
 pub use Rattle.venue_hall.specs.Changes
+pub use Rattle.venue_hall.specs.Replies
 pub use Rattle.venue_hall.specs.Act
 pub use Rattle.venue_hall.specs.Versions
 pub use Rattle.venue_hall.specs.Ways

@@ -6,7 +6,7 @@ ghost use mathlib.Core.List.{IsPrefix};
 ghost use Rattle.venue_ports.specs.Causes.{Rose};
 ghost use Rattle.venue_hall.specs.Changes.{Changes};
 ghost use Rattle.venue_hall.specs.Histories.{IsLegal};
-ghost use Rattle.venue_hall.specs.Replies.{told, IsOutsideFault};
+ghost use Rattle.venue_hall.specs.Replies.{told, IsJournalFault, IsOutsideFault};
 ghost use Rattle.venue_hall.specs.Versions.{MayFollow, after};
 ghost use Rattle.board_copies.specs.Stamps.{entries_of};
 ghost use Rattle.venue_hall.specs.Facts.{IsSameHall, IsChanged};
@@ -104,6 +104,7 @@ impl<F: Folders> Alone<F> {
     fn make(&mut self, change: &Change) -> Reply
         ensures changes { Changes (shelf_of (F.files self.old.reader.folders) self.old.reader.base) 1 change.now (entries_of self.old.held.stamp) result (entries_of self.new.held.stamp) }
         ensures counts { CountsFault (F.faults self.old.reader.folders) (F.faults self.new.reader.folders) result }
+        ensures kept { ¬ IsJournalFault result }
         ensures same { F.files self.new.reader.folders ≡ F.files self.old.reader.folders }
         ensures base { self.new.reader.base ≡ self.old.reader.base }
         ensures looks { self.new.looks ≡ self.old.looks }
@@ -157,6 +158,9 @@ impl<F: Folders> Hall for Alone<F> {
 
         // A reply that tells a fault tells the folders' own counts, at the beginning and at the end.
         ensures counts { CountsFault (F.faults (folders_of self.old)) (F.faults (folders_of self.new)) result }
+
+        // It has no journal.
+        ensures journalless { ¬ IsJournalFault result }
     {
         change_law();
         self.looks = self.looks.saturating_add(1);

@@ -284,6 +284,7 @@ body_of reply.NoFeature = error_data (codes "no_such_feature")
 body_of (reply.FolderFault before after) = error_data (codes "folder_fault")
 body_of (reply.Rejected report) = rejected_data report
 body_of (reply.HistoryFull version) = full_data version
+body_of (reply.JournalFault before after) = error_data (codes "journal_fault")
 body_of reply.OutOfMemory = error_data (codes "want_of_memory")
 
 -- the body of a refusal

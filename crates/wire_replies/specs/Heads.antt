@@ -28,6 +28,7 @@ reply_status reply.NoFeature = 404
 reply_status (reply.FolderFault before after) = 502
 reply_status (reply.Rejected report) = 422
 reply_status (reply.HistoryFull version) = 409
+reply_status (reply.JournalFault before after) = 502
 reply_status reply.OutOfMemory = 503
 
 -- the status of a refusal (RFC 9110, section 15; RFC 6585, section 5)

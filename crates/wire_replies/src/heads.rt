@@ -39,6 +39,7 @@ pub(crate) fn reply_status(reply: &Reply) -> HttpStatus
         Reply::FolderFault { .. } => HttpStatus::BadGateway,
         Reply::Rejected(_) => HttpStatus::Unprocessable,
         Reply::HistoryFull { .. } => HttpStatus::Conflict,
+        Reply::JournalFault { .. } => HttpStatus::BadGateway,
         Reply::OutOfMemory => HttpStatus::Unavailable,
     }
 }

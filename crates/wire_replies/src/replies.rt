@@ -76,6 +76,7 @@ impl Written for Reply {
             Reply::FolderFault { .. } => write_error(alloc, out, "folder_fault"),
             Reply::Rejected(report) => write_rejected(alloc, out, report),
             Reply::HistoryFull { number } => write_full(alloc, out, *number),
+            Reply::JournalFault { .. } => write_error(alloc, out, "journal_fault"),
             Reply::OutOfMemory => write_error(alloc, out, "want_of_memory"),
         }
     }

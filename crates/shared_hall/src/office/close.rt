@@ -3,27 +3,29 @@
 ghost use Rattle.std.specs.Prelude.{◌≡◌, ◌+◌, ◌<◌, ◌≤◌, length, All};
 ghost use mathlib.Core.List.{IsPrefix};
 ghost use Rattle.venue_hall.specs.Histories.{IsLegal};
+ghost use Rattle.venue_hall.specs.Standing.{AreRecordsOf};
 ghost use Rattle.shared_hall.specs.Offices.{parts_of, made_of, Begins, HasShelf, IsOneHistory};
 
-use super::{Office, OfficeOf, Pass, PassOf};
+use super::{LoggedOffice, OfficeOf, Pass, PassOf};
 use crate::name::HallName;
 use board_copies::{BaseFolders, Keeper};
 use std::sync::ledger::Share;
 use std::sync::{Mutex, Wait};
-use venue_hall::{legal_law, number_law};
+use venue_hall::{Log, legal_law, number_law};
 use venue_ports::Folders;
 
 /// What a hall ends with.
 #[derive(Drop)]
-pub struct Closed<F> {
+pub struct Closed<F, J> {
     pub folders: F,
+    pub log: J,
     /// How many entries the history has.
     pub number: u32,
     /// How many accepted changes the passes told.
     pub changes: u32,
 }
 
-impl<N: HallName, F: Folders> OfficeOf<N, F, Keeper> {
+impl<N: HallName, F: Folders, J: Log> OfficeOf<N, F, Keeper, J> {
     // Takes in a pass, which has seen a beginning of the history.
     fn take_in<R: Wait>(&mut self, rt: &R, pass: Pass<N>) -> Share<N>
         ensures office { self.new ≡ self.old }
@@ -38,7 +40,7 @@ impl<N: HallName, F: Folders> OfficeOf<N, F, Keeper> {
     }
 
     // Ends the history, of whose changes the share has all parts.
-    fn end<R: Wait>(self, rt: &R, all: Share<N>) -> Closed<F>
+    fn end<R: Wait>(self, rt: &R, all: Share<N>) -> Closed<F, J>
         requires { all.parts ≡ N.parts }
         ensures number { result.number ≡ length self.entries }
         ensures legal { IsLegal self.entries }
@@ -48,12 +50,16 @@ impl<N: HallName, F: Folders> OfficeOf<N, F, Keeper> {
         ensures folders { F.faults result.folders ≡ self.faults }
         ensures files { HasShelf (F.files result.folders) N.folder_files }
         ensures count { N.folder_count ≤ self.faults }
+        ensures records { AreRecordsOf (J.records result.log) self.entries }
+        ensures length { J.length result.log ≡ length self.entries }
+        ensures log_count { N.log_count ≤ J.faults result.log }
     {
         number_law();
         let OfficeOf {
             keeper,
             mut book,
             reader,
+            log,
             start,
             ..
         } = self;
@@ -64,6 +70,7 @@ impl<N: HallName, F: Folders> OfficeOf<N, F, Keeper> {
         let BaseFolders { folders, .. } = reader;
         Closed {
             folders,
+            log,
             number,
             changes: number - start,
         }
@@ -71,9 +78,9 @@ impl<N: HallName, F: Folders> OfficeOf<N, F, Keeper> {
 }
 
 // Takes in all passes, each of which has seen a beginning of the history.
-fn take_in_all<N: HallName, F: Folders, R: Wait>(
+fn take_in_all<N: HallName, F: Folders, J: Log, R: Wait>(
     rt: &R,
-    office: &mut Office<N, F>,
+    office: &mut LoggedOffice<N, F, J>,
     passes: Vec<Pass<N>>,
     all: Share<N>,
 ) -> Share<N>
@@ -91,15 +98,17 @@ fn take_in_all<N: HallName, F: Folders, R: Wait>(
 }
 
 /// Closes a hall of which all passes are handed in: they have seen beginnings of one history, which has one entry for each change that
-/// they told, behind those with which it was opened. It waits for readers as a publication does.
-pub fn close_hall<N: HallName, F: Folders, R: Wait>(
+/// they told, behind those with which it was opened. The log comes back with a record for each entry. It waits for readers as a publication does.
+pub fn close_hall<N: HallName, F: Folders, J: Log, R: Wait>(
     rt: &R,
-    office: Mutex<Office<N, F>>,
+    office: Mutex<LoggedOffice<N, F, J>>,
     passes: Vec<Pass<N>>,
-) -> Closed<F>
+) -> Closed<F, J>
     requires some { 0 < length passes.items }
     requires parts { parts_of passes.items ≡ N.parts }
-    ensures history { IsOneHistory N.opening passes.items result.number result.changes }
+    ensures history { IsOneHistory N.opening passes.items (J.records result.log) result.number result.changes }
+    ensures length { J.length result.log ≡ result.number }
+    ensures log_count { N.log_count ≤ J.faults result.log }
     ensures folders { N.folder_count ≤ F.faults result.folders }
     ensures files { HasShelf (F.files result.folders) N.folder_files }
 {

@@ -2,28 +2,36 @@
 
 ghost use Rattle.std.specs.Prelude.{◌≡◌, ◌+◌, ◌<◌, ◌≤◌, length, All, IfOk, IfErr};
 ghost use Rattle.left_right.specs.Sides.{view};
+ghost use Rattle.venue_hall.specs.Standing.{AreRecordsOf};
 ghost use Rattle.board_copies.specs.Rules.{list_of, book_of, whole, Knows};
 ghost use Rattle.board_copies.specs.Stamps.{entries_of};
 ghost use Rattle.board_copies.specs.Making.{shelf_of};
 ghost use Rattle.shared_hall.specs.Copied.{entries_in, book_in};
 ghost use Rattle.shared_hall.specs.Offices.{parts_of, AreNumbered, IsNew};
 
-use super::{Office, OfficeOf, Pass, PassOf};
+use super::{LoggedOffice, OfficeOf, Pass, PassOf};
 use crate::copies::Copies;
 use crate::name::HallName;
 use board_copies::{BaseFolders, Held, SideReader, SideWriter, make_reader};
 use std::alloc::Global;
 use std::sync::Mutex;
 use std::sync::ledger::{Blank, Share};
-use venue_hall::{Unopened, number_law};
+use venue_hall::{Log, number_law};
 use venue_ports::Folders;
 use venue_types::{OutOfMemory, Text};
 
 /// What a hall begins with.
 #[derive(Drop)]
-pub struct Opened<N: HallName, F: Folders> {
-    pub office: Mutex<Office<N, F>>,
+pub struct OpenedOf<N: HallName, F: Folders, J: Log> {
+    pub office: Mutex<LoggedOffice<N, F, J>>,
     pub passes: Vec<Pass<N>>,
+}
+
+/// No hall was opened, since memory ran out. The folders and the log come back.
+#[derive(Drop)]
+pub struct UnopenedOf<F, J> {
+    pub folders: F,
+    pub log: J,
 }
 
 // One to `workers` readers, each of which knows all of the copy that is published.
@@ -132,16 +140,17 @@ fn open_passes<N: HallName>(
     passes_of(alloc, &writer.published().held, readers, rest)
 }
 
-/// A hall under a name, opened with the entries of the copies, over folders below a base, with one to `workers` passes. Each has seen
-/// these entries, and has a part of the changes. Where memory runs out the folders come back.
-pub fn open_hall<N: HallName, F: Folders>(
+/// A hall under a name, opened with the entries of the copies and a log that has a record of each, over folders below a base, with one to
+/// `workers` passes. Each has seen these entries, and has a part of the changes. Where memory runs out the folders and the log come back.
+pub fn open_kept<N: HallName, F: Folders, J: Log>(
     alloc: Global,
     blank: Blank,
     copies: Copies,
     folders: F,
     base: Text,
     workers: u8,
-) -> Result<Opened<N, F>, Unopened<F>>
+    log: J,
+) -> Result<OpenedOf<N, F, J>, UnopenedOf<F, J>>
     requires some { 1 ≤ workers }
     requires range { workers ≤ 16 }
     requires name { blank.name ≡ N.name }
@@ -151,12 +160,16 @@ pub fn open_hall<N: HallName, F: Folders>(
     requires opening { entries_in copies ≡ N.opening }
     requires count { N.folder_count ≤ F.faults folders }
     requires files { shelf_of (F.files folders) base ≡ N.folder_files }
+    requires length { J.length log ≡ length (entries_in copies) }
+    requires records { AreRecordsOf (J.records log) (entries_in copies) }
+    requires log_count { N.log_count ≤ J.faults log }
     ensures new { IfOk result (λ opened. All (IsNew (entries_in copies)) opened.passes.items) }
     ensures some { IfOk result (λ opened. 0 < length opened.passes.items) }
     ensures few { IfOk result (λ opened. length opened.passes.items ≤ workers) }
     ensures numbered { IfOk result (λ opened. AreNumbered 1 opened.passes.items) }
     ensures shared { IfOk result (λ opened. parts_of opened.passes.items ≡ N.parts) }
-    ensures err { IfErr result (λ unopened. unopened.folders ≡ folders) }
+    ensures folders { IfErr result (λ unopened. unopened.folders ≡ folders) }
+    ensures log { IfErr result (λ unopened. unopened.log ≡ log) }
 {
     number_law();
     let (book, rest) = blank.open::<N>();
@@ -166,7 +179,7 @@ pub fn open_hall<N: HallName, F: Folders>(
         settings,
     } = copies;
     let Ok(passes) = open_passes(alloc, &mut keeper.writer, rest, workers) else {
-        return Err(Unopened { folders });
+        return Err(UnopenedOf { folders, log });
     };
     let start = keeper.writer.published().held.board.number();
     let office = OfficeOf {
@@ -175,9 +188,10 @@ pub fn open_hall<N: HallName, F: Folders>(
         book,
         reader: BaseFolders { folders, base },
         settings,
+        log,
         start,
     };
-    Ok(Opened {
+    Ok(OpenedOf {
         office: Mutex::new(office),
         passes,
     })

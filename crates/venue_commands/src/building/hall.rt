@@ -6,6 +6,7 @@ ghost use Rattle.version_board.specs.Changes.{Changes};
 ghost use Rattle.version_board.specs.Facts.{IsAnswered};
 ghost use Rattle.version_board.specs.Halls.{facts_of};
 ghost use Rattle.version_board.specs.Openings.{opening_history};
+ghost use Rattle.version_board.specs.Replies.{IsJournalFault};
 
 use std::alloc::Global;
 use std::sync::Arc;
@@ -47,7 +48,8 @@ pub(crate) fn asked(hall: &mut OwnHall, query: &Query) -> Reply
 /// The reply to a change of what is seen.
 pub(crate) fn changed(hall: &mut OwnHall, change: &Change) -> Reply
     requires { 1 ≤ length (facts_of hall.old).seen }
-    ensures { Changes (facts_of hall.old).files 1 change.now (facts_of hall.old).seen result (facts_of hall.new).seen }
+    ensures changes { Changes (facts_of hall.old).files 1 change.now (facts_of hall.old).seen result (facts_of hall.new).seen }
+    ensures journalless { ¬ IsJournalFault result }
 {
     change_law();
     hall.change(change)

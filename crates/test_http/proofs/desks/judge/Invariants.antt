@@ -10,6 +10,7 @@ ghosts-judge_under-N-HallName g a = record {
   opening = entries_in a.copies;
   keys = a.front.now;
   folder_count = memory_faults a.folders;
+  log_count = 0;
   folder_files = shelf_of (memory_files a.folders) a.base;
   connections = a.connections;
   accepted = doors_accepted a.doors;

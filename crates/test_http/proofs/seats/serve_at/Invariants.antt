@@ -9,6 +9,7 @@ ghosts-serve_under-N-HallName g a = record {
   opening = entries_in a.copies;
   keys = [];
   folder_count = g.F.Folders.faults a.folders;
+  log_count = 0;
   folder_files = shelf_of (g.F.Folders.files a.folders) a.base;
   connections = 0;
   accepted = 0;

@@ -8,6 +8,7 @@ ghosts-serve_hall-N-HallName g a = record {
   opening = entries_in a.plan.copies;
   keys = a.plan.front;
   folder_count = g.F.Folders.faults a.folders;
+  log_count = 0;
   folder_files = shelf_of (g.F.Folders.files a.folders) a.plan.base;
   connections = a.plan.connections;
   accepted = g.D.Doors.accepted a.doors;

@@ -1,4 +1,4 @@
-use Rattle.std.proofs.Common.{◌≡◌, refl, ap, true, false}
+use Rattle.std.proofs.Common.{◌≡◌, refl, ap, true, false, None}
 use Rattle.venue_ports.specs.Causes.{Rose}
 use Rattle.venue_service.specs.declared.service.Counts.{Counts}
 use Rattle.venue_service.specs.Copied.{entries_in}
@@ -13,7 +13,7 @@ returns-in-Some-clause-ends g c binds bound =
     let served = c.serve_named-folders in
     let there = c.in-Some.counts in
     closed there (record {
-      counts_are = some_of (AreCounts c.args.ready.plan.workers c.args.ready.plan.connections (entries_in c.args.ready.plan.copies)) served.result.counts there c.in-Some.is served.ensures.counts;
+      counts_are = some_of (AreCounts c.args.ready.plan.workers c.args.ready.plan.connections (entries_in c.args.ready.plan.copies) None) served.result.counts there c.in-Some.is served.ensures.counts;
       accepted = some_of (λ (n : Counts). g.D.Doors.accepted served.result.doors ≡ raised n.sessions (g.D.Doors.accepted c.args.doors)) served.result.counts there c.in-Some.is served.ensures.accepted;
       sound = some_of (λ (n : Counts). n.failed ≡ false → g.D.Doors.faults served.result.doors ≡ g.D.Doors.faults c.args.doors) served.result.counts there c.in-Some.is served.ensures.sound;
       failed = some_of (λ (n : Counts). n.failed ≡ true → Rose (g.D.Doors.faults c.args.doors) (g.D.Doors.faults served.result.doors)) served.result.counts there c.in-Some.is served.ensures.failed;

@@ -2,6 +2,7 @@ use Rattle.std.proofs.Common.{rules, arith, ◌≡◌, ◌+◌, List, [], ◌∷
 use mathlib.Core.List.{IsPrefix}
 use Rattle.venue_hall.specs.Histories.{IsLegal}
 use Rattle.venue_hall.specs.Facts.{Facts}
+use Rattle.venue_hall.specs.Standing.{AreRecordsOf}
 use Rattle.shared_hall.specs.Offices.{OfficeFacts, made_of, Begins}
 use Rattle.shared_hall.proofs.Passes.{made_push, begins_push}
 use Rattle.shared_hall.proofs.office.close.close_hall.Goals as goal
@@ -25,4 +26,5 @@ returns-clause-history g c =
       begun = subst (All (Begins h)) (sym e) (begins_push h xs p c.take_in-first.ensures.begins rest);
       told = told;
       counted = c.end.ensures.counted;
+      kept = subst (λ (z : OfficeFacts). AreRecordsOf (g.J.Log.records c.end.result.log) z.entries) last c.end.ensures.records;
     }

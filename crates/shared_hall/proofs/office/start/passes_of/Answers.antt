@@ -1,4 +1,4 @@
-use Rattle.std.proofs.Common.{rules, arith, ◌≡◌, ◌+◌, ◌<◌, ◌≤◌, All, List, [], ◌∷◌, ◌++◌, ap, subst, sym, ◌∙◌, Global}
+use Rattle.std.proofs.Common.{rules, arith, ◌≡◌, ◌+◌, All, List, [], ◌∷◌, ◌++◌, ap, subst, sym, ◌∙◌, Global}
 use Rattle.std.proofs.lemmas.List.Elements.{All-pop}
 use Rattle.left_right.specs.Sides.{view}
 use Rattle.left_right.specs.declared.reader.Reader.{Reader}

@@ -1,4 +1,4 @@
-use Rattle.std.proofs.Common.{◌≡◌, ◌+◌, ◌<◌, ◌≤◌, length, slice_index_or, ℕ, All}
+use Rattle.std.proofs.Common.{◌≡◌, ◌+◌, ◌<◌, length, slice_index_or, ℕ, All}
 use Rattle.left_right.specs.Sides.{view}
 use Rattle.board_copies.specs.Rules.{whole}
 use Rattle.board_copies.specs.Stamps.{entries_of}

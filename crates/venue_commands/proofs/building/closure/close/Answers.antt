@@ -15,4 +15,4 @@ returns-clause-closed c =
     let r = c.changed-reply.result in
     IfOk-weaker c.judged.result (λ _. r ≢ told.OutOfMemory)
     (λ _. (v w : Version) → v.number < v.settings.last_version → Replays h v → Replays k w → IsBehindChange c.args.feature v w)
-    (λ _ some. behind_change c.entry_law.ensures (facts_of c.args.hall.now).files c.args.feature h k r some c.changed-reply.ensures) c.judged.ensures
+    (λ _ some. behind_change c.entry_law.ensures (facts_of c.args.hall.now).files c.args.feature h k r some c.changed-reply.ensures.journalless c.changed-reply.ensures.changes) c.judged.ensures

@@ -27,7 +27,7 @@ pub returns-clause-faults : goal.returns-clause-faults
 returns-clause-faults g c = later_faults (g.F.Folders.faults c.args.self.now.reader.folders) (g.F.Folders.faults c.make.new.self.reader.folders) c.make.result c.make.ensures.counts
 
 pub returns-clause-fault : goal.returns-clause-fault
-returns-clause-fault g c = risen_faults (g.F.Folders.faults c.args.self.now.reader.folders) (g.F.Folders.faults c.make.new.self.reader.folders) c.make.result c.make.ensures.counts
+returns-clause-fault g c = risen_faults (g.F.Folders.faults c.args.self.now.reader.folders) (g.F.Folders.faults c.make.new.self.reader.folders) c.make.result c.make.ensures.counts c.make.ensures.kept
 
 pub returns-clause-same : goal.returns-clause-same
 returns-clause-same g c = record {

@@ -1,12 +1,13 @@
-use Rattle.std.proofs.Common.{rules, arith, ◌≡◌, ◌+◌, List, length, ap, sym, subst, ◌∙◌}
+use Rattle.std.proofs.Common.{arith, ◌≡◌, List, length, ap, sym, subst, ◌∙◌}
 use Rattle.std.specs.Arc.{arc_value}
 use mathlib.Core.List.{IsPrefix}
 use Rattle.venue_hall.specs.Entry.{Entry}
+use Rattle.venue_hall.specs.Standing.{AreRecordsOf}
 use Rattle.board_copies.proofs.Fronts.{prefix_self}
 use Rattle.board_copies.specs.Rules.{list_of, book_of}
 use Rattle.board_copies.specs.declared.held.Held.{Held}
 use Rattle.board_copies.specs.declared.held.Side.{Side}
-use Rattle.shared_hall.proofs.office.start.open_hall.Goals as goal
+use Rattle.shared_hall.proofs.office.start.open_kept.Goals as goal
 
 pub invariant_of-office : goal.invariant_of-office
 invariant_of-office g c =
@@ -24,4 +25,7 @@ invariant_of-office g c =
       subst (IsPrefix g.N.HallName.opening) (sym opened) (prefix_self g.N.HallName.opening),
       c.requires.count,
       c.requires.files,
+      c.requires.length ∙ sym (ap (λ (s : Side). length (list_of s)) shown),
+      subst (λ (s : Side). AreRecordsOf (g.J.Log.records c.args.log) (list_of s)) (sym shown) c.requires.records,
+      c.requires.log_count,
     )

@@ -1,11 +1,11 @@
-use Rattle.std.proofs.Common.{rules, arith, ◌≡◌, ◌+◌, length, ap, subst, ◌∙◌}
+use Rattle.std.proofs.Common.{arith, ◌≡◌, length, ap, subst, ◌∙◌}
 use Rattle.std.specs.Arc.{arc_value}
 use mathlib.Core.List.{IsPrefix}
 use Rattle.board_copies.specs.Rules.{list_of}
 use Rattle.board_copies.specs.declared.held.Held.{Held}
 use Rattle.board_copies.specs.declared.held.Side.{Side}
 use Rattle.shared_hall.specs.Offices.{OfficeFacts}
-use Rattle.shared_hall.proofs.office.close.OfficeOf+N+F+Keeper.end.Goals as goal
+use Rattle.shared_hall.proofs.office.close.OfficeOf+N+F+Keeper+J.end.Goals as goal
 
 pub overflow_sub-result : goal.overflow_sub-result
 overflow_sub-result g c =

@@ -5,7 +5,7 @@ use mathlib.Core.List.{IsPrefix}
 use Rattle.venue_hall.specs.Entry.{Entry}
 use Rattle.venue_hall.specs.Histories.{IsLegal, Replays}
 use Rattle.board_copies.specs.Rules.{list_of}
-use Rattle.shared_hall.proofs.office.OfficeOf+N+F+Keeper.tell.Goals as goal
+use Rattle.shared_hall.proofs.office.OfficeOf+N+F+Keeper+J.tell.Goals as goal
 
 pub invariant_of-pass : goal.invariant_of-pass
 invariant_of-pass g c =
