@@ -1,4 +1,5 @@
 pub mod Restores
+pub mod Beginnings
 pub mod Restarts
 pub mod Judging
 pub mod Going

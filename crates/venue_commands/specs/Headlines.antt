@@ -1,5 +1,5 @@
 -- The promise of `session BASE FOLDER`, from the bytes of the folder and the console to the bytes written.
-use Rattle.std.specs.Prelude.{◌≡◌, ◌⊎◌, ℕ, List, ◌++◌, Option, Some}
+use Rattle.std.specs.Prelude.{◌≡◌, ◌⊎◌, ℕ, List, ◌++◌, Option, Some, None}
 use Rattle.std.specs.Arc.{arc_value}
 use Rattle.std.specs.declared.alloc.Global.{Global}
 use Rattle.std.specs.declared.sync.Arc.{Arc}
@@ -26,7 +26,7 @@ pub record Answered (files : List StoredFile) (base folder came left written : L
 -- came; or there is no venue, and that was told
 abbrev pub SaysHeadline : List (List ℕ) → Option (List StoredFile) → Run → Status → Type 0
 SaysHeadline words told run status = (base folder : List ℕ) (files : List StoredFile) (came before : List ℕ)
-    → IsAsked (Session base folder) → words ≡ words_of (Session base folder) → told ≡ Some files → run.left ≡ Some came → run.written ≡ Some before
+    → IsAsked (Session base folder None) → words ≡ words_of (Session base folder None) → told ≡ Some files → run.left ≡ Some came → run.written ≡ Some before
     → (status ≡ Done) ⊎ (status ≡ Negative)
     → (left : List ℕ) × (written : List ℕ) × (run.left_now ≡ Some left) × (run.written_now ≡ Some (before ++ written))
     × (NoVenue files base folder written status ⊎ Answered files base folder came left written)

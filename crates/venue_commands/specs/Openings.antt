@@ -1,5 +1,5 @@
 -- What a session or a service of a folder comes to, before anything is served.
-use Rattle.std.specs.Prelude.{◌≡◌, ℕ, List, Option, IfSome}
+use Rattle.std.specs.Prelude.{◌≡◌, ℕ, List, Option, None, IfSome, length}
 use Rattle.std.specs.Arc.{arc_value}
 use Rattle.venue_types.specs.declared.settings.Settings.{Settings}
 use Rattle.venue_ports.specs.Files.{StoredFile}
@@ -35,10 +35,21 @@ IsOpenedUnder files base folder settings (reached.Opened opening) = (opening.bas
 pub record IsOpening (words : List (List ℕ)) (files : Option (List StoredFile)) (opening : Start) : Type 0 where
   pub base : List ℕ
   pub folder : List ℕ
-  pub asks : Asks words (Session base folder)
+  pub asks : Asks words (Session base folder None)
   pub opens : IsOpeningOf files base folder opening
 
 -- what is printed comes with a status of a printed line
 abbrev pub IsPlainText : Reached → Type 0
 IsPlainText (reached.Printed answer) = IsPrinted answer.status
 IsPlainText (reached.Opened opening) = Unit {0}
+
+-- a hall is opened under these settings, with seventeen files that make its venue
+pub record IsMadeStart (settings : Settings) (opening : Start) : Type 0 where
+  pub settings_are : arc_value opening.settings ≡ settings
+  pub seventeen : length opening.files.slots ≡ 17
+  pub made : IsVenueOf opening.files settings (arc_value opening.venue)
+
+-- where a hall is opened it is under these settings
+abbrev pub IsStartUnder : Settings → Reached → Type 0
+IsStartUnder settings (reached.Printed answer) = Unit {0}
+IsStartUnder settings (reached.Opened opening) = IsMadeStart settings opening

@@ -1,5 +1,5 @@
 -- What the program prints, and the status with which it ends, over the files that the folders report.
-use Rattle.std.specs.Prelude.{◌≡◌, ℕ, List, ◌++◌, Some, codes}
+use Rattle.std.specs.Prelude.{◌≡◌, ℕ, List, ◌++◌, Some, None, codes}
 use Rattle.std.specs.Fmt.{decimal}
 use Rattle.venue_types.specs.declared.feature_id.FeatureId.{FeatureId}
 use Rattle.venue_types.specs.Identifier.{identifier_read}
@@ -56,9 +56,9 @@ pub data Output (words : List (List ℕ)) (files : List StoredFile) : List ℕ �
   answers_route : {text : List ℕ} {status : Status} (base folder profile from to : List ℕ) (a b : FeatureId) → IsAsked (Route base folder profile from to)
       → words ≡ words_of (Route base folder profile from to) → identifier_read from ≡ Some a → identifier_read to ≡ Some b
       → RouteOutput files base folder profile a b text status → Output words files text status
-  stops_session : {text : List ℕ} {status : Status} (base folder : List ℕ) → IsAsked (Session base folder) → words ≡ words_of (Session base folder)
+  stops_session : {text : List ℕ} {status : Status} (base folder : List ℕ) → IsAsked (Session base folder None) → words ≡ words_of (Session base folder None)
       → NoVenue files base folder text status → Output words files text status
-  stops_serve : {text : List ℕ} {status : Status} (base folder address : List ℕ) (workers connections : ℕ) → IsAsked (Serve base folder address workers connections)
-      → words ≡ words_of (Serve base folder address workers connections) → NoVenue files base folder text status → Output words files text status
+  stops_serve : {text : List ℕ} {status : Status} (base folder address : List ℕ) (workers connections : ℕ) → IsAsked (Serve base folder address workers connections None)
+      → words ≡ words_of (Serve base folder address workers connections None) → NoVenue files base folder text status → Output words files text status
   answers_gen : {text : List ℕ} {status : Status} (levels : ℕ) → IsAsked (Gen levels) → words ≡ words_of (Gen levels) → GenOutput levels text status
       → Output words files text status

@@ -1,5 +1,5 @@
 -- What words were read as.
-use Rattle.std.specs.Prelude.{◌≡◌, ℕ, List, Some}
+use Rattle.std.specs.Prelude.{◌≡◌, ℕ, List, Some, None}
 use Rattle.venue_types.specs.Identifier.{identifier_read}
 use Rattle.venue_commands.specs.declared.command.Command.{Command}
 use Rattle.venue_commands.specs.declared.command.Command.TheVariants as command
@@ -7,6 +7,8 @@ use Rattle.venue_commands.specs.declared.command.LocalCommand.{LocalCommand}
 use Rattle.venue_commands.specs.declared.command.LocalCommand.TheVariants as local
 use Rattle.venue_commands.specs.declared.command.RouteOf.{RouteOf}
 use Rattle.venue_commands.specs.declared.command.ServiceOf.{ServiceOf}
+use Rattle.venue_commands.specs.declared.command.JournalOf.{JournalOf}
+use Rattle.venue_commands.specs.declared.command.KeptServiceOf.{KeptServiceOf}
 use Rattle.venue_commands.specs.Commands.{Asked, Price, Verify, Check, Links, Route, Session, Serve, Gen, Asks, AskForNothing}
 
 -- the words ask for this way, and spell its two places
@@ -19,7 +21,14 @@ pub record AskWay (words : List (List ℕ)) (route : RouteOf) : Type 0 where
 
 -- what a service is asked for by
 abbrev pub service_asked : ServiceOf → Asked
-service_asked service = Serve service.of.base.now service.of.folder.now service.address.now service.workers service.connections
+service_asked service = Serve service.of.base.now service.of.folder.now service.address.now service.workers service.connections None
+
+-- what a session with a journal is asked for by, and a service with one
+abbrev pub kept_session_asked : JournalOf → Asked
+kept_session_asked it = Session it.of.base.now it.of.folder.now (Some it.journal.now)
+
+abbrev pub kept_service_asked : KeptServiceOf → Asked
+kept_service_asked it = Serve it.service.of.base.now it.service.of.folder.now it.service.address.now it.service.workers it.service.connections (Some it.journal.now)
 
 -- a command that needs no doors is what the words ask for
 abbrev pub IsLocal : List (List ℕ) → LocalCommand → Type 0
@@ -29,10 +38,12 @@ IsLocal words (local.Check of) = Asks words (Check of.base.now of.folder.now)
 IsLocal words (local.Links links) = Asks words (Links links.of.base.now links.of.folder.now links.profile.now)
 IsLocal words (local.Route route) = AskWay words route
 IsLocal words (local.Gen levels) = Asks words (Gen levels.count)
-IsLocal words (local.Session of) = Asks words (Session of.base.now of.folder.now)
+IsLocal words (local.Session of) = Asks words (Session of.base.now of.folder.now None)
 IsLocal words local.Unknown = AskForNothing words
 
 -- this is what the words ask for
 abbrev pub IsCommand : List (List ℕ) → Command → Type 0
 IsCommand words (command.Local c) = IsLocal words c
 IsCommand words (command.Serve service) = Asks words (service_asked service)
+IsCommand words (command.KeptSession it) = Asks words (kept_session_asked it)
+IsCommand words (command.KeptServe it) = Asks words (kept_service_asked it)

@@ -1,5 +1,5 @@
 -- What `session BASE FOLDER` does where the folder makes a venue.
-use Rattle.std.specs.Prelude.{◌≡◌, ℕ, List, Option, IfSome}
+use Rattle.std.specs.Prelude.{◌≡◌, ℕ, List, Option, None, IfSome}
 use Rattle.std.specs.Arc.{arc_value}
 use Rattle.std.specs.declared.alloc.Global.{Global}
 use Rattle.std.specs.declared.sync.Arc.{Arc}
@@ -52,8 +52,8 @@ reads_of run = record { left = run.left; written = run.written; before = run.sta
 pub record Served (words : List (List ℕ)) (files : Option (List StoredFile)) (run : Run) (status : Status) : Type 0 where
   pub base : List ℕ
   pub folder : List ℕ
-  pub form : IsAsked (Session base folder)
-  pub spelled : words ≡ words_of (Session base folder)
+  pub form : IsAsked (Session base folder None)
+  pub spelled : words ≡ words_of (Session base folder None)
   pub venue : Venue
   pub made : IfSome files (λ fs. HasVenue fs base folder venue)
   pub opening : Facts

@@ -10,20 +10,21 @@ use Rattle.venue_commands.specs.Ends.{NothingDone}
 use Rattle.venue_commands.specs.Runs.{Run}
 use Rattle.venue_program.specs.declared.exit.WordsFault.{WordsFault}
 use Rattle.venue_program.specs.declared.exit.WordsFault.TheVariants.{NotText, OutOfMemory}
+use Rattle.venue_program.specs.Disks.{DisksRun, AreLeft}
 use Rattle.venue_program.specs.Doors.{DoorsRun, AreUnasked}
 use Rattle.venue_program.specs.Ends.{RunEnds}
 
 -- the number is that of the status with which a run over these words ends
-pub record Exits (words : List (List ℕ)) (files : Option (List StoredFile)) (run : Run) (doors : DoorsRun) (number : ℕ) : Type 0 where
+pub record Exits (words : List (List ℕ)) (files : Option (List StoredFile)) (run : Run) (doors : DoorsRun) (disks : DisksRun) (number : ℕ) : Type 0 where
   pub status : Status
-  pub ends : RunEnds words files run doors status
+  pub ends : RunEnds words files run doors disks status
   pub numbered : number ≡ status_code status
 
 -- words of which one is no text are answered as no words are, and where memory ran out before they were read nothing is done
-abbrev pub ExitsAfter : Result (Vec (String Global) Global) WordsFault → Option (List StoredFile) → Run → DoorsRun → ℕ → Type 0
-ExitsAfter (Ok words) files run doors number = Exits (map string_bytes words.items) files run doors number
-ExitsAfter (Err NotText) files run doors number = Exits [] files run doors number
-ExitsAfter (Err OutOfMemory) files run doors number = NothingDone run × AreUnasked doors × (number ≡ status_code Memory)
+abbrev pub ExitsAfter : Result (Vec (String Global) Global) WordsFault → Option (List StoredFile) → Run → DoorsRun → DisksRun → ℕ → Type 0
+ExitsAfter (Ok words) files run doors disks number = Exits (map string_bytes words.items) files run doors disks number
+ExitsAfter (Err NotText) files run doors disks number = Exits [] files run doors disks number
+ExitsAfter (Err OutOfMemory) files run doors disks number = NothingDone run × AreUnasked doors × AreLeft disks × (number ≡ status_code Memory)
 
 -- nothing is read from the console, but where words were read that ask for a session
 abbrev pub LeavesAfter : Result (Vec (String Global) Global) WordsFault → Option (List ℕ) → Option (List ℕ) → Type 0

@@ -1,6 +1,9 @@
 pub mod Doors
 pub mod Services
 pub mod Steps
+pub mod Disks
+pub mod Kept
 pub mod Ends
 pub mod Exits
 pub mod Complete
+pub use Rattle.venue_service.specs.Copied

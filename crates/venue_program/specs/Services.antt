@@ -12,6 +12,7 @@ use Rattle.venue_service.specs.Ends.{Measured}
 use Rattle.venue_service.specs.declared.service.Counts.{Counts}
 use Rattle.venue_service.specs.Desks.{raised}
 use Rattle.venue_service.specs.Openings.{opening_history}
+use Rattle.venue_service.specs.Records.{Logged}
 use Rattle.venue_service.specs.Services.{AreCounts, HallTerms}
 use Rattle.venue_commands.specs.declared.status.Status.{Status}
 use Rattle.venue_commands.specs.declared.status.Status.TheVariants.{Done, Fault, Memory}
@@ -60,28 +61,28 @@ pub record AreTerms (base : List ℕ) (venue : Venue) (workers connections : ℕ
   pub workers_are : terms.workers ≡ workers
   pub connections_are : terms.connections ≡ connections
 
--- so many connections were accepted as are counted, and an accept failed where it is said
-pub record WereServed (terms : HallTerms) (doors : DoorsRun) (counts : Counts) : Type 0 where
-  pub counts_are : AreCounts terms.workers terms.connections terms.opening None counts
+-- so many connections were accepted as are counted, and an accept failed where it is said; the records are those of the hall's log at its close, where it keeps any
+pub record WereServed (terms : HallTerms) (records : Option (List Logged)) (doors : DoorsRun) (counts : Counts) : Type 0 where
+  pub counts_are : AreCounts terms.workers terms.connections terms.opening records counts
   pub accepted : doors.accepted_now ≡ raised counts.sessions doors.accepted
   pub sound : counts.failed ≡ false → doors.faults_now ≡ doors.faults
   pub failed : counts.failed ≡ true → Rose doors.faults doors.faults_now
 
 -- how a service ends: the bind fails; the address is told, and the console fails over it, or memory runs out; or connections are
 -- served, and the closing line tells of them, but where the console fails over it or memory runs out
-pub data IsServiceEnd (address : List ℕ) (terms : HallTerms) (console : Measured) (doors : DoorsRun) : Status → Type 0 where
+pub data IsServiceEnd (address : List ℕ) (terms : HallTerms) (records : Option (List Logged)) (console : Measured) (doors : DoorsRun) : Status → Type 0 where
   unbound : doors.accepted_now ≡ doors.accepted → Rose doors.faults doors.faults_now → IsTold console door_fault ⊎ IsToldInPart console door_fault
-      → IsServiceEnd address terms console doors Fault
-  unheard : NobodyCame doors → IsToldInPart console (listening_line address) → IsServiceEnd address terms console doors Fault
-  unserved : NobodyCame doors → IsTold console (listening_line address) → IsServiceEnd address terms console doors Memory
-  served : (counts : Counts) → WereServed terms doors counts → counts.failed ≡ false → IsTold console (service_text address counts)
-      → IsServiceEnd address terms console doors Done
-  failing : (counts : Counts) → WereServed terms doors counts → counts.failed ≡ true → IsTold console (service_text address counts)
-      → IsServiceEnd address terms console doors Fault
-  cut_short : (counts : Counts) → WereServed terms doors counts → IsToldInPart console (service_text address counts)
-      → IsServiceEnd address terms console doors Fault
-  untold : (counts : Counts) → WereServed terms doors counts → IsTold console (listening_line address)
-      → IsServiceEnd address terms console doors Memory
+      → IsServiceEnd address terms records console doors Fault
+  unheard : NobodyCame doors → IsToldInPart console (listening_line address) → IsServiceEnd address terms records console doors Fault
+  unserved : NobodyCame doors → IsTold console (listening_line address) → IsServiceEnd address terms records console doors Memory
+  served : (counts : Counts) → WereServed terms records doors counts → counts.failed ≡ false → IsTold console (service_text address counts)
+      → IsServiceEnd address terms records console doors Done
+  failing : (counts : Counts) → WereServed terms records doors counts → counts.failed ≡ true → IsTold console (service_text address counts)
+      → IsServiceEnd address terms records console doors Fault
+  cut_short : (counts : Counts) → WereServed terms records doors counts → IsToldInPart console (service_text address counts)
+      → IsServiceEnd address terms records console doors Fault
+  untold : (counts : Counts) → WereServed terms records doors counts → IsTold console (listening_line address)
+      → IsServiceEnd address terms records console doors Memory
 
 -- the words ask for a service, the folder makes a venue, the hall is that venue's, and the doors were bound once, at the address
 pub record Service (words : List (List ℕ)) (files : Option (List StoredFile)) (run : Run) (doors : DoorsRun) (status : Status) : Type 0 where
@@ -90,11 +91,11 @@ pub record Service (words : List (List ℕ)) (files : Option (List StoredFile)) 
   pub address : List ℕ
   pub workers : ℕ
   pub connections : ℕ
-  pub asks : Asks words (Serve base folder address workers connections)
+  pub asks : Asks words (Serve base folder address workers connections None)
   pub venue : Venue
   pub made : IfSome files (λ fs. HasVenue fs base folder venue)
   pub terms : HallTerms
   pub terms_are : AreTerms base venue workers connections terms
   pub unread : IsUnread run
   pub bound : AreBoundAt address doors
-  pub ends : IsServiceEnd address terms (console_of run) doors status
+  pub ends : IsServiceEnd address terms None (console_of run) doors status

@@ -1,8 +1,9 @@
 -- What the parts of a service answer.
-use Rattle.std.specs.Prelude.{◌≡◌, ◌⊎◌, ℕ, true, false, List, []}
+use Rattle.std.specs.Prelude.{◌≡◌, ◌⊎◌, ℕ, true, false, List, [], Option}
 use Rattle.venue_service.specs.Ends.{Measured}
 use Rattle.venue_service.specs.Copied.{entries_in}
 use Rattle.venue_service.specs.Openings.{opening_history}
+use Rattle.venue_service.specs.Records.{Logged}
 use Rattle.venue_service.specs.Services.{HallTerms, terms_of}
 use Rattle.venue_service.specs.Venues.{SeenVenue as Venue}
 use Rattle.venue_service.specs.declared.service.Counts.{Counts}
@@ -23,9 +24,9 @@ IsClosing counts console Negative = ⊥
 IsClosing counts console Wrong = ⊥
 
 -- what becomes of a service behind the line that tells its address
-pub data IsServedOn (terms : HallTerms) (console : Measured) (doors : DoorsRun) (status : Status) : Type 0 where
-  nobody : status ≡ Memory → NobodyCame doors → IsTold console [] → IsServedOn terms console doors status
-  closed : (counts : Counts) → WereServed terms doors counts → IsClosing counts console status → IsServedOn terms console doors status
+pub data IsServedOn (terms : HallTerms) (records : Option (List Logged)) (console : Measured) (doors : DoorsRun) (status : Status) : Type 0 where
+  nobody : status ≡ Memory → NobodyCame doors → IsTold console [] → IsServedOn terms records console doors status
+  closed : (counts : Counts) → WereServed terms records doors counts → IsClosing counts console status → IsServedOn terms records console doors status
 
 -- a service is ready with what was opened, as it was asked for
 pub record IsReadyOf (opening : Start) (service : ServiceOf) (ready : Ready) : Type 0 where

@@ -1,0 +1,10 @@
+pub mod Stops
+pub mod Starts
+pub use Rattle.venue_hall.specs.Shelves
+pub use Rattle.board_copies.specs.Stamps
+pub use Rattle.board_copies.specs.declared.resuming.Resumed
+pub use Rattle.change_journal.specs.Told
+pub use Rattle.venue_session.specs.Moments
+pub use Rattle.venue_session.specs.Sessions
+pub use Rattle.venue_session.specs.Headline
+pub use Rattle.venue_session.specs.declared.ends.End
