@@ -3,3 +3,4 @@ mod Unfit
 mod Records
 mod Ends
 mod Restarts
+mod Openings

@@ -1,4 +1,4 @@
-//! What becomes of a journal that is read back.
+//! What becomes of a journal that is read back, or begun.
 
 use board_copies::Resumed;
 use change_journal::Journal;
@@ -9,6 +9,13 @@ use venue_ports::Disk;
 pub struct Restored<K: Disk> {
     pub journal: Journal<K>,
     pub resumed: Option<Resumed>,
+}
+
+/// A journal that goes on, and the history to which its records lead.
+#[derive(Drop)]
+pub struct Kept<K: Disk> {
+    pub journal: Journal<K>,
+    pub resumed: Resumed,
 }
 
 /// Why a journal isn't read back.

@@ -3,12 +3,12 @@
 ghost use Rattle.std.specs.Prelude.{◌≡◌, IfOk};
 ghost use Rattle.venue_state.specs.Preparing.{HasSettings};
 
-use crate::station::{id, tail, venue_of};
 use std::alloc::Global;
 use std::process::Abort;
 use std::sync::Arc;
 use std::test::Fail;
 use test_station::{Edit, NO_LIFT, station_settings};
+use test_venues::{id, tail, venue_of};
 use venue_history::Act;
 use venue_state::{Board, Unready};
 use venue_types::{

@@ -6,7 +6,6 @@ ghost use Rattle.left_right.specs.Sides.{view};
 ghost use Rattle.venue_state.specs.Preparing.{HasSettings};
 ghost use Rattle.board_copies.specs.Rules.{book_of, Knows};
 
-use crate::station::{id, venue_of};
 use board_copies::{
     Keep, Keeper, Resumed, Resuming, Roll, SideReader, make_reader, make_writer, publish, read_in,
     settle,
@@ -16,6 +15,7 @@ use std::alloc::Global;
 use std::sync::{Arc, Wait};
 use std::test::Fail;
 use test_station::station_settings;
+use test_venues::{id, venue_of};
 use venue_history::Act;
 use venue_types::{Ask, FeatureId, OutOfMemory, Query, Reply};
 

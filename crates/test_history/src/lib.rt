@@ -1,7 +1,7 @@
-//! Tests of histories, boards and halls.
+//! Tests of histories, boards and the hall of one thread.
 #![tactic(auto)]
 
-// A module for each kind of board and hall.
+// A module for each kind of board, and for the hall.
 #[cfg(test)]
 mod boards;
 #[cfg(test)]
@@ -16,9 +16,5 @@ mod one_thread;
 mod profiles;
 #[cfg(test)]
 mod replays;
-#[cfg(test)]
-mod shared;
-#[cfg(test)]
-mod station;
 #[cfg(test)]
 mod tours;

@@ -2,12 +2,12 @@
 //! last digits of its identifier, and the identifiers of the nodes rise with their numbers.
 
 use crate::boards::settings_until;
-use crate::station::{id, tail, venue_of};
 use std::alloc::Global;
 use std::process::Abort;
 use std::sync::Arc;
 use std::test::Fail;
 use test_station::{AMENITY, Edit};
+use test_venues::{id, tail, venue_of};
 use venue_history::Act;
 use venue_state::Board;
 use venue_types::{

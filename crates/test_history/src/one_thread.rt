@@ -1,11 +1,11 @@
 //! The hall of one thread over the station and some folders, whose replies were worked out by hand.
 
-use crate::station::{folders, id, tail, venue_of};
 use std::alloc::Global;
 use std::process::Abort;
 use std::sync::Arc;
 use std::test::Fail;
 use test_station::station_settings;
+use test_venues::{folders, id, tail, venue_of};
 use venue_ports::{Folders, MemoryFolders};
 use venue_types::{
     Ask, Change, ClosedRow, Closure, FeatureId, Finding, Query, Reply, Report, Text,

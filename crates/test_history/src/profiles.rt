@@ -4,12 +4,12 @@ ghost use Rattle.std.specs.Prelude.{◌≡◌, IfOk};
 ghost use Rattle.venue_state.specs.Preparing.{HasSettings};
 
 use crate::boards::{settings_until, way};
-use crate::station::{closing, id, tail, venue_of};
 use std::alloc::Global;
 use std::process::Abort;
 use std::sync::Arc;
 use std::test::Fail;
 use test_station::{Edit, NO_LIFT};
+use test_venues::{closing, id, tail, venue_of};
 use venue_history::Act;
 use venue_state::{Board, Unready};
 use venue_types::{Ask, ClosedRow, FeatureId, List, Profile, Query, Reply, Settings, Text};

@@ -7,13 +7,13 @@ ghost use Rattle.venue_state.specs.Replaying.{IsClosureAct};
 
 use crate::boards::settings_until;
 use crate::profiles::{Closed, judge_rows_of};
-use crate::station::{closing, id, venue_of};
 use board_copies::Resuming;
 use std::alloc::Global;
 use std::process::Abort;
 use std::sync::Arc;
 use std::test::Fail;
 use test_station::{Edit, NO_LIFT};
+use test_venues::{closing, id, venue_of};
 use venue_history::{Act, Closing};
 use venue_state::Board;
 use venue_types::{Ask, ProfileSet, Query, Reply, Settings};

@@ -1,11 +1,11 @@
 //! Tours at boards over the station, whose costs were worked out elsewhere, from all orders. A feature is named by the last digits of its identifier.
 
 use crate::boards::settings_until;
-use crate::station::{id, tail, venue_of};
 use std::alloc::Global;
 use std::process::Abort;
 use std::sync::Arc;
 use std::test::Fail;
+use test_venues::{id, tail, venue_of};
 use venue_history::Act;
 use venue_state::Board;
 use venue_types::{Ask, FeatureId, Leg, List, Query, Reply, Text, TourQuery, TourTold, Which};

@@ -16,6 +16,11 @@ pub(crate) struct Plan<'a> {
 
 /// A disk as planned, with room for 65,536 bytes and 1,024 calls.
 pub(crate) fn disk_of(alloc: Global, plan: &Plan<'_>) -> Result<MemoryDisk, Fail> {
+    disk_for(alloc, plan, 1_024)
+}
+
+/// A disk as planned, with room for 65,536 bytes and so many calls.
+pub(crate) fn disk_for(alloc: Global, plan: &Plan<'_>, calls: usize) -> Result<MemoryDisk, Fail> {
     let mut files = Vec::new(alloc);
     files.push(MemoryFile {
         folder: String::from_str(alloc, "base")?,
@@ -24,7 +29,7 @@ pub(crate) fn disk_of(alloc: Global, plan: &Plan<'_>) -> Result<MemoryDisk, Fail
     })?;
     let failing = Vec::from_slice(alloc, plan.failing)?;
     let puts = Vec::from_slice(alloc, plan.puts)?;
-    let mut disks = MemoryDisks::new(alloc, files, 65_536, 1_024, failing)?.tearing(puts);
+    let mut disks = MemoryDisks::new(alloc, files, 65_536, calls, failing)?.tearing(puts);
     Ok(disks.open_disk("base", "log")?)
 }
 

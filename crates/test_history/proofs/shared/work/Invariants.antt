@@ -1,5 +1,0 @@
-use Rattle.std.proofs.Common.{◌≡◌}
-use Rattle.test_history.proofs.shared.work.Given as goal
-
-abbrev pub invariant-loop : goal.invariant-loop
-invariant-loop g l = (g.H.Asks.facts l.seat).parts ≡ (g.H.Asks.facts l.initial.seat).parts
