@@ -62,6 +62,13 @@ impl<'a, N: HallName, F: Folders, J: Log, R> SeatIn<'a, N, F, SideReader, Keeper
         self.pass.pass_law();
     }
 
+    /// What the type keeps: the folders from which staff publish at the seat are those of the hall's name.
+    pub fn shelf_law(&self)
+        ensures { self.now.files ≡ N.folder_files }
+    {
+        self.pass.pass_law();
+    }
+
     /// Gives the pass back. Takes no memory.
     pub fn leave(self) -> Pass<N>
         ensures { result ≡ self.entry }

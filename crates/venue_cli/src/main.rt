@@ -1,9 +1,9 @@
-//! The program: takes the words of its command line, the directory, the doors and the console of the system, and ends with a number.
+//! The program: takes the words of its command line, the directory, the doors, the console and the disks of the system, and ends with a number.
 #![tactic(auto)]
 
 use std::env;
 use std::process::ExitCode;
-use venue_ports::{Console, DirFolders};
+use venue_ports::{Console, DirFolders, FileDisks};
 use venue_program::{WordsFault, exit_after, words_fault};
 use venue_sockets::{Lobby, LobbyDoors};
 
@@ -28,5 +28,16 @@ fn main(rt: HostRuntime) -> ExitCode {
         return ExitCode::from(MEMORY);
     };
     let doors = LobbyDoors::new(&rt, &lobby);
-    exit_after(&rt, rt.alloc(), words_of(&rt), folders, doors, &mut console).code
+    let mut disks = FileDisks::new(&rt);
+    let words = words_of(&rt);
+    exit_after(
+        &rt,
+        rt.alloc(),
+        words,
+        folders,
+        doors,
+        &mut console,
+        &mut disks,
+    )
+    .code
 }

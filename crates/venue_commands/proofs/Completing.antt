@@ -1,5 +1,5 @@
 -- What no stop stops is served.
-use Rattle.std.proofs.Common.{◌≡◌, ◌⊎◌, ℕ, List, Option, Some, refl, inl, inr}
+use Rattle.std.proofs.Common.{◌≡◌, ◌⊎◌, ℕ, List, Option, Some, None, refl, inl, inr}
 use Rattle.venue_session.specs.Venues.{SeenVenue as Venue}
 use Rattle.venue_ports.specs.Causes.{Rose}
 use Rattle.venue_ports.specs.Files.{StoredFile}
@@ -16,7 +16,7 @@ use Rattle.venue_commands.proofs.Headlining.{stops_of}
 use Rattle.venue_commands.proofs.OneText.{NotBoth, not_both}
 
 never_printed : NotBoth → (words : List (List ℕ)) (base folder : List ℕ) (files : List StoredFile) (venue : Venue) (run : Run) (status : Status)
-    → IsAsked (Session base folder) → words ≡ words_of (Session base folder) → HasVenue files base folder venue → Printed words (Some files) run status → ⊥
+    → IsAsked (Session base folder None) → words ≡ words_of (Session base folder None) → HasVenue files base folder venue → Printed words (Some files) run status → ⊥
 never_printed law words base folder files venue run status form is has printed =
     not_both law files base folder printed.text status venue (stops_of words files base folder printed.text status form is printed.output) has
 
@@ -30,7 +30,7 @@ fault_rose words files run End.Worn s is = absurd cc
 fault_rose words files run End.OutOfMemory s is = absurd cc
 
 pub served_out : NotBoth → (words : List (List ℕ)) (base folder : List ℕ) (files : List StoredFile) (venue : Venue) (run : Run) (status : Status)
-    → IsAsked (Session base folder) → words ≡ words_of (Session base folder) → HasVenue files base folder venue
+    → IsAsked (Session base folder None) → words ≡ words_of (Session base folder None) → HasVenue files base folder venue
     → (Rose run.console run.console_now → ⊥) → (Rose run.folders run.folders_now → ⊥)
     → Ends words (Some files) run status → IsServedOut words (Some files) run status
 served_out law words base folder files venue run Done form is has console folders (inl printed) = absurd (never_printed law words base folder files venue run Done form is has printed)

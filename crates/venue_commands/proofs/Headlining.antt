@@ -21,20 +21,20 @@ use Rattle.venue_commands.specs.Runs.{Run, Wrote}
 use Rattle.venue_commands.specs.Served.{end_status, console_of, Served}
 
 -- the words of a session tell its base and its folder
-same_base : (base base' folder folder' : List ℕ) → words_of (Session base folder) ≡ words_of (Session base' folder') → base ≡ base'
+same_base : (base base' folder folder' : List ℕ) → words_of (Session base folder None) ≡ words_of (Session base' folder' None) → base ≡ base'
 same_base base base' folder folder' same = cc
 
-same_folder : (base base' folder folder' : List ℕ) → words_of (Session base folder) ≡ words_of (Session base' folder') → folder ≡ folder'
+same_folder : (base base' folder folder' : List ℕ) → words_of (Session base folder None) ≡ words_of (Session base' folder' None) → folder ≡ folder'
 same_folder base base' folder folder' same = cc
 
 -- and they ask for no check
-not_check : (base base' folder folder' : List ℕ) → words_of (Check base folder) ≡ words_of (Session base' folder') → ⊥
+not_check : (base base' folder folder' : List ℕ) → words_of (Check base folder) ≡ words_of (Session base' folder' None) → ⊥
 not_check base base' folder folder' same = cc
 
 -- what is printed where the words ask for a session says that there is no venue
-pub stops_of : (words : List (List ℕ)) (files : List StoredFile) (base folder text : List ℕ) (status : Status) → IsAsked (Session base folder) → words ≡ words_of (Session base folder)
+pub stops_of : (words : List (List ℕ)) (files : List StoredFile) (base folder text : List ℕ) (status : Status) → IsAsked (Session base folder None) → words ≡ words_of (Session base folder None)
     → Output words files text status → NoVenue files base folder text status
-stops_of words files base folder text status form is (other_words none) = absurd (none (Session base folder) form is)
+stops_of words files base folder text status form is (other_words none) = absurd (none (Session base folder None) form is)
 stops_of words files base folder text status form is (answers_price base' form' is' output) = absurd cc
 stops_of words files base folder text status form is (answers_verify base' form' is' output) = absurd cc
 stops_of words files base folder text status form is (answers_check base' folder' form' is' output) = absurd (not_check base' base folder' folder (sym is' ∙ is))
@@ -60,7 +60,7 @@ wrote_behind : (old new : Option (List ℕ)) (before text : List ℕ) → old �
 wrote_behind old new before text is wrote = let here : Wrote (Some before) new text = subst (λ (o : Option (List ℕ)). Wrote o new text) is wrote in here
 
 says_printed : (words : List (List ℕ)) (told : Option (List StoredFile)) (run : Run) (status : Status) (base folder : List ℕ) (files : List StoredFile) (came before : List ℕ)
-    → IsAsked (Session base folder) → words ≡ words_of (Session base folder) → told ≡ Some files → run.left ≡ Some came → run.written ≡ Some before
+    → IsAsked (Session base folder None) → words ≡ words_of (Session base folder None) → told ≡ Some files → run.left ≡ Some came → run.written ≡ Some before
     → Printed words told run status → Says files base folder came before run status
 says_printed words told run status base folder files came before form spelled is left written printed =
     let output = told_of (λ fs. Output words fs printed.text status) told files is printed.output in (
@@ -72,13 +72,13 @@ says_printed words told run status base folder files came before form spelled is
     )
 
 -- of known bytes it is known what is left
-consumed : (old new : Option (List ℕ)) (taken came : List ℕ) → old ≡ Some came → Consumes old new taken → (left : List ℕ) × (new ≡ Some left)
+pub consumed : (old new : Option (List ℕ)) (taken came : List ℕ) → old ≡ Some came → Consumes old new taken → (left : List ℕ) × (new ≡ Some left)
 consumed None new taken came is took = absurd cc
 consumed (Some xs) None taken came is took = absurd took
 consumed (Some xs) (Some ys) taken came is took = (ys, refl)
 
 -- and what was added
-appended : (old new : Option (List ℕ)) (text before : List ℕ) → old ≡ Some before → Appends old new text → new ≡ Some (before ++ text)
+pub appended : (old new : Option (List ℕ)) (text before : List ℕ) → old ≡ Some before → Appends old new text → new ≡ Some (before ++ text)
 appended None new text before is wrote = absurd cc
 appended (Some xs) None text before is wrote = absurd wrote
 appended (Some xs) (Some ys) text before is wrote =
@@ -86,7 +86,7 @@ appended (Some xs) (Some ys) text before is wrote =
     ap (λ (t : List ℕ). Some t) wrote ∙ ap (λ (t : List ℕ). Some (t ++ text)) same
 
 -- a session that ends by itself wrote some text
-wrote_whole : (keys : List (List ℕ)) (end : End) (run : Done_so_far) (link : Measured) (new : Facts) → IsWhole end → Ended keys end run link new
+pub wrote_whole : (keys : List (List ℕ)) (end : End) (run : Done_so_far) (link : Measured) (new : Facts) → IsWhole end → Ended keys end run link new
     → (text : List ℕ) × Appends link.written_before link.written_after text
 wrote_whole keys End.Done run link new whole ended = (run.out, ended.1)
 wrote_whole keys (End.Cut count) run link new whole ended = (run.out, ended.1)
@@ -95,7 +95,7 @@ wrote_whole keys End.Worn run link new whole ended = (run.out, ended.1)
 wrote_whole keys End.LinkFault run link new whole ended = absurd whole
 wrote_whole keys End.OutOfMemory run link new whole ended = absurd whole
 
-whole_end : (end : End) (status : Status) → status ≡ end_status end → (status ≡ Done) ⊎ (status ≡ Negative) → IsWhole end
+pub whole_end : (end : End) (status : Status) → status ≡ end_status end → (status ≡ Done) ⊎ (status ≡ Negative) → IsWhole end
 whole_end End.Done status is ends = tt
 whole_end (End.Cut count) status is ends = tt
 whole_end (End.Refused number) status is ends = tt
@@ -113,7 +113,7 @@ Law = (keys : List (List ℕ)) (old new : Facts) (link : Measured) (end : End) (
     → Headline keys old.files old.worker old.seen came left written
 
 says_served : Law → (words : List (List ℕ)) (told : Option (List StoredFile)) (run : Run) (status : Status) (base folder : List ℕ) (files : List StoredFile) (came before : List ℕ)
-    → IsAsked (Session base folder) → words ≡ words_of (Session base folder) → told ≡ Some files → run.left ≡ Some came → run.written ≡ Some before
+    → IsAsked (Session base folder None) → words ≡ words_of (Session base folder None) → told ≡ Some files → run.left ≡ Some came → run.written ≡ Some before
     → (status ≡ Done) ⊎ (status ≡ Negative) → Served words told run status → Says files base folder came before run status
 says_served law words told run status base folder files came before form spelled is left written ends s =
     let whole = whole_end s.end status s.ended ends in

@@ -14,6 +14,7 @@ pub mod Serving
 pub mod Headlining
 pub mod Completing
 pub mod Spelling
+pub mod Journals
 pub mod Seeing
 pub mod Costing
 pub mod Behind

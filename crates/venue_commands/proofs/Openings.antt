@@ -1,5 +1,5 @@
 -- From the settings and the files of a folder to what a session or a service of it comes to.
-use Rattle.std.proofs.Common.{◌≡◌, ◌∙◌, ℕ, List, Option, Some, None, Result, Ok, Err, sym, subst}
+use Rattle.std.proofs.Common.{◌≡◌, ◌∙◌, ℕ, List, Option, Some, None, Result, Ok, Err, sym, subst, ap, length}
 use Rattle.std.specs.Prelude.{IfOk, IfSome, String, string_bytes}
 use Rattle.std.specs.Arc.{arc_value}
 use Rattle.std.specs.declared.alloc.Global.{Global}
@@ -18,7 +18,7 @@ use Rattle.venue_commands.specs.declared.reached.Reached.{Reached}
 use Rattle.venue_commands.specs.declared.reached.Reached.TheVariants as reached
 use Rattle.venue_commands.specs.Checked.{HasVenue, settings_name}
 use Rattle.venue_commands.specs.Commands.{Session, Asks}
-use Rattle.venue_commands.specs.Openings.{IsFolderReached, IsOpenedUnder}
+use Rattle.venue_commands.specs.Openings.{IsFolderReached, IsMadeStart, IsOpenedUnder}
 use Rattle.venue_commands.specs.Output.{Output, stops_session}
 use Rattle.venue_commands.specs.Steps.{IsMade, IsMadeOf, IsSettled}
 use Rattle.venue_commands.proofs.VenueMaking.{made_under}
@@ -74,7 +74,18 @@ folder_reached files files' base folder settled settings (Ok r) same told is of 
     reached_under files base folder settings r (subst (λ (s : Result Settings (String Global)). IfSome files (λ fs. IsSettled (file_at fs base settings_name) s)) is told) here
 
 -- words that ask for a session, of which this was printed
-pub session_printed : (words : List (List ℕ)) (files : Option (List StoredFile)) (base folder : List ℕ) (answer : Printout) → Asks words (Session base folder)
+pub session_printed : (words : List (List ℕ)) (files : Option (List StoredFile)) (base folder : List ℕ) (answer : Printout) → Asks words (Session base folder None)
     → IsFolderReached files base folder (reached.Printed answer) → IfSome files (λ fs. Output words fs answer.text answer.status)
 session_printed words None base folder answer asks stops = tt
 session_printed words (Some fs) base folder answer asks stops = stops_session base folder asks.form asks.spelled stops
+
+-- what a hall is opened with was made under the settings
+pub made_start : (settings : Settings) (held : Files) (m : Made) (venue : Venue) (opening : Start) → length held.slots ≡ 17 → IsMadeOf held settings m → m ≡ made.Venue venue
+    → opening.files ≡ held → arc_value opening.venue ≡ venue → arc_value opening.settings ≡ venue.settings → IsMadeStart settings opening
+made_start settings held m venue opening seventeen of is kept same under =
+    let here : IsVenueOf held settings venue = subst (IsMadeOf held settings) is of in
+    record {
+      settings_are = under ∙ here.settings_given;
+      seventeen = ap (λ (f : Files). length f.slots) kept ∙ seventeen;
+      made = subst (λ (f : Files). IsVenueOf f settings (arc_value opening.venue)) (sym kept) (subst (λ (v : Venue). IsVenueOf held settings v) (sym same) here);
+    }

@@ -93,8 +93,8 @@ pub ends_nothing : (words : List (List ℕ)) (files : Option (List StoredFile)) 
 ends_nothing words files run written faultless unread = inl (record { written = written; faultless = faultless; unread = unread })
 
 -- who asks for a session asks for the console
-pub asks_console : (words : List (List ℕ)) (base folder : List ℕ) → Asks words (Session base folder) → AskNoConsole words → ⊥
-asks_console words base folder asks none = let same : true ≡ false = none (Session base folder) asks in absurd cc
+pub asks_console : (words : List (List ℕ)) (base folder : List ℕ) → Asks words (Session base folder None) → AskNoConsole words → ⊥
+asks_console words base folder asks none = let same : true ≡ false = none (Session base folder None) asks in absurd cc
 
 -- what was no more is no more where both are told otherwise
 pub later_as : (a b a' b' : ℕ) → a' ≡ a → b' ≡ b → a ≤ b → a' ≤ b'

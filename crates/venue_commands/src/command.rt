@@ -59,7 +59,23 @@ pub struct ServiceOf<'w> {
     pub ghost bounded: { connections ≤ 1000000 },
 }
 
-/// A command that needs no doors.
+/// A folder of a base, and a journal of the base, by its name.
+#[derive(Clone, Copy)]
+pub struct JournalOf<'w> {
+    pub of: FolderOf<'w>,
+    pub journal: &'w str,
+    pub ghost form: { IsFolder journal.now },
+}
+
+/// A service over a folder whose changes a journal of the base keeps.
+#[derive(Clone, Copy)]
+pub struct KeptServiceOf<'w> {
+    pub service: ServiceOf<'w>,
+    pub journal: &'w str,
+    pub ghost form: { IsFolder journal.now },
+}
+
+/// A command that needs no doors and keeps no journal.
 #[derive(Clone, Copy)]
 pub enum LocalCommand<'w> {
     /// What a walk over a table of links costs.
@@ -86,4 +102,8 @@ pub enum Command<'w> {
     Local(LocalCommand<'w>),
     /// Sessions over the connections that come through doors.
     Serve(ServiceOf<'w>),
+    /// A session over the console whose changes a journal keeps.
+    KeptSession(JournalOf<'w>),
+    /// The same over connections.
+    KeptServe(KeptServiceOf<'w>),
 }

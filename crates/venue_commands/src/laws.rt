@@ -1,6 +1,6 @@
 //! What follows of every run that asks for a session.
 
-ghost use Rattle.std.specs.Prelude.{◌≡◌, ℕ, List, Option, Some};
+ghost use Rattle.std.specs.Prelude.{◌≡◌, ℕ, List, Option, Some, None};
 ghost use Rattle.venue_session.specs.Venues.{SeenVenue};
 ghost use Rattle.venue_ports.specs.Causes.{Rose};
 ghost use Rattle.venue_ports.specs.Files.{StoredFile};
@@ -28,7 +28,7 @@ pub fn run_complete_law()
     ensures not_both { (files : List StoredFile) (base folder text : List ℕ) (status : Status) (venue : SeenVenue)
         → NoVenue files base folder text status → HasVenue files base folder venue → ⊥ }
     ensures served { (words : List (List ℕ)) (base folder : List ℕ) (files : List StoredFile) (venue : SeenVenue) (run : Run) (status : Status)
-        → IsAsked (Session base folder) → words ≡ words_of (Session base folder) → HasVenue files base folder venue
+        → IsAsked (Session base folder None) → words ≡ words_of (Session base folder None) → HasVenue files base folder venue
         → (Rose run.console run.console_now → ⊥) → (Rose run.folders run.folders_now → ⊥)
         → Ends words (Some files) run status → IsServedOut words (Some files) run status }
 {

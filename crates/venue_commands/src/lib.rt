@@ -26,14 +26,18 @@ mod verify_command;
 mod words;
 
 pub use building::{Told, tell_building};
-pub use command::{Base, Command, FolderOf, Levels, LinksOf, LocalCommand, RouteOf, ServiceOf};
+pub use command::{
+    Base, Command, FolderOf, JournalOf, KeptServiceOf, Levels, LinksOf, LocalCommand, RouteOf,
+    ServiceOf,
+};
 pub use commands::run_alone;
 pub use console_text::write_all;
 pub use laws::{run_complete_law, run_headline_law};
-pub use printout::Printout;
+pub use printout::{Printout, printed};
 pub use prints::tell;
-pub use reached::{Reached, reach_folder};
+pub use reached::{Reached, open_folder, reach_folder};
 pub use route_law::route_is_proved;
+pub use settings::settings_of;
 pub use start::Start;
 pub use status::Status;
 pub use words::read_command;

@@ -16,7 +16,7 @@ pub struct Printout {
 }
 
 /// The answer with this text.
-pub(crate) fn printed(status: Status, text: String) -> Printout
+pub fn printed(status: Status, text: String) -> Printout
     ensures status { result.status ≡ status }
     ensures text { result.text ≡ string_bytes text }
 {

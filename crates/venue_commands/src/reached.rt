@@ -7,7 +7,7 @@ ghost use Rattle.venue_types.specs.FolderFiles.{all_files};
 ghost use Rattle.venue_folder.specs.AskedFolders.{AskedUntil};
 ghost use Rattle.venue_ports.specs.declared.folders.ReadFault.TheVariants.{Failed};
 ghost use Rattle.venue_commands.specs.FaultOrder.{FailsInFolder};
-ghost use Rattle.venue_commands.specs.Openings.{IsFolderReached, IsOpenedUnder, IsPlainText};
+ghost use Rattle.venue_commands.specs.Openings.{IsFolderReached, IsOpenedUnder, IsPlainText, IsStartUnder};
 
 use crate::base_venue::{Made, files_at, made_of};
 use crate::command::FolderOf;
@@ -28,8 +28,12 @@ pub enum Reached {
     Opened(Start),
 }
 
-// What the folder comes to under the settings of its base, which were read before.
-fn open_folder<F: Folders>(
+/// What the folder comes to under the settings of its base, which were read before.
+///
+/// # Errors
+///
+/// The folders failed, or memory ran out.
+pub fn open_folder<F: Folders>(
     alloc: Global,
     of: FolderOf<'_>,
     settings: &Settings,
@@ -37,6 +41,7 @@ fn open_folder<F: Folders>(
 ) -> Result<Reached, ReadFault>
     ensures told { IfOk result (IsOpenedUnder (F.files folders.old) of.entry.base.now of.entry.folder.now settings.now) }
     ensures plain { IfOk result IsPlainText }
+    ensures settings { IfOk result (IsStartUnder settings.now) }
     ensures same { F.files folders.new ≡ F.files folders.old }
     ensures failed { IsErrOf result ReadFault.Failed → AskedUntil (folder_path of.entry.base.now of.entry.folder.now) all_files (F.asked folders.old) (F.asked folders.new) Failed }
     ensures cause { HasReadCause (F.faults folders.old) (F.faults folders.new) result }

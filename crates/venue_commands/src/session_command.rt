@@ -1,6 +1,6 @@
 //! The command `session`: reads the folder, and serves the console, or prints what stops it.
 
-ghost use Rattle.std.specs.Prelude.{◌≡◌, ◌≤◌, ℕ, List, Option};
+ghost use Rattle.std.specs.Prelude.{◌≡◌, ◌≤◌, ℕ, List, Option, None};
 ghost use Rattle.venue_ports.specs.Files.{StoredFile};
 ghost use Rattle.venue_commands.specs.Commands.{Session, Asks};
 ghost use Rattle.venue_commands.specs.Ends.{Ends};
@@ -76,7 +76,7 @@ pub(crate) fn session<F: Folders, C: Stream>(
     folders: F,
     console: &mut C,
 ) -> CommandEnd<F>
-    ensures ends { (words : List (List ℕ)) → Asks words (Session of.entry.base.now of.entry.folder.now) → Ends words (F.files folders)
+    ensures ends { (words : List (List ℕ)) → Asks words (Session of.entry.base.now of.entry.folder.now None) → Ends words (F.files folders)
         (run_between C.Stream console.old console.new (folders_between F.Folders folders result.folders)) result.status }
     ensures files { F.files result.folders ≡ F.files folders }
     ensures folders_later { F.faults folders ≤ F.faults result.folders }

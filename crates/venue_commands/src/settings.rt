@@ -53,7 +53,11 @@ fn settled(alloc: Global, text: &[u8]) -> Result<Result<Settings, String>, ReadF
 }
 
 /// The settings of the base, or the line that says why there are none.
-pub(crate) fn settings_of<F: Folders>(
+///
+/// # Errors
+///
+/// The folders failed, or memory ran out.
+pub fn settings_of<F: Folders>(
     alloc: Global,
     base: &str,
     folders: &mut F,

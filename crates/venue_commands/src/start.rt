@@ -36,6 +36,7 @@ impl Start {
         ensures base { result.base ≡ base }
         ensures files { result.files ≡ files }
         ensures venue { arc_value result.venue ≡ arc_value venue }
+        ensures settings { arc_value result.settings ≡ arc_value settings }
     {
         Start {
             base,
@@ -93,6 +94,7 @@ fn opening_with(
     ensures base { IfOk result (λ opening. opening.base ≡ base) }
     ensures files { IfOk result (λ opening. opening.files ≡ files) }
     ensures venue { IfOk result (λ opening. arc_value opening.venue ≡ arc_value venue) }
+    ensures settings { IfOk result (λ opening. arc_value opening.settings ≡ arc_value settings) }
 {
     let front = front_of(alloc, &settings)?;
     Ok(Start::of(base, files, venue, settings, front))
@@ -108,6 +110,7 @@ fn opening_at(
     ensures base { IfOk result (λ opening. opening.base ≡ base) }
     ensures files { IfOk result (λ opening. opening.files ≡ files) }
     ensures venue { IfOk result (λ opening. arc_value opening.venue ≡ arc_value venue) }
+    ensures settings { IfOk result (λ opening. arc_value opening.settings ≡ (arc_value venue).settings) }
 {
     let settings = settings_of(alloc, &venue)?;
     opening_with(alloc, base, files, venue, settings)
@@ -123,6 +126,7 @@ pub(crate) fn opening_of(
     ensures base { IfOk result (λ opening. opening.base ≡ base.now) }
     ensures files { IfOk result (λ opening. opening.files ≡ files) }
     ensures venue { IfOk result (λ opening. arc_value opening.venue ≡ venue) }
+    ensures settings { IfOk result (λ opening. arc_value opening.settings ≡ venue.settings) }
 {
     let venue = shared_venue(alloc, venue)?;
     let base = text_of(alloc, base)?;

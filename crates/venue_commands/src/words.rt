@@ -1,13 +1,16 @@
 //! The words of the command line.
 
-ghost use Rattle.std.specs.Prelude.{◌≡◌, ◌≤◌, ℕ, List, [], ◌∷◌, map, codes, string_bytes, IfSome, IfNone};
+ghost use Rattle.std.specs.Prelude.{◌≡◌, ◌≤◌, ℕ, List, [], ◌∷◌, ◌++◌, map, codes, None, string_bytes, IfSome, IfNone};
 ghost use Rattle.std.specs.Bool.{OnTrue, OnFalse};
 ghost use Rattle.std.specs.Fmt.{decimal};
 ghost use Rattle.std.specs.List.{list_all};
-ghost use Rattle.venue_commands.specs.Commands.{Links, Serve, IsBase, IsFolder, IsAddress, IsIdentifier, IsAsked, Asks, words_of, is_folder_byte};
+ghost use Rattle.venue_commands.specs.Commands.{Links, Serve, IsBase, IsFolder, IsAddress, IsIdentifier, IsAsked, Asks, AskNoJournal, words_of, is_folder_byte};
 ghost use Rattle.venue_commands.specs.ReadCommands.{AskWay, IsLocal, IsCommand, service_asked};
 
-use crate::command::{Base, Command, FolderOf, Levels, LinksOf, LocalCommand, RouteOf, ServiceOf};
+use crate::command::{
+    Base, Command, FolderOf, JournalOf, KeptServiceOf, Levels, LinksOf, LocalCommand, RouteOf,
+    ServiceOf,
+};
 use line_forms::number;
 use venue_types::FeatureId;
 
@@ -221,8 +224,8 @@ fn counts_in(workers: &str, connections: &str) -> Option<(u8, u32)>
 // The folder, the address, and how many workers and connections, where the words ask for a service.
 fn service_of(words: &[String]) -> Option<ServiceOf<'_>>
     ensures found { IfSome result (λ service. Asks (map string_bytes words.now) (service_asked service)) }
-    ensures none { IfNone result ((base folder address : List ℕ) (workers connections : ℕ) → IsAsked (Serve base folder address workers connections)
-        → map string_bytes words.now ≡ words_of (Serve base folder address workers connections) → ⊥) }
+    ensures none { IfNone result ((base folder address : List ℕ) (workers connections : ℕ) → IsAsked (Serve base folder address workers connections None)
+        → map string_bytes words.now ≡ words_of (Serve base folder address workers connections None) → ⊥) }
 {
     let (command, base, folder, address, workers, connections) = six_words(words)?;
     let (workers, connections) = counts_in(workers, connections)?;
@@ -239,10 +242,40 @@ fn service_of(words: &[String]) -> Option<ServiceOf<'_>>
     }
 }
 
-// What the words ask for, where it needs no doors.
+// The words in front of the last, where that names a journal, and the last.
+fn with_journal(words: &[String]) -> Option<(&[String], &str)>
+    ensures found { IfSome result (λ pair. map string_bytes words.now ≡ map string_bytes pair.0.now ++ pair.1.now ∷ []) }
+    ensures form { IfSome result (λ pair. IsFolder pair.1.now) }
+    ensures none { IfNone result ((front : List (List ℕ)) (journal : List ℕ) → IsFolder journal → map string_bytes words.now ≡ front ++ journal ∷ [] → ⊥) }
+{
+    let (journal, front) = words.split_last()?;
+    if is_folder(journal.as_str()) {
+        Some((front, journal.as_str()))
+    } else {
+        None
+    }
+}
+
+// What the words ask for, where it keeps a journal.
+fn kept_command(words: &[String]) -> Option<Command<'_>>
+    ensures found { IfSome result (IsCommand (map string_bytes words.now)) }
+    ensures none { IfNone result (AskNoJournal (map string_bytes words.now)) }
+{
+    let (front, journal) = with_journal(words)?;
+    if let Some(of) = folder_of(front, "session") {
+        return Some(Command::KeptSession(JournalOf { of, journal }));
+    }
+    if let Some(service) = service_of(front) {
+        return Some(Command::KeptServe(KeptServiceOf { service, journal }));
+    }
+    None
+}
+
+// What the words ask for, where it needs no doors and keeps no journal.
 fn local_command(words: &[String]) -> LocalCommand<'_>
-    requires { (base folder address : List ℕ) (workers connections : ℕ) → IsAsked (Serve base folder address workers connections)
-        → map string_bytes words.now ≡ words_of (Serve base folder address workers connections) → ⊥ }
+    requires no_service { (base folder address : List ℕ) (workers connections : ℕ) → IsAsked (Serve base folder address workers connections None)
+        → map string_bytes words.now ≡ words_of (Serve base folder address workers connections None) → ⊥ }
+    requires no_journal { AskNoJournal (map string_bytes words.now) }
     ensures { IsLocal (map string_bytes words.now) result }
 {
     if let Some(base) = base_of(words, "price") {
@@ -273,8 +306,11 @@ fn local_command(words: &[String]) -> LocalCommand<'_>
 pub fn read_command(words: &[String]) -> Command<'_>
     ensures { IsCommand (map string_bytes words.now) result }
 {
-    match service_of(words) {
-        Some(service) => Command::Serve(service),
-        None => Command::Local(local_command(words)),
+    if let Some(service) = service_of(words) {
+        return Command::Serve(service);
     }
+    if let Some(kept) = kept_command(words) {
+        return kept;
+    }
+    Command::Local(local_command(words))
 }

@@ -11,15 +11,16 @@ use Rattle.venue_commands.specs.Ends.{NothingDone}
 use Rattle.venue_commands.specs.Runs.{Run}
 use Rattle.venue_program.specs.declared.exit.WordsFault.{WordsFault}
 use Rattle.venue_program.specs.declared.exit.WordsFault.TheVariants.{NotText, OutOfMemory}
+use Rattle.venue_program.specs.Disks.{DisksRun, AreLeft}
 use Rattle.venue_program.specs.Doors.{DoorsRun, AreUnasked}
 use Rattle.venue_program.specs.Ends.{RunEnds}
 use Rattle.venue_program.specs.Exits.{Exits, ExitsAfter, KeepsAfter, LeavesAfter}
 
 -- the words are told otherwise
-pub exits_as : (words told : List (List ℕ)) (files : Option (List StoredFile)) (run : Run) (doors : DoorsRun) (status : Status) (number : ℕ) → told ≡ words
-    → RunEnds told files run doors status → number ≡ status_code status → Exits words files run doors number
-exits_as words told files run doors status number same ends numbered =
-    record { status = status; ends = subst (λ (ws : List (List ℕ)). RunEnds ws files run doors status) same ends; numbered = numbered }
+pub exits_as : (words told : List (List ℕ)) (files : Option (List StoredFile)) (run : Run) (doors : DoorsRun) (disks : DisksRun) (status : Status) (number : ℕ) → told ≡ words
+    → RunEnds told files run doors disks status → number ≡ status_code status → Exits words files run doors disks number
+exits_as words told files run doors disks status number same ends numbered =
+    record { status = status; ends = subst (λ (ws : List (List ℕ)). RunEnds ws files run doors disks status) same ends; numbered = numbered }
 
 -- no words ask for nothing
 nothing_spelled : (asked : Asked) → [] ≡ words_of asked → ⊥
@@ -28,8 +29,8 @@ nothing_spelled (Verify base) is = cc
 nothing_spelled (Check base folder) is = cc
 nothing_spelled (Links base folder profile) is = cc
 nothing_spelled (Route base folder profile from to) is = cc
-nothing_spelled (Session base folder) is = cc
-nothing_spelled (Serve base folder address workers connections) is = cc
+nothing_spelled (Session base folder journal) is = cc
+nothing_spelled (Serve base folder address workers connections journal) is = cc
 nothing_spelled (Gen levels) is = cc
 
 pub nothing_asked : AskNoConsole []
@@ -52,27 +53,27 @@ no_service_as words told same none asked asks = none asked (asks_as words told a
 abbrev pub WordsRead : Type 0
 WordsRead = Result (Vec (String Global) Global) WordsFault
 
-pub exits_words : (read : WordsRead) (words : Vec (String Global) Global) (files : Option (List StoredFile)) (run : Run) (doors : DoorsRun) (number : ℕ) → read ≡ Ok words
-    → Exits (map string_bytes words.items) files run doors number → ExitsAfter read files run doors number
-exits_words read words files run doors number is exits = subst (λ (r : WordsRead). ExitsAfter r files run doors number) (sym is) exits
+pub exits_words : (read : WordsRead) (words : Vec (String Global) Global) (files : Option (List StoredFile)) (run : Run) (doors : DoorsRun) (disks : DisksRun) (number : ℕ) → read ≡ Ok words
+    → Exits (map string_bytes words.items) files run doors disks number → ExitsAfter read files run doors disks number
+exits_words read words files run doors disks number is exits = subst (λ (r : WordsRead). ExitsAfter r files run doors disks number) (sym is) exits
 
 pub leaves_words : (read : WordsRead) (words : Vec (String Global) Global) (before now : Option (List ℕ)) → read ≡ Ok words
     → (AskNoConsole (map string_bytes words.items) → now ≡ before) → LeavesAfter read before now
 leaves_words read words before now is leaves = subst (λ (r : WordsRead). LeavesAfter r before now) (sym is) leaves
 
 -- one of the words is no text
-pub exits_no_text : (read : WordsRead) (fault : WordsFault) (files : Option (List StoredFile)) (run : Run) (doors : DoorsRun) (number : ℕ) → read ≡ Err fault → fault ≡ NotText
-    → Exits [] files run doors number → ExitsAfter read files run doors number
-exits_no_text read fault files run doors number is named exits = subst (λ (r : WordsRead). ExitsAfter r files run doors number) (sym (is ∙ ap (λ (w : WordsFault). Err w) named)) exits
+pub exits_no_text : (read : WordsRead) (fault : WordsFault) (files : Option (List StoredFile)) (run : Run) (doors : DoorsRun) (disks : DisksRun) (number : ℕ) → read ≡ Err fault → fault ≡ NotText
+    → Exits [] files run doors disks number → ExitsAfter read files run doors disks number
+exits_no_text read fault files run doors disks number is named exits = subst (λ (r : WordsRead). ExitsAfter r files run doors disks number) (sym (is ∙ ap (λ (w : WordsFault). Err w) named)) exits
 
 pub leaves_fault : (read : WordsRead) (fault : WordsFault) (before now : Option (List ℕ)) → read ≡ Err fault → now ≡ before → LeavesAfter read before now
 leaves_fault read fault before now is same = subst (λ (r : WordsRead). LeavesAfter r before now) (sym is) same
 
 -- memory ran out before they were read
-pub exits_no_memory : (read : WordsRead) (fault : WordsFault) (files : Option (List StoredFile)) (run : Run) (doors : DoorsRun) (number : ℕ) → read ≡ Err fault → fault ≡ OutOfMemory
-    → NothingDone run → AreUnasked doors → number ≡ status_code Memory → ExitsAfter read files run doors number
-exits_no_memory read fault files run doors number is named nothing unasked numbered =
-    subst (λ (r : WordsRead). ExitsAfter r files run doors number) (sym (is ∙ ap (λ (w : WordsFault). Err w) named)) (nothing, unasked, numbered)
+pub exits_no_memory : (read : WordsRead) (fault : WordsFault) (files : Option (List StoredFile)) (run : Run) (doors : DoorsRun) (disks : DisksRun) (number : ℕ) → read ≡ Err fault → fault ≡ OutOfMemory
+    → NothingDone run → AreUnasked doors → AreLeft disks → number ≡ status_code Memory → ExitsAfter read files run doors disks number
+exits_no_memory read fault files run doors disks number is named nothing unasked left numbered =
+    subst (λ (r : WordsRead). ExitsAfter r files run doors disks number) (sym (is ∙ ap (λ (w : WordsFault). Err w) named)) (nothing, unasked, left, numbered)
 
 pub keeps_words : (read : WordsRead) (words : Vec (String Global) Global) (Kept : Type 0) → read ≡ Ok words → (AskNoDoors (map string_bytes words.items) → Kept) → KeepsAfter read Kept
 keeps_words read words Kept is keeps = subst (λ (r : WordsRead). KeepsAfter r Kept) (sym is) keeps

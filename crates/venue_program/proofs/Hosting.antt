@@ -26,6 +26,7 @@ use Rattle.venue_commands.specs.declared.start.Start.{Start}
 use Rattle.venue_program.specs.declared.ready.Ready.{Ready}
 use Rattle.venue_program.specs.Steps.{IsReadyOf, IsReadyFor}
 use Rattle.venue_types.specs.declared.memory.OutOfMemory.{OutOfMemory}
+use Rattle.venue_service.specs.Records.{Logged}
 use Rattle.venue_service.specs.Services.{HallTerms}
 use Rattle.venue_service.specs.Venues.{SeenVenue as Venue}
 use Rattle.venue_program.specs.Doors.{DoorsRun, AreBoundAt, NobodyCame}
@@ -82,30 +83,30 @@ closing_told counts console status false is done fault told = subst (IsClosing c
 closing_told counts console status true is done fault told = subst (IsClosing counts console) (sym (fault refl)) (inl (told, is))
 
 -- behind the line that tells the address
-closed_on : (address : List ℕ) (terms : HallTerms) (next console : Measured) (doors : DoorsRun) (status : Status) (counts : Counts)
+closed_on : (address : List ℕ) (terms : HallTerms) (records : Option (List Logged)) (next console : Measured) (doors : DoorsRun) (status : Status) (counts : Counts)
     → Wrote console.written_before next.written_before (listening_line address) → next.faults_before ≡ console.faults_before
-    → console.written_after ≡ next.written_after → console.faults_after ≡ next.faults_after → WereServed terms doors counts → IsClosing counts next status
-    → IsServiceEnd address terms console doors status
-closed_on address terms next console doors Done counts first kept written faults were closing =
+    → console.written_after ≡ next.written_after → console.faults_after ≡ next.faults_after → WereServed terms records doors counts → IsClosing counts next status
+    → IsServiceEnd address terms records console doors status
+closed_on address terms records next console doors Done counts first kept written faults were closing =
     served counts were closing.1 (told_on next console (listening_line address) (closing_line counts) first kept written faults closing.0)
-closed_on address terms next console doors Fault counts first kept written faults were (inl closing) =
+closed_on address terms records next console doors Fault counts first kept written faults were (inl closing) =
     failing counts were closing.1 (told_on next console (listening_line address) (closing_line counts) first kept written faults closing.0)
-closed_on address terms next console doors Fault counts first kept written faults were (inr closing) =
+closed_on address terms records next console doors Fault counts first kept written faults were (inr closing) =
     cut_short counts were (told_in_part_on next console (listening_line address) (closing_line counts) first kept written faults closing)
-closed_on address terms next console doors Memory counts first kept written faults were closing =
+closed_on address terms records next console doors Memory counts first kept written faults were closing =
     untold counts were (subst (IsTold console) (append-nil (listening_line address)) (told_on next console (listening_line address) [] first kept written faults closing))
-closed_on address terms next console doors Negative counts first kept written faults were closing = absurd closing
-closed_on address terms next console doors Wrong counts first kept written faults were closing = absurd closing
+closed_on address terms records next console doors Negative counts first kept written faults were closing = absurd closing
+closed_on address terms records next console doors Wrong counts first kept written faults were closing = absurd closing
 
-pub service_ends : (address : List ℕ) (terms : HallTerms) (next console : Measured) (doors : DoorsRun) (status : Status)
+pub service_ends : (address : List ℕ) (terms : HallTerms) (records : Option (List Logged)) (next console : Measured) (doors : DoorsRun) (status : Status)
     → Wrote console.written_before next.written_before (listening_line address) → next.faults_before ≡ console.faults_before
-    → console.written_after ≡ next.written_after → console.faults_after ≡ next.faults_after → IsServedOn terms next doors status
-    → IsServiceEnd address terms console doors status
-service_ends address terms next console doors status first kept written faults (nobody memory came told) =
-    subst (IsServiceEnd address terms console doors) (sym memory)
+    → console.written_after ≡ next.written_after → console.faults_after ≡ next.faults_after → IsServedOn terms records next doors status
+    → IsServiceEnd address terms records console doors status
+service_ends address terms records next console doors status first kept written faults (nobody memory came told) =
+    subst (IsServiceEnd address terms records console doors) (sym memory)
     (unserved came (subst (IsTold console) (append-nil (listening_line address)) (told_on next console (listening_line address) [] first kept written faults told)))
-service_ends address terms next console doors status first kept written faults (closed counts were closing) =
-    closed_on address terms next console doors status counts first kept written faults were closing
+service_ends address terms records next console doors status first kept written faults (closed counts were closing) =
+    closed_on address terms records next console doors status counts first kept written faults were closing
 
 -- what the doors told at another time before
 abbrev pub since : DoorsRun → ℕ → ℕ → DoorsRun
@@ -121,12 +122,12 @@ since doors accepted faults = record {
 }
 
 -- the same, where the doors told the same before
-pub ends_since : (address : List ℕ) (terms : HallTerms) (console : Measured) (doors : DoorsRun) (accepted faults : ℕ) (status : Status)
+pub ends_since : (address : List ℕ) (terms : HallTerms) (records : Option (List Logged)) (console : Measured) (doors : DoorsRun) (accepted faults : ℕ) (status : Status)
     → accepted ≡ doors.accepted → faults ≡ doors.faults
-    → IsServiceEnd address terms console (since doors accepted faults) status → IsServiceEnd address terms console doors status
-ends_since address terms console doors accepted faults status same kept ends =
-    subst (λ (n : ℕ). IsServiceEnd address terms console (since doors doors.accepted n) status) kept
-    (subst (λ (n : ℕ). IsServiceEnd address terms console (since doors n faults) status) same ends)
+    → IsServiceEnd address terms records console (since doors accepted faults) status → IsServiceEnd address terms records console doors status
+ends_since address terms records console doors accepted faults status same kept ends =
+    subst (λ (n : ℕ). IsServiceEnd address terms records console (since doors doors.accepted n) status) kept
+    (subst (λ (n : ℕ). IsServiceEnd address terms records console (since doors n faults) status) same ends)
 
 -- what holds of what is there
 pub some_of : {X : Type 0} (P : X → Type 0) (found : Option X) (x : X) → found ≡ Some x → IfSome found P → P x
@@ -181,9 +182,9 @@ ready_for opening service venue base (Ok r) based same ready = record {
 }
 
 -- words of a service ask for no session, of which alone the headline speaks
-no_session : (words : List (List ℕ)) (base folder address base' folder' : List ℕ) (workers connections : ℕ) → words ≡ words_of (Serve base folder address workers connections)
-    → words ≡ words_of (Session base' folder') → ⊥
-no_session words base folder address base' folder' workers connections is is' = let same : words_of (Serve base folder address workers connections) ≡ words_of (Session base' folder') = sym is ∙ is' in cc
+no_session : (words : List (List ℕ)) (base folder address base' folder' : List ℕ) (workers connections : ℕ) → words ≡ words_of (Serve base folder address workers connections None)
+    → words ≡ words_of (Session base' folder' None) → ⊥
+no_session words base folder address base' folder' workers connections is is' = let same : words_of (Serve base folder address workers connections None) ≡ words_of (Session base' folder' None) = sym is ∙ is' in cc
 
 pub service_headline : (words : List (List ℕ)) (told : Option (List StoredFile)) (run : Run) (status : Status) (service : ServiceOf) → Asks words (service_asked service)
     → SaysHeadline words told run status
@@ -198,6 +199,6 @@ asks_doors words service asks none = let same : true ≡ false = none (service_a
 pub bound_as : (address named : List ℕ) (doors : DoorsRun) → address ≡ named → AreBoundAt address doors → AreBoundAt named doors
 bound_as address named doors same bound = subst (λ (a : List ℕ). AreBoundAt a doors) same bound
 
-pub ends_as : (address named : List ℕ) (terms : HallTerms) (console : Measured) (doors : DoorsRun) (status : Status) → address ≡ named
-    → IsServiceEnd address terms console doors status → IsServiceEnd named terms console doors status
-ends_as address named terms console doors status same ends = subst (λ (a : List ℕ). IsServiceEnd a terms console doors status) same ends
+pub ends_as : (address named : List ℕ) (terms : HallTerms) (records : Option (List Logged)) (console : Measured) (doors : DoorsRun) (status : Status) → address ≡ named
+    → IsServiceEnd address terms records console doors status → IsServiceEnd named terms records console doors status
+ends_as address named terms records console doors status same ends = subst (λ (a : List ℕ). IsServiceEnd a terms records console doors status) same ends

@@ -1,4 +1,4 @@
-use Rattle.std.proofs.Common.{refl, sym, ◌∙◌}
+use Rattle.std.proofs.Common.{None, refl, sym, ◌∙◌}
 use Rattle.venue_commands.specs.Commands.{Session}
 use Rattle.venue_commands.proofs.Ending.{no_answer}
 use Rattle.venue_commands.proofs.Openings.{session_printed}
@@ -30,4 +30,4 @@ pub returns-in-Err-clause-ends : goal.returns-in-Err-clause-ends
 returns-in-Err-clause-ends g c words asks =
     let files = g.F.Folders.files c.args.folders in
     c.print_answer-in-Err.ensures.ends words files c.args.folders
-    (no_answer words files _ (Session c.args.of.base.now c.args.of.folder.now) c.in-Err.fault asks c.in-Err.ensures.failed c.in-Err.ensures.cause)
+    (no_answer words files _ (Session c.args.of.base.now c.args.of.folder.now None) c.in-Err.fault asks c.in-Err.ensures.failed c.in-Err.ensures.cause)

@@ -6,8 +6,8 @@ use Rattle.venue_program.proofs.exit.exit_after.Goals as goal
 
 pub returns-in-Ok-clause-exits : goal.returns-in-Ok-clause-exits
 returns-in-Ok-clause-exits g c =
-    exits_words c.args.words c.in-Ok.words (g.F.Folders.files c.args.folders) _ _ _ c.in-Ok.is
-    (exits_as (map string_bytes c.in-Ok.words.items) (map string_bytes c.as_slice.result.now) (g.F.Folders.files c.args.folders) _ _ _ _
+    exits_words c.args.words c.in-Ok.words (g.F.Folders.files c.args.folders) _ _ _ _ c.in-Ok.is
+    (exits_as (map string_bytes c.in-Ok.words.items) (map string_bytes c.as_slice.result.now) (g.F.Folders.files c.args.folders) _ _ _ _ _
     (ap (map string_bytes) c.as_slice.ensures.value) c.run-status.ensures.ends c.code_of.ensures)
 
 pub returns-in-Ok-clause-doors : goal.returns-in-Ok-clause-doors
@@ -23,8 +23,8 @@ returns-in-Ok-clause-left g c =
 pub returns-in-Err-NotText-clause-exits : goal.returns-in-Err-NotText-clause-exits
 returns-in-Err-NotText-clause-exits g c =
     let named : c.in-Err-NotText.field-0 ≡ NotText = rw c.in-Err-NotText.is at c.in-Err-NotText.field-0-is in
-    exits_no_text c.args.words c.in-Err-NotText.field-0 (g.F.Folders.files c.args.folders) _ _ _ c.in-Err-NotText.is named
-    (exits_as [] [] (g.F.Folders.files c.args.folders) _ _ _ _ refl c.run-status-in-Err-NotText.ensures.ends c.code_of-in-Err-NotText.ensures)
+    exits_no_text c.args.words c.in-Err-NotText.field-0 (g.F.Folders.files c.args.folders) _ _ _ _ c.in-Err-NotText.is named
+    (exits_as [] [] (g.F.Folders.files c.args.folders) _ _ _ _ _ refl c.run-status-in-Err-NotText.ensures.ends c.code_of-in-Err-NotText.ensures)
 
 pub returns-in-Err-NotText-clause-doors : goal.returns-in-Err-NotText-clause-doors
 returns-in-Err-NotText-clause-doors g c =
@@ -37,8 +37,8 @@ returns-in-Err-NotText-clause-left g c =
 pub returns-in-Err-OutOfMemory-clause-exits : goal.returns-in-Err-OutOfMemory-clause-exits
 returns-in-Err-OutOfMemory-clause-exits g c =
     let named : c.in-Err-OutOfMemory.field-0 ≡ OutOfMemory = rw c.in-Err-OutOfMemory.is at c.in-Err-OutOfMemory.field-0-is in
-    exits_no_memory c.args.words c.in-Err-OutOfMemory.field-0 (g.F.Folders.files c.args.folders) _ _ _ c.in-Err-OutOfMemory.is named
-    (record { written = refl; faultless = record { console = refl; folders = refl }; unread = refl }) (record { accepted = refl; binds = refl; bound = refl; faults = refl }) c.code_of-in-Err-OutOfMemory.ensures
+    exits_no_memory c.args.words c.in-Err-OutOfMemory.field-0 (g.F.Folders.files c.args.folders) _ _ _ _ c.in-Err-OutOfMemory.is named
+    (record { written = refl; faultless = record { console = refl; folders = refl }; unread = refl }) (record { accepted = refl; binds = refl; bound = refl; faults = refl }) (record { opens = refl; names = refl; faults = refl; nothing = refl }) c.code_of-in-Err-OutOfMemory.ensures
 
 pub returns-in-Err-OutOfMemory-clause-left : goal.returns-in-Err-OutOfMemory-clause-left
 returns-in-Err-OutOfMemory-clause-left g c = leaves_fault c.args.words c.in-Err-OutOfMemory.field-0 _ _ c.in-Err-OutOfMemory.is refl

@@ -6,7 +6,7 @@ use Rattle.venue_program.proofs.serve_command.serve_opening.Goals as goal
 
 pub returns-in-Ok-clause-ends : goal.returns-in-Ok-clause-ends
 returns-in-Ok-clause-ends g c words files before base folder address workers connections venue asks made ready kept =
-    let served = c.serve_ready.ensures in
+    let served = c.serve_ready-status.ensures in
     let here = rw c.in-Ok.is at ready in
     inr (record {
       base = base;
@@ -21,7 +21,7 @@ returns-in-Ok-clause-ends g c words files before base folder address workers con
       terms_are = here.terms;
       unread = served.left;
       bound = bound_as _ _ _ here.address_is served.bound;
-      ends = ends_as _ _ _ _ _ _ here.address_is served.ends;
+      ends = ends_as _ _ _ _ _ _ _ here.address_is served.ends;
     })
 
 pub returns-in-Err-clause-ends : goal.returns-in-Err-clause-ends
