@@ -1,7 +1,7 @@
 //! What is told of some buildings, worked out by hand.
 
 use std::test::Fail;
-use venue_commands::tell_building;
+use venue_program::tell_building;
 
 static LINES: [(u8, &str); 3] = [
     (

@@ -6,4 +6,6 @@ mod buildings;
 #[cfg(test)]
 mod hostile;
 #[cfg(test)]
+mod journals;
+#[cfg(test)]
 mod services;

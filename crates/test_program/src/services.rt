@@ -1,9 +1,10 @@
 //! The command `serve` over clients who wait for one another: what is printed, the status, and what is written to them. `'` stands
 //! for a quotation mark, `@0301` for the identifier that ends in 0301.
 
+mod kept;
 mod talks;
 
-use crate::hostile::outside::{folders, owned, stream};
+use crate::hostile::outside::{folders, owned, run_without_disks, stream};
 use crate::hostile::texts::{CLOSURE, FIRST, LIFT_CLOSED, VERSION};
 use std::alloc::{AllocError, Global};
 use std::process::Abort;
@@ -13,7 +14,7 @@ use std::thread::Threads;
 use talks::{Client, Part, Talks};
 use test_station::{Change, station_files};
 use venue_ports::Doors;
-use venue_program::{Outcome, run};
+use venue_program::Outcome;
 
 const IDENTIFIER: &str = "00000000-0000-4000-8000-00000000";
 
@@ -115,14 +116,14 @@ fn judge<R: Abort + Threads + Wait + Sync>(
     let clients = clients(alloc, table)?;
     let doors = Talks::new(clients.as_slice());
     let mut console = stream(alloc, Vec::new(alloc), 0, 400, [0, 0])?;
-    let Outcome { status, doors, .. } = run(
+    let Outcome { status, doors, .. } = run_without_disks(
         rt,
         alloc,
         words.as_slice(),
         folders,
         doors,
         &mut console,
-    );
+    )?;
     for client in &clients {
         assert!(rt; client.ending() == (0, false, false));
     }

@@ -186,7 +186,7 @@ pub(super) fn the_disk_or_the_console_fails(
 
 // A session over the station, where the read of a file, and the read and the write of the console with these numbers fail.
 fn run_session(
-    rt: &(impl Threads + Wait + Sync),
+    rt: &(impl Threads + Wait + Abort + Sync),
     alloc: Global,
     sent: &[&str],
     failing: [u64; 3],

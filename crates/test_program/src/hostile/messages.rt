@@ -12,7 +12,7 @@ use std::test::Fail;
 use test_station::station_settings;
 use venue_build::Venue;
 use venue_ports::{MemoryFolders, MemoryStream};
-use venue_session::{End, serve_session};
+use venue_program::{End, serve_session};
 use venue_types::Settings;
 use venue_wire::Front;
 use version_board::{Alone, Unopened};

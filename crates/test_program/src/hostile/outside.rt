@@ -5,13 +5,17 @@ ghost use Rattle.std.specs.Arc.{arc_value};
 ghost use Rattle.venue_ports.specs.Doors.{doors_ready};
 
 use std::alloc::{AllocError, Global};
+use std::process::Abort;
 use std::sync::{Arc, Wait};
 use std::test::Fail;
 use std::thread::Threads;
 use test_station::{Change, slots_of};
 use venue_build::{Built, Venue, build};
-use venue_ports::{Doors, Folders, MemoryDoors, MemoryFile, MemoryFolders, MemoryStream, Stream};
-use venue_program::run;
+use venue_ports::{
+    Disks, Doors, Folders, MemoryDisks, MemoryDoors, MemoryFile, MemoryFolders, MemoryStream,
+    Stream,
+};
+use venue_program::{Outcome, run};
 use venue_types::{Settings, Text};
 
 /// How the program ended, what it printed, and how often its folders and its doors failed.
@@ -24,7 +28,7 @@ pub(super) struct Ended {
 }
 
 /// The bytes of these texts.
-pub(super) fn joined(alloc: Global, texts: &[&str]) -> Result<Vec<u8>, AllocError> {
+pub(crate) fn joined(alloc: Global, texts: &[&str]) -> Result<Vec<u8>, AllocError> {
     let mut bytes = Vec::new(alloc);
     for text in texts {
         bytes.extend_from_slice(text.as_bytes())?;
@@ -32,7 +36,7 @@ pub(super) fn joined(alloc: Global, texts: &[&str]) -> Result<Vec<u8>, AllocErro
     Ok(bytes)
 }
 
-pub(super) fn file(
+pub(crate) fn file(
     alloc: Global,
     folder: &str,
     name: &str,
@@ -78,7 +82,7 @@ pub(crate) fn stream(
 }
 
 /// Doors that are not bound. The bind and the accept with these numbers fail, counted from 1.
-pub(super) fn doors(
+pub(crate) fn doors(
     alloc: Global,
     streams: Vec<MemoryStream>,
     failing: [u64; 2],
@@ -103,8 +107,26 @@ pub(crate) fn owned(alloc: Global, words: &[&str]) -> Result<Vec<String>, AllocE
     Ok(owned)
 }
 
+/// Runs the program of words that name no journal, over disks of which none is asked for and none comes back.
+pub(crate) fn run_without_disks<D: Doors + Send + Drop, R: Abort + Threads + Wait + Sync>(
+    rt: &R,
+    alloc: Global,
+    words: &[String],
+    folders: MemoryFolders,
+    doors: D,
+    console: &mut MemoryStream,
+) -> Result<Outcome<MemoryFolders, D, MemoryDisks>, Fail>
+    requires { D.ready doors ≡ false }
+{
+    let mut disks = MemoryDisks::new(alloc, Vec::new(alloc), 0, 0, Vec::new(alloc))?;
+    let outcome = run(rt, alloc, words, folders, doors, console, &mut disks);
+    assert!(rt; outcome.disk.is_none());
+    assert!(rt; disks.fault_count() == 0);
+    Ok(outcome)
+}
+
 /// Runs the program.
-pub(super) fn run_over<D: Doors + Send + Drop, R: Threads + Wait + Sync>(
+pub(super) fn run_over<D: Doors + Send + Drop, R: Abort + Threads + Wait + Sync>(
     rt: &R,
     alloc: Global,
     words: &[&str],
@@ -116,7 +138,7 @@ pub(super) fn run_over<D: Doors + Send + Drop, R: Threads + Wait + Sync>(
 {
     let words = owned(alloc, words)?;
     let mut console = console;
-    let outcome = run(rt, alloc, words.as_slice(), folders, doors, &mut console);
+    let outcome = run_without_disks(rt, alloc, words.as_slice(), folders, doors, &mut console)?;
     Ok(Ended {
         status: outcome.status.code(),
         text: Vec::from_slice(alloc, console.written())?,
@@ -128,7 +150,7 @@ pub(super) fn run_over<D: Doors + Send + Drop, R: Threads + Wait + Sync>(
 /// Runs the program without doors. The read of a file, and the read and the write of the console with these numbers fail, counted
 /// from 1 (0: none), and the console has room for so many bytes.
 pub(super) fn run_without_doors(
-    rt: &(impl Threads + Wait + Sync),
+    rt: &(impl Threads + Wait + Abort + Sync),
     alloc: Global,
     words: &[&str],
     files: Vec<MemoryFile>,

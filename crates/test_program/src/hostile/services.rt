@@ -146,7 +146,7 @@ pub(super) fn a_client_says_nothing_and_another_fails(
 }
 
 // A service whose clients say nothing, with what fails as in a row.
-fn run_silent<R: Threads + Wait + Sync>(
+fn run_silent<R: Abort + Threads + Wait + Sync>(
     rt: &R,
     alloc: Global,
     words: &[&str],

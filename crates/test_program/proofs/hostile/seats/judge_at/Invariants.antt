@@ -1,6 +1,6 @@
 use Rattle.std.proofs.Common.{[], None}
 use Rattle.venue_state.specs.Making.{shelf_of}
-use Rattle.shared_hall.specs.Copied.{entries_in, book_in}
+use Rattle.venue_program.specs.Copied.{entries_in, book_in}
 use Rattle.test_program.proofs.hostile.seats.judge_at.Given as goal
 
 abbrev pub ghosts-judge_under-N-HallName : goal.ghosts-judge_under-N-HallName
