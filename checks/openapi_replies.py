@@ -2,7 +2,8 @@
 """Checks docs/openapi.json: that it is whole, that its examples stand in examples/sessions, and that the program keeps to it. Each
 operation is sent through `venue session` with each parameter and each member of its body right and wrong, without a key, and with heads that
 are refused, and every reply is judged by the schemas. A member that a schema doesn't name is a mistake, a status that the operation doesn't
-list is one, and so is what is listed and no reply was. Only want of memory isn't asked for.
+list is one, and so is what is listed and no reply was. Only want of memory isn't asked for. What changes something is sent once more with a journal
+whose file may not grow.
 
 usage: openapi_replies.py [PROGRAM]   (without PROGRAM the launcher ./venue, which builds the program if need be)
 It prints each mistake and a line at the end, and ends with status 1 at a mistake.
@@ -10,6 +11,7 @@ It prints each mistake and a line at the end, and ends with status 1 at a mistak
 import json
 import os
 import re
+import resource
 import shutil
 import subprocess
 import sys
@@ -19,6 +21,8 @@ from urllib.parse import quote
 TOP = os.path.dirname(os.path.dirname(os.path.abspath(__file__)))
 EXAMPLES = os.path.join(TOP, "examples")
 KEY = "x-staff-key: desk-key-1"
+# The name of the base with a journal, and of that.
+JOURNAL = "full"
 # The words of schemas that `faults_of` judges, or that say nothing of a value.
 WORDS = {"$ref", "type", "description", "enum", "const", "pattern", "minimum", "maximum", "minItems", "maxItems", "uniqueItems", "minProperties",
          "items", "required", "properties", "additionalProperties", "oneOf", "default"}
@@ -209,9 +213,20 @@ def bodies(document, operation):
     yield from ((text, False) for text in ("", "{", compact(example) + "x", "\ufeff" + compact(example)))
 
 
+def run_session(program, base, sent):
+    """What a session writes: without a journal, or with the base's own, whose file may not grow. The signal of that limit is passed over, as Python does."""
+    words, path = [program, "session", base, "station"], os.path.join(base, JOURNAL + ".journal")
+    if not os.path.exists(path):
+        return subprocess.run(words, input=sent, capture_output=True, timeout=50).stdout
+
+    def limit():
+        resource.setrlimit(resource.RLIMIT_FSIZE, (os.path.getsize(path),) * 2)
+    return subprocess.run([*words, JOURNAL], input=sent, capture_output=True, timeout=50, preexec_fn=limit, restore_signals=False).stdout
+
+
 def replies(program, base, requests):
     """The replies to requests of one session, as (status, fields, body)."""
-    rest = subprocess.run([program, "session", base, "station"], input=b"".join(requests), capture_output=True, timeout=50).stdout
+    rest = run_session(program, base, b"".join(requests))
     count = 0
     while rest:
         head, _, rest = rest.partition(b"\r\n\r\n")
@@ -258,7 +273,8 @@ def check_operation(document, program, bases, path, method, operation, parameter
     cases = [(sent, lambda status, right=right: (status != "400") == right) for sent, right in forms]
     seen = serve(document, program, bases[0], responses, cases)
     if key:
-        seen |= serve(document, program, bases[1], responses, cases)
+        for base in bases[1:]:
+            seen |= serve(document, program, base, responses, cases)
         cases = [(request("post", path, fields), lambda status: status == "403") for fields in ([], [KEY + "x"], [KEY, KEY])]
         seen |= serve(document, program, bases[0], responses, cases)
     for fields, wanted in ((["host: b"], "400"), (["content-length: 65537"], "413"), (["transfer-encoding: chunked"], "501"), (["x: a"] * 64, "431")):
@@ -297,6 +313,15 @@ def make_base(folder, name, more):
     return base
 
 
+def make_full(program, folder):
+    """The same base with a journal, in which a history has begun."""
+    base = make_base(folder, JOURNAL, "")
+    with open(os.path.join(base, JOURNAL + ".journal"), "wb"):
+        pass
+    subprocess.run([program, "session", base, "station", JOURNAL], input=b"", timeout=50, check=True)
+    return base
+
+
 def main():
     program = sys.argv[1] if len(sys.argv) > 1 else os.path.join(TOP, "venue")
     with open(os.path.join(TOP, "docs", "openapi.json"), encoding="utf-8") as file:
@@ -309,7 +334,7 @@ def main():
         check_operations(document)
         used.clear()
         with tempfile.TemporaryDirectory() as folder:
-            bases = [make_base(folder, "any", ""), make_base(folder, "last", "\nlast_version = 1\n")]
+            bases = [make_base(folder, "any", ""), make_base(folder, "last", "\nlast_version = 1\n"), make_full(program, folder)]
             for path, method, operation, parameters in operations(document):
                 check_operation(document, program, bases, path, method, operation, parameters)
             check_closed(document, program, bases[0])

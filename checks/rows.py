@@ -21,8 +21,8 @@ PROGRAM = os.path.abspath(os.environ.get("VENUE_PROGRAM") or os.path.join(TOP, "
 FOLDERS = ("station", "tall", "nolift")
 IDENTIFIER = "00000000-0000-4000-8000-00000000"
 # What may stand in a row or a step, in an edit, in what is sent and written, and in a rule of what is printed.
-ROW = set("name base files words edits height sends pieces prints writes status steps keep".split())
-EDIT = set("in behind this becomes piece times from gone".split())
+ROW = set("name base files words edits height sends pieces prints writes status steps keep leaves".split())
+EDIT = set("in behind this becomes piece times from gone first hex".split())
 TOLD_BY = set("begins and lines starting line has first then times".split())
 SENT = set("staff body bytes piece times".split())
 WRITTEN = set("reply more body bytes".split())
@@ -126,12 +126,21 @@ def read(path):
         return it.read()
 
 
-def write(path, text):
+def write(path, data):
     """Writes a file anew: the one that was there may be a link to the station's."""
     if os.path.lexists(path):
         os.remove(path)
-    with open(path, "w", encoding="utf-8", newline="") as it:
-        it.write(text)
+    with open(path, "wb") as it:
+        it.write(data.encode() if isinstance(data, str) else data)
+
+
+def front(path, length):
+    """Returns the first bytes of a file, of which there are so many."""
+    with open(path, "rb") as it:
+        found = it.read(length)
+    if len(found) != length:
+        raise Fault(f"{len(found)} bytes, and not {length}")
+    return found
 
 
 def apply(base, edits):
@@ -141,6 +150,9 @@ def apply(base, edits):
             gone = [place(name)] if name != "*" else [f"station/{it}" for it in os.listdir(f"{base}/station")]
             for it in gone:
                 os.remove(f"{base}/{it}")
+        elif {"first", "hex"} & set(edit):
+            path = f"{base}/{place(edit['in'])}"
+            write(path, (front(path, edit["first"]) if "first" in edit else b"") + bytes.fromhex(edit.get("hex", "")))
         else:
             path = f"{base}/{place(edit['in'])}"
             write(path, changed(read(path) if "this" in edit else "", edit))
@@ -272,6 +284,10 @@ def judge(folder, row, names, piece):
         judge_rule(out, row["prints"])
     if status != row["status"]:
         raise Fault(f"status {status}, and not {row['status']} {told(err) if err else ''}")
+    for name, length in row.get("leaves", {}).items():
+        found = os.path.getsize(f"{folder}/base/{name}")
+        if found != length:
+            raise Fault(f"{name} has {found} bytes then, and not {length}")
     return out
 
 

@@ -20,9 +20,9 @@ need() { # programs
 
 # Starts a server that ends within a minute, over the base in `base` or the examples, and waits until it listens: `server` is its process,
 # and $work/printed what it prints.
-serve_at() { # port, workers, connections
+serve_at() { # port, workers, connections, a journal where there is one
     : >"$work/printed"
-    timeout 60 "$program" serve "${base-$here/examples}" station "127.0.0.1:$1" "$2" "$3" >>"$work/printed" &
+    timeout 60 "$program" serve "${base-$here/examples}" station "127.0.0.1:$1" "${@:2}" >>"$work/printed" &
     server=$!
     processes+=($server)
     for _ in $(seq 300); do
@@ -34,7 +34,7 @@ serve_at() { # port, workers, connections
 }
 
 # The same at a port that is free, which is then in `port`.
-serve() { # workers, connections
+serve() { # workers, connections, a journal where there is one
     for _ in 1 2 3 4 5 6 7 8 9; do
         port=$((20000 + RANDOM % 10000))
         serve_at $port "$@" && return

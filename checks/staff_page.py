@@ -445,6 +445,7 @@ def is_refused(page):
         ((404, b'{"error":"no_such_profile"}'), "Nothing was changed. The server doesn't know one of these profiles"),
         ((404, b'{"error":"no_such_feature"}'), "Nothing was changed. The server's venue doesn't have this any more"),
         ((409, b'{"error":"history_full"}'), "Nothing was changed. The server's history is full (last_version)."),
+        ((502, b'{"error":"journal_fault"}'), "Nothing was changed. The server couldn't keep it. Tell the operator."),
         ((503, b'{"error":"want_of_memory"}'), "Nothing was changed. The server is short of memory. Send it again."),
         ((400, b'{"error":"bad_body"}'), "Nothing was changed. The server can't read what this page sends."),
         ((403, b"<html>"), "From this network nothing may be changed, and nothing was."),

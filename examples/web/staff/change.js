@@ -1,11 +1,10 @@
 // A change of what stands at the server. It is sent once, with the staff's key, and whatever comes back is told as what it is.
-const NAMES = new Set(["not_staff", "bad_body", "no_such_profile", "no_such_feature", "history_full", "folder_fault", "rejected", "want_of_memory"]);
+const NAMES = new Set(["not_staff", "bad_body", "no_such_profile", "no_such_feature", "history_full", "folder_fault", "journal_fault", "rejected", "want_of_memory"]);
 
 /** Whether a text can be a key: 8 to 128 bytes from 0x21 to 0x7E. */
 export const isKey = (text) => /^[!-~]{8,128}$/.test(text);
 
-/** What became of a change: `done` with the server's reply; `refused` by the server, with the name of the refusal; `kept` where it was never sent or a
-    proxy sent it back, with the key of the sentence; or `lost` where nobody said whether it was made. */
+/** What became of a change: `done`, `refused` by name, `kept` where it was never sent or a proxy sent it back, `lost` where nobody said. */
 export async function send(path, body, key, patience) {
   if (!navigator.onLine) return { is: "kept", why: "offline.kept" };
   let reply, text;

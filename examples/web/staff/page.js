@@ -20,7 +20,7 @@ const state = { key: "", choices: [], whom: ALL, closes: true, armed: 0, turn: 0
 
 const closedFor = (id) => state.closed.get(id);
 const write = (id, text) => { if ($(id).textContent !== text) $(id).textContent = text; };
-/** Tells sentences at a place of the page, in the language of then, and again in another one. */
+/** Tells sentences at a place of the page, in the language of then, and again in another. */
 function tell(id, keys = "", values = {}) {
   state.told[id] = [keys, values];
   write(id, keys && keys.split(" ").map((key) => say(key, { ...values, how: values.how?.() })).join(" "));
@@ -108,7 +108,7 @@ const choiceTitle = (id) => {
   return it?.ends ? say("the.ride", { title }) : isPassage(it) ? say("only.place", { title }) : title;
 };
 
-/** Of closing and opening takes the one that changes something for those who are chosen. */
+/** Of closing and opening the one that changes something for who is chosen. */
 function settle() {
   const { picked, whom, closes, sending } = state;
   if (!sending && isSo(closedFor(picked), closes, whom)) Object.assign(state, { closes: !closes, isAsked: false });

@@ -111,5 +111,6 @@ learn({
   "why.no_such_feature": ["The server's venue doesn't have this any more: a folder was published. Choose it on the new map.", "Der Server hat dies nicht mehr: ein Ordner wurde veröffentlicht. Wählen Sie es auf der neuen Karte."],
   "why.history_full": ["The server's history is full (last_version). Tell the operator.", "Der Verlauf des Servers ist voll (last_version). Sagen Sie es dem Betreiber."],
   "why.folder_fault": ["A file of the folder couldn't be read. Tell the operator, then send it again.", "Eine Datei des Ordners war nicht zu lesen. Sagen Sie es dem Betreiber und senden Sie es dann noch einmal."],
+  "why.journal_fault": ["The server couldn't keep it. Tell the operator.", "Der Server konnte es nicht festhalten. Sagen Sie es dem Betreiber."],
   "why.want_of_memory": ["The server is short of memory. Send it again.", "Dem Server fehlt Speicher. Senden Sie es noch einmal."],
 });
