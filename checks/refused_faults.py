@@ -22,6 +22,8 @@ FAULTS = [
     ("want of memory ends by a signal", "^session, REFUSE=.*status -6"),
     ("the closing line counts a change that wasn't made", "^refused_memory: .*changes 1"),
     ("a session ends at a question for which there is nothing to read", r"^session, REFUSE=.*: status 4 behind \d+ replies, in place of"),
+    ("a change that is answered 503 is kept in the journal", r"^session over a journal, REFUSE=.*: behind \d+ replies and status 0 the next start "),
+    ("a journal is written though memory runs out before anything is served", "^session over a journal, REFUSE=.*: before anything was served "),
 ]
 
 

@@ -4,13 +4,18 @@ no memory ends with status 4 behind a front of what it prints. A session may say
 behind it are those of a session without that request. It may end with 4 before its first reply, and at an accepted change whose reply it can't make: a
 message whose query or body it can't read is answered 503 like others.
 
+A journal has the same bytes before each run. Where nothing was served it stays as it was, byte for byte, or has the opening and no more where a
+history begins. The next start over it, to which nothing is refused, goes on with all changes that were accepted and with none that was answered 503.
+
 usage: refused_memory.py [--all]   (the program is the one that VENUE names, or else the one that the launcher ./venue runs, which builds it if need be)
 For each command it prints how many allocations it made and how its runs came out, and one line at the end. It ends with status 1 at a fault. Where a
-command makes more than 20,000 allocations it takes every seventh number, and after five minutes it leaves out the rest; with --all it takes all.
+command makes more than 20,000 allocations it takes every seventh number, and after five minutes it leaves out the rest; with --all it takes all. Of a
+service with a journal it leaves out the numbers that a session takes to begin over the same one, which are that session's.
 Where there is no C compiler it says so, and ends with status 0.
 """
 import collections
 import concurrent.futures
+import json
 import os
 import random
 import re
@@ -33,9 +38,10 @@ MANY, STEP = 20_000, 7
 TOLD = 10
 WANT = b'HTTP/1.1 503 Service Unavailable\r\ncontent-type: application/json\r\ncontent-length: 26\r\n\r\n{"error":"want_of_memory"}'
 ID = "00000000-0000-4000-8000-000000000{}"
-BAKERY, TICKETS, LIFT, RAMP, NO_WAY = (ID.format(end) for end in ("051", "052", "301", "024", "107"))
+BAKERY, TICKETS, LIFT, RAMP, NO_WAY, ROOM, OTHER_ROOM = (ID.format(end) for end in ("051", "052", "301", "024", "107", "305", "306"))
 
-Ran = collections.namedtuple("Ran", "status out err turns")
+# What a run came to: `turns` are those of a service, `journal` the bytes that it left, None where it had no journal.
+Ran = collections.namedtuple("Ran", "status out err turns journal")
 # A request that a client sent: its bytes, and the reply, None where the connection ended without one, or LATE where none came in time.
 Turn = collections.namedtuple("Turn", "client request reply")
 LATE = "late"
@@ -86,6 +92,10 @@ WORKED = [
     publish("nolift"),
     get("/v1/closures"),
 ]
+# The requests whose changes a journal has before a run, those of a session over it, and what the next start is asked.
+KEPT = [closure(LIFT), closure(ROOM, profiles='"wheelchair"'), publish("rooms")]
+OVER_KEPT = [get("/v1/version"), closure(ROOM), closure(OTHER_ROOM), publish("rooms"), closure(ROOM, False), get("/v1/closures")]
+REACHED = [get("/v1/version"), get("/v1/closures")]
 
 
 def replies_of(text):
@@ -109,15 +119,14 @@ def is_accepted(request, reply):
 class Command:
     """A command that prints one text."""
 
-    def __init__(self, name, *words, sent=b""):
-        self.name, self.words, self.sent = name, list(words), sent
+    # The number of the first allocation that is refused.
+    first = 1
+
+    def __init__(self, name, *words):
+        self.name, self.words = name, list(words)
 
     def run(self, trial, refusal):
-        try:
-            ran = subprocess.run([trial.program, *self.words], input=self.sent, capture_output=True, timeout=ONE_RUN, cwd=TOP, env=trial.env(refusal))
-        except subprocess.TimeoutExpired:
-            raise Fault(f"hung for {ONE_RUN} seconds") from None
-        return Ran(ran.returncode, ran.stdout, ran.stderr, [])
+        return trial.run(self.words, b"", refusal)
 
     def prepare(self, trial, ran):
         """Keeps what a run without refusals gave."""
@@ -133,19 +142,46 @@ class Command:
 
 
 class Session(Command):
-    """Requests over standard input."""
+    """Requests over standard input. With a journal `before` are the requests whose changes it has before each run."""
 
-    def __init__(self, name, requests):
-        super().__init__(name, "session", "examples", "station", sent=b"".join(requests))
-        self.requests = requests
+    def __init__(self, name, requests, before=None):
+        super().__init__(name)
+        self.requests, self.before = requests, before
+
+    def run(self, trial, refusal):
+        return trial.over(self.before, lambda journal: trial.session(self.requests, journal, refusal))
+
+    def prepare(self, trial, ran):
+        super().prepare(trial, ran)
+        if self.judge(trial, ran) != "all replies":
+            raise Fault(f"without a refusal: {ran}")
 
     def judge(self, trial, ran):
         replies, rest = replies_of(ran.out)
+        if rest or len(replies) > len(self.requests):
+            raise Fault(f"status {ran.status}, behind {len(replies)} replies there is {rest!r}, {ran.err!r}")
+        outcome = self.outcome(trial, ran, replies)
+        if self.before is not None:
+            self.judge_journal(trial, ran, replies)
+        return outcome
+
+    def judge_journal(self, trial, ran, replies):
+        """Judges the journal that is left behind these replies."""
+        if not replies:
+            trial.judge_unserved(self.before, ran.journal)
+        made = [request for request, reply in zip(self.requests, replies) if reply != WANT]
+        # Behind replies that is the end at an accepted change.
+        if replies and ran.status == 4:
+            made.append(self.requests[len(replies)])
+        difference = trial.difference(ran.journal, self.before, made)
+        if difference:
+            raise Fault(f"behind {len(replies)} replies and status {ran.status} {difference}")
+
+    def outcome(self, trial, ran, replies):
+        """What came of a run with these replies, or a fault."""
         count = len(replies)
-        if rest or count > len(self.requests):
-            raise Fault(f"status {ran.status}, behind {count} replies there is {rest!r}, {ran.err!r}")
         kept = [k for k in range(len(self.requests)) if k >= count or replies[k] != WANT]
-        due = dict(zip(kept, trial.replies_to(self.requests[k] for k in kept)))
+        due = dict(zip(kept, trial.replies_to((self.requests[k] for k in kept), self.before)))
         for k, reply in enumerate(replies):
             if reply not in (WANT, due.get(k)):
                 raise Fault(f"reply {k + 1} is {reply!r}, and due is {due[k]!r}")
@@ -195,19 +231,23 @@ class Client:
 
 
 class Serve(Command):
-    """Two clients of `serve` that ask in turns. A turn is a client's number and its request, or a function from the last version told to it."""
+    """Two clients of `serve` that ask in turns. A turn is a client's number and its request, or a function from the last version told to it.
+    `before` is as of a session."""
 
-    def __init__(self, name, workers, turns):
+    def __init__(self, name, workers, turns, before=None):
         super().__init__(name)
-        self.workers, self.turns = workers, turns
+        self.workers, self.turns, self.before = workers, turns, before
 
     def run(self, trial, refusal):
+        return trial.over(self.before, lambda journal: self.serve(trial, refusal, journal))
+
+    def serve(self, trial, refusal, journal):
         # An address of its own for each run, since runs are side by side.
         host, port = "127." + ".".join(str(random.randint(1, 254)) for _ in range(3)), trial.port
-        words = ["serve", "examples", "station", f"{host}:{port}", str(self.workers), "2"]
+        words = ["serve", "examples", "station", f"{host}:{port}", str(self.workers), "2", *journal]
         pipes = dict(stdin=subprocess.DEVNULL, stdout=subprocess.PIPE, stderr=subprocess.PIPE, bufsize=0)
         is_hung = threading.Event()
-        with subprocess.Popen([trial.program, *words], cwd=TOP, env=trial.env(refusal), **pipes) as process:
+        with subprocess.Popen([trial.program, *words], cwd=trial.work, env=trial.env(refusal), **pipes) as process:
             watch = threading.Timer(ONE_RUN, lambda: (is_hung.set(), process.kill()))
             watch.start()
             try:
@@ -219,7 +259,7 @@ class Serve(Command):
                 process.kill()
         if is_hung.is_set():
             raise Fault(f"hung for {ONE_RUN} seconds, behind {turns}")
-        return Ran(process.returncode, (first + out).replace(f"{host}:{port}".encode(), b"ADDRESS"), err, turns)
+        return Ran(process.returncode, (first + out).replace(f"{host}:{port}".encode(), b"ADDRESS"), err, turns, None)
 
     def talk(self, address):
         clients, turns, version = [Client(address), Client(address)], [], 1
@@ -241,6 +281,8 @@ class Serve(Command):
         super().prepare(trial, ran)
         if ran.status or len(ran.turns) != len(self.turns) or self.judge(trial, ran) != "all replies":
             raise Fault(f"without a refusal: {ran}")
+        if self.before is not None:
+            _, self.first = trial.counted(lambda refusal: trial.over(self.before, lambda journal: trial.session([], journal, refusal)))
 
     def judge(self, trial, ran):
         lines = re.fullmatch(rb"(listening ADDRESS\n(workers (\d+) sessions 2 versions (\d+) changes (\d+)\n)?)?", ran.out)
@@ -251,23 +293,27 @@ class Serve(Command):
             if isinstance(turn.reply, bytes) and replies_of(turn.reply) != ([turn.reply], b""):
                 raise Fault(f"no whole reply: {turn}")
         changes = int(lines[5]) if closed else None
-        if closed and int(lines[4]) != changes + 1:
+        if closed and int(lines[4]) != changes + trial.version_of(self.before):
             raise Fault(f"printed {ran.out!r}")
+        if self.before is not None and not ran.out:
+            trial.judge_unserved(self.before, ran.journal)
         # A change that wasn't answered may have been made, or not.
-        unmade, made = [self.history(trial, ran.turns, are_made, changes) for are_made in (False, True)]
+        unmade, made = [self.history(trial, ran, are_made, changes) for are_made in (False, True)]
         if unmade and made:
             raise Fault(f"{unmade}, or {made}: {ran.turns}, printed {ran.out!r}")
         return self.outcome(ran.turns, closed, is_change_untold=unmade is not None)
 
-    def history(self, trial, turns, are_made, changes):
-        """Why the turns aren't those of one history in which the unanswered changes are made or aren't, or None where they are."""
-        kept = [turn for turn in turns if turn.reply != WANT and (are_made or isinstance(turn.reply, bytes))]
-        due = trial.replies_to(turn.request for turn in kept)
+    def history(self, trial, ran, are_made, changes):
+        """Why the turns, and the journal, aren't those of one history in which the unanswered changes are made or aren't, or None where they are."""
+        kept = [turn for turn in ran.turns if turn.reply != WANT and (are_made or isinstance(turn.reply, bytes))]
+        due = trial.replies_to((turn.request for turn in kept), self.before)
         for turn, reply in zip(kept, due):
             if isinstance(turn.reply, bytes) and turn.reply != reply:
                 return f"{turn} is wrong, due is {reply!r}"
         made = sum(is_accepted(turn.request, reply) for turn, reply in zip(kept, due))
-        return None if changes in (None, made) else f"{made} changes were made"
+        if changes not in (None, made):
+            return f"{made} changes were made"
+        return None if self.before is None else trial.difference(ran.journal, self.before, [turn.request for turn in kept])
 
     def outcome(self, turns, closed, is_change_untold):
         told = {turn.client for turn in turns if isinstance(turn.reply, bytes)}
@@ -296,6 +342,8 @@ COMMANDS = [
     Command("route without a way", "route", "examples", "nolift", "wheelchair", BAKERY, NO_WAY),
     Command("gen 1", "gen", "1"),
     Session("session", WORKED),
+    Session("session over an empty journal", [get("/v1/version"), closure(LIFT), get("/v1/closures")], before=[]),
+    Session("session over a journal", OVER_KEPT, before=KEPT),
     Serve("serve with 1 worker", 1, [(0, get("/v1/version")), (1, get("/v1/version"))]),
     Serve(
         "serve with 2 workers",
@@ -309,16 +357,30 @@ COMMANDS = [
             (1, lambda version: get(f"/v1/closures?since={version}")),
         ],
     ),
+    Serve(
+        "serve over a journal",
+        2,
+        [
+            (0, get("/v1/version")),
+            (1, closure(ROOM)),
+            (0, lambda version: get(f"/v1/closures?since={version}")),
+            (1, closure(ROOM, False)),
+            (0, lambda version: get(f"/v1/closures?since={version}")),
+        ],
+        before=KEPT,
+    ),
 ]
 
 
 class Trial:
-    """A program whose allocations are refused, and what its sessions answer without refusals."""
+    """A program whose allocations are refused, and what its sessions answer without refusals. In the folder `work` are the examples."""
 
-    def __init__(self, program, folder):
-        self.program, self.folder = program, folder
+    def __init__(self, program, folder, work):
+        self.program, self.folder, self.work = program, folder, work
         self.library = self.compiled("refuse.so", os.path.join(HERE, "refuse.c"), "-shared", "-fPIC")
-        self.known, self.faults, self.told = {}, collections.Counter(), []
+        # In bytes, which aren't encoded again for each run.
+        self.environment = {**os.environb, b"LD_PRELOAD": os.fsencode(self.library)}
+        self.known, self.journals, self.reached, self.faults, self.told = {}, {}, {}, collections.Counter(), []
         self.loader = self.ends_of_loader()
         with socket.create_server(("", 0)) as door:
             self.port = door.getsockname()[1]
@@ -329,7 +391,7 @@ class Trial:
         return path
 
     def env(self, refusal):
-        return dict(os.environ, LD_PRELOAD=self.library, **refusal)
+        return {**self.environment, **refusal}
 
     def counted(self, run):
         """What comes of a run without refusals, and how many allocations it made."""
@@ -355,16 +417,70 @@ class Trial:
         ends = {(kind, number): run({kind: str(number)}) for kind in ("REFUSE", "REFUSE_FROM") for number in range(1, count + 1)}
         return {refusal: end for refusal, end in ends.items() if end[0]}
 
-    def replies_to(self, requests):
-        """The replies of a session to these requests alone, without refusals."""
+    def run(self, words, sent, refusal):
+        """What comes of the program with these words and this input."""
+        try:
+            ran = subprocess.run([self.program, *words], input=sent, capture_output=True, timeout=ONE_RUN, cwd=self.work, env=self.env(refusal))
+        except subprocess.TimeoutExpired:
+            raise Fault(f"hung for {ONE_RUN} seconds") from None
+        return Ran(ran.returncode, ran.stdout, ran.stderr, [], None)
+
+    def over(self, before, run):
+        """What a run comes to that is handed its last words: none, or a journal with the changes of the requests before."""
+        return run([]) if before is None else self.over_bytes(self.journal_of(before) if before else b"", run)
+
+    def over_bytes(self, journal, run):
+        """The same with a journal of these bytes, which is no other run's."""
+        with tempfile.NamedTemporaryFile(dir=os.path.join(self.work, "examples"), prefix="log", suffix=".journal") as file:
+            file.write(journal)
+            file.flush()
+            ran = run([os.path.basename(file.name).removesuffix(".journal")])
+            with open(file.name, "rb") as left:
+                return ran._replace(journal=left.read())
+
+    def session(self, requests, journal, refusal=None):
+        """What comes of a session of these requests, whose last words are a journal or none, by default without refusals."""
+        return self.run(["session", "examples", "station", *journal], b"".join(requests), refusal or {})
+
+    def journal_of(self, requests):
+        """What a session of these requests leaves of an empty journal, without refusals."""
         requests = tuple(requests)
+        if requests not in self.journals:
+            ran = self.over_bytes(b"", lambda journal: self.session(requests, journal))
+            if ran.status or ran.out != b"".join(self.replies_to(requests)):
+                raise Fault(f"over an empty journal, without a refusal, {requests} are answered {ran.out!r}, status {ran.status}")
+            self.journals[requests] = ran.journal
+        return self.journals[requests]
+
+    def judge_unserved(self, before, journal):
+        """Judges what is left of a journal where nothing was served."""
+        if journal not in ((self.journal_of(before),) if before else (b"", self.journal_of([]))):
+            raise Fault(f"before anything was served the journal was written: {len(journal)} bytes, {journal[:64]!r} in front")
+
+    def difference(self, journal, before, requests):
+        """How the next start over a journal differs from the history of the requests before and of these, or None where it goes on with that."""
+        if journal not in self.reached:
+            self.reached[journal] = self.over_bytes(journal, lambda name: self.session(REACHED, name))
+        ran, due = self.reached[journal], b"".join(self.replies_to([*requests, *REACHED], before)[-len(REACHED) :])
+        if (ran.status, ran.out) == (0, due):
+            return None
+        return f"the next start over the journal prints {ran.out!r} with status {ran.status}, and due is {due!r}"
+
+    def version_of(self, before):
+        """The version that stands behind these requests."""
+        return 1 + sum(map(is_accepted, before or (), self.replies_to(before or ())))
+
+    def replies_to(self, requests, before=None):
+        """The replies of a session without a journal to these requests, behind those before and no others, without refusals."""
+        front = tuple(before or ())
+        requests = front + tuple(requests)
         if requests not in self.known:
-            ran = subprocess.run([self.program, "session", "examples", "station"], input=b"".join(requests), capture_output=True, timeout=ONE_RUN, cwd=TOP)
-            replies, rest = replies_of(ran.stdout)
-            if ran.returncode or rest or len(replies) != len(requests):
-                raise Fault(f"without a refusal {requests} are answered {ran.stdout!r}, status {ran.returncode}")
+            ran = self.session(requests, [])
+            replies, rest = replies_of(ran.out)
+            if ran.status or rest or len(replies) != len(requests):
+                raise Fault(f"without a refusal {requests} are answered {ran.out!r}, status {ran.status}")
             self.known[requests] = replies
-        return self.known[requests]
+        return self.known[requests][len(front) :]
 
     def tried(self, command, kind, number):
         """What came of a run with a refusal."""
@@ -388,6 +504,21 @@ def program_of():
     return BUILT
 
 
+def lay_out(work):
+    """Copies the examples, and makes the folder `rooms` with two units, which is read back from a journal in few allocations."""
+    examples = os.path.join(work, "examples")
+    shutil.copytree(os.path.join(TOP, "examples"), examples)
+    nolift, rooms = os.path.join(examples, "nolift"), os.path.join(examples, "rooms")
+    os.mkdir(rooms)
+    for name in ("manifest.json", "venue.geojson", "level.geojson"):
+        shutil.copy(os.path.join(nolift, name), rooms)
+    with open(os.path.join(nolift, "unit.geojson"), encoding="utf-8") as file:
+        units = json.load(file)
+    units["features"] = [unit for unit in units["features"] if unit["id"] in (ROOM, OTHER_ROOM)]
+    with open(os.path.join(rooms, "unit.geojson"), "w", encoding="utf-8") as file:
+        json.dump(units, file)
+
+
 def counts_of(trial):
     """The commands that the program has, each with the number of its allocations."""
     counts = {}
@@ -407,12 +538,16 @@ def main():
         print("refused_memory: skipped, since there is no cc")
         return 0
     takes_all = "--all" in sys.argv[1:]
-    with tempfile.TemporaryDirectory() as folder:
-        trial = Trial(program_of(), folder)
+    # In memory where there is such a folder, since a journal is synced at each change.
+    memory = "/dev/shm" if os.access("/dev/shm", os.W_OK) else None
+    with tempfile.TemporaryDirectory() as folder, tempfile.TemporaryDirectory(dir=memory) as work:
+        lay_out(work)
+        trial = Trial(program_of(), folder, work)
         end = float("inf") if takes_all else time.monotonic() + ALL_RUNS
         counts = counts_of(trial)
         steps = {command: STEP if count > MANY and not takes_all else 1 for command, count in counts.items()}
-        tasks = [(command, kind, number) for command, count in counts.items() for number in range(1, count + 1, steps[command]) for kind in ("REFUSE", "REFUSE_FROM")]
+        numbers = {command: range(command.first, count + 1, steps[command]) for command, count in counts.items()}
+        tasks = [(command, kind, number) for command in counts for number in numbers[command] for kind in ("REFUSE", "REFUSE_FROM")]
         # In any order, so that what is left out after five minutes is of no command in particular.
         random.Random(1).shuffle(tasks)
         came = {command: collections.Counter() for command in counts}
@@ -424,8 +559,10 @@ def main():
         print(line, file=sys.stderr)
     for command, count in counts.items():
         told = ", ".join(f"{outcome} {times:,}" for outcome, times in sorted(came[command].items()))
-        print(f"{command.name}: {count:,} allocations{', every seventh' if steps[command] > 1 else ''}: {told}")
-        if came[command][GAVE_WAY] > max(1, came[command].total() // FEW):
+        since = f", from number {command.first:,} on" if command.first > 1 else ""
+        print(f"{command.name}: {count:,} allocations{since}{', every seventh' if steps[command] > 1 else ''}: {told}")
+        # Among the runs are those that a service with a journal leaves out, since in none of them a connection would be served.
+        if came[command][GAVE_WAY] > max(1, 2 * count // steps[command] // FEW):
             print(f"{command.name}: connections gave way in more runs than one of {FEW}, where one thread is missing at one run alone", file=sys.stderr)
             came[command]["FAULT"] += 1
     faults, left_out = (sum(of[outcome] for of in came.values()) for outcome in ("FAULT", "LEFT OUT"))

@@ -1,6 +1,8 @@
 /* Stands in for the program, so that refused_faults.py sees whether refused_memory.py finds faults. It answers all questions and changes alike, and
-   takes memory as the program might. FAULT is 0 for none, or the number of one of the faults that refused_faults.py names. */
+   takes memory as the program might. A journal has what it knows of changes. FAULT is 0 for none, or the number of one of the faults that
+   refused_faults.py names. */
 #include <arpa/inet.h>
+#include <fcntl.h>
 #include <poll.h>
 #include <stdio.h>
 #include <stdlib.h>
@@ -8,8 +10,32 @@
 #include <unistd.h>
 
 static void *volatile block;
-static char last[256];
-static int version = 1;
+static struct {
+    int version;
+    char last[256];
+} known = {.version = 1};
+static int journal = -1;
+
+static void keep(void) {
+    if (journal >= 0)
+        pwrite(journal, &known, sizeof known, 0);
+}
+
+/* Keeps one change more than there are. */
+static void keep_more(void) {
+    known.version++;
+    keep();
+    known.version--;
+}
+
+/* Goes on with what the journal has, or begins it. */
+static void open_journal(const char *base, const char *name) {
+    char path[512];
+    sprintf(path, "%s/%s.journal", base, name);
+    journal = open(path, O_RDWR);
+    if (pread(journal, &known, sizeof known, 0) <= 0)
+        keep();
+}
 
 static int has_memory(void) {
     block = malloc(16);
@@ -32,18 +58,21 @@ static void say_want(int out) {
 /* Answers a request, and tells whether there was memory to say so. */
 static int answer(int out, const char *request, const char *body, size_t size) {
     char text[64];
-    int is_change = *request == 'P' && (strlen(last) != size || strncmp(last, body, size));
+    int is_change = *request == 'P' && (strlen(known.last) != size || strncmp(known.last, body, size));
     if (FAULT == 1 && is_change)
-        version++;
+        known.version++;
     if (!has_memory()) {
+        if (FAULT == 8 && is_change)
+            keep_more();
         if (FAULT == 7 && *request == 'G')
             return 0;
         say_want(out);
         return 1;
     }
     if (is_change) {
-        version += FAULT != 1;
-        sprintf(last, "%.*s", (int)size, body);
+        known.version += FAULT != 1;
+        sprintf(known.last, "%.*s", (int)size, body);
+        keep();
     }
     if (!has_memory()) {
         if (is_change && FAULT != 2)
@@ -51,7 +80,7 @@ static int answer(int out, const char *request, const char *body, size_t size) {
         say_want(out);
         return 1;
     }
-    sprintf(text, "{\"changed\":%s,\"version\":%d}", is_change ? "true" : "false", version);
+    sprintf(text, "{\"changed\":%s,\"version\":%d}", is_change ? "true" : "false", known.version);
     say(out, "200 OK", text);
     return 1;
 }
@@ -80,7 +109,7 @@ static int serve(const char *address, int workers) {
     char host[32];
     sprintf(host, "%.*s", (int)(strchr(address, ':') - address), address);
     inet_pton(AF_INET, host, &at.sin_addr);
-    int door = socket(AF_INET, SOCK_STREAM, 0), left = 2, open = 0;
+    int door = socket(AF_INET, SOCK_STREAM, 0), left = 2, open = 0, begun = FAULT == 6 ? 0 : known.version;
     struct pollfd seats[2];
     if (bind(door, (struct sockaddr *)&at, sizeof at) || listen(door, 8))
         return 3;
@@ -97,7 +126,7 @@ static int serve(const char *address, int workers) {
     }
     if (!has_memory())
         return 4;
-    write(1, text, sprintf(text, "workers %d sessions 2 versions %d changes %d\n", workers, version, version - (FAULT != 6)));
+    write(1, text, sprintf(text, "workers %d sessions 2 versions %d changes %d\n", workers, known.version, known.version - begun));
     return 0;
 }
 
@@ -105,11 +134,17 @@ int main(int count, char **words) {
     static char text[65536];
     if (!has_memory())
         return FAULT == 3 ? 2 : 4;
-    if (count > 5 && !strcmp(words[1], "serve"))
+    int is_serve = count > 5 && !strcmp(words[1], "serve"), is_session = count > 3 && !strcmp(words[1], "session");
+    if (is_serve ? count > 7 : is_session && count > 4)
+        open_journal(words[2], words[count - 1]);
+    if (is_serve)
         return serve(words[4], atoi(words[5]));
-    if (!has_memory())
+    if (!has_memory()) {
+        if (FAULT == 9)
+            keep_more();
         return 4;
-    if (count < 2 || strcmp(words[1], "session")) {
+    }
+    if (!is_session) {
         write(1, "done\n", 5);
         return 0;
     }
