@@ -1,7 +1,8 @@
 """Writes a journal: a folder published by worker 0, then changes.
 
-usage: make_journal.py FOLDER OUT closures COUNT IDENTIFIER   (a closure for both profiles and a reopening in turn, by worker 1)
-       make_journal.py FOLDER OUT publications COUNT          (so many publications in all, the later ones by worker 1)
+usage: make_journal.py FOLDER OUT closures COUNT IDENTIFIER ..   (a closure for both profiles and a reopening in turn, by worker 1, of one feature
+                                                                  after the other)
+       make_journal.py FOLDER OUT publications COUNT             (so many publications in all, the later ones by worker 1)
 """
 import os
 import sys
@@ -28,9 +29,10 @@ def main():
     with open(out, "wb") as file:
         file.write(bytes([1, 1, 0]) + body)
         if kind == "closures":
-            feature = bytes.fromhex(sys.argv[5].replace("-", ""))
-            pair = bytes([1, 2, 1]) + feature + bytes([0, 3]) + bytes([1, 3, 1]) + feature + bytes([0, 3])
-            file.write(pair * (count // 2))
+            features = [bytes.fromhex(identifier.replace("-", "")) for identifier in sys.argv[5:]]
+            pairs = [bytes([1, 2, 1]) + feature + bytes([0, 3]) + bytes([1, 3, 1]) + feature + bytes([0, 3]) for feature in features]
+            whole, rest = divmod(count // 2, len(pairs))
+            file.write(b"".join(pairs) * whole + b"".join(pairs[:rest]))
         else:
             for _ in range(count - 1):
                 file.write(bytes([1, 1, 1]) + body)

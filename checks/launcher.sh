@@ -53,6 +53,7 @@ expect_all 0 'kx = 7884684
 ky = 11113178' scale 45
 expect_all 2 '' scale 91
 expect_all 2 '' advise examples
+expect_all 2 '' history examples
 expect_all 2 words odd words
 listed=$(./venue odd words 2>&1 >/dev/null)
 [ "$(tail -n +2 <<<"$listed" | sed 's/^  //')" = "$(grep '^\./venue' <<<"$usage")" ] || {
@@ -85,6 +86,7 @@ gen 0 features 1
 rule 0 F1, F1
 advise 1 advice examples station
 scale 0 kx 50
+history 2 - examples none
 build 0 -
 prove 0 proved
 --version 0 commit
@@ -131,8 +133,10 @@ if ! command -v git >/dev/null || ! git rev-parse -q --verify HEAD >/dev/null; t
     echo 'launcher: no ready program is tried, since this is no git clone'
 else
     git clone -q "$here" "$copy/clone" && rm -f "$copy"/clone/release/venue-*.tar.xz || exit 1
-    cp venue "$copy/build.py" "$copy/clone" && cp release/ready.py "$copy/clone/release" || exit 1
+    cp venue "$copy/build.py" "$copy/clone" && cp release/ready.py "$copy/clone/release" && cp examples/serve/history.py "$copy/clone/examples/serve" || exit 1
     kit_path=/usr/bin:/bin says 'neither a program nor a kit' 'venue: the kit (rt) is not on the path, *' price x
+    : >"$copy/log.journal"
+    kit_path=$(dirname "$(command -v python3)"):/usr/bin:/bin says 'a history with neither' 'empty of 0 bytes' history "$copy" log
     printf '#!/bin/sh\necho ready\n' >"$copy/program"
     (cd "$copy/clone" && PATH=$copy/kit:$PATH release/ready.py make 0.0.0 "$copy/program") >/dev/null || exit 1
     says 'the first use of a ready program' 'venue: the ready program 0.0.0 runs, built from commit * with a kit; this machine has neither proved nor compared it: *' price x
