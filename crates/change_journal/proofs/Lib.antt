@@ -7,6 +7,7 @@ mod Writing
 mod Putting
 pub mod ReadBack
 mod Recorded
+mod Holding
 mod Unique
 mod Kept
 mod Damage

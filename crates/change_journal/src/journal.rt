@@ -9,7 +9,7 @@ ghost use Rattle.venue_hall.specs.Records.{IsLoggable, AreCounted, AreKept};
 ghost use Rattle.change_journal.specs.Appends.{IsAppend, ended};
 ghost use Rattle.change_journal.specs.States.{IsReady};
 ghost use Rattle.change_journal.specs.Texts.{HasRanges};
-ghost use Rattle.change_journal.specs.Told.{recorded, told_records};
+ghost use Rattle.change_journal.specs.Told.{recorded, told_records, HoldsRecords};
 
 use crate::bodies::put_body;
 use crate::gates::{close_gate, open_gate};
@@ -86,9 +86,10 @@ impl<K: Disk> Journal<K> {
         self.count
     }
 
-    /// The disk.
+    /// The disk, which holds the records, and at most one more behind them.
     pub fn into_disk(self) -> K
-        ensures { result ≡ self.disk }
+        ensures disk { result ≡ self.disk }
+        ensures held { HoldsRecords self.count (K.moments result) }
     {
         self.disk
     }

@@ -1,5 +1,5 @@
 -- From what a service writes to how it ends.
-use Rattle.std.proofs.Common.{◌≡◌, ℕ, List, [], ◌∷◌, ◌++◌, Option, Some, None, refl, sym, subst, ap, ◌∙◌, inl, inr, append_assoc, append-nil}
+use Rattle.std.proofs.Common.{◌≡◌, ℕ, List, [], ◌++◌, Option, Some, None, refl, sym, subst, ap, ◌∙◌, inl, inr, append_assoc, append-nil}
 use Rattle.std.proofs.Common.{Result, Ok, Err, codes}
 use Rattle.std.specs.Prelude.{◌⊎◌, Bool, true, false, String, string_bytes, IfOk, IfSome, IfNone, OnOk, OnErr}
 use Rattle.std.specs.declared.alloc.Global.{Global}
@@ -10,7 +10,6 @@ use Rattle.venue_ports.specs.declared.stream.Failed.{Failed}
 use Rattle.venue_ports.specs.Causes.{Rose}
 use Rattle.venue_service.specs.Ends.{Measured}
 use Rattle.venue_service.specs.declared.service.Counts.{Counts}
-use Rattle.venue_service.specs.Desks.{raised}
 use Rattle.venue_commands.specs.declared.status.Status.{Status}
 use Rattle.venue_commands.specs.declared.status.Status.TheVariants.{Done, Negative, Wrong, Fault, Memory}
 use Rattle.venue_commands.specs.Runs.{Wrote}
@@ -29,8 +28,8 @@ use Rattle.venue_types.specs.declared.memory.OutOfMemory.{OutOfMemory}
 use Rattle.venue_service.specs.Records.{Logged}
 use Rattle.venue_service.specs.Services.{HallTerms}
 use Rattle.venue_service.specs.Venues.{SeenVenue as Venue}
-use Rattle.venue_program.specs.Doors.{DoorsRun, AreBoundAt, NobodyCame}
-use Rattle.venue_program.specs.Services.{closing_line, listening_line, service_text, IsTold, IsToldInPart, WereServed, IsServiceEnd, unheard, unserved, served, failing, cut_short, untold}
+use Rattle.venue_program.specs.Doors.{DoorsRun, AreBoundAt}
+use Rattle.venue_program.specs.Services.{closing_line, listening_line, IsTold, IsToldInPart, WereServed, IsServiceEnd, unserved, served, failing, cut_short, untold}
 use Rattle.venue_program.specs.Steps.{IsClosing, IsServedOn, nobody, closed}
 
 -- nothing is written where nothing changes

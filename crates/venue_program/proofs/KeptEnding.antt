@@ -15,7 +15,7 @@ use Rattle.venue_commands.specs.declared.status.Status.{Status}
 use Rattle.journal_start.specs.declared.stop.Why.{Why}
 use Rattle.journal_start.specs.declared.stop.Why.TheVariants as why
 use Rattle.journal_start.specs.Starts.{CountsDisk, IsAskedBy, IsStopped}
-use Rattle.venue_program.specs.Disks.{DiskRun, disk_run}
+use Rattle.venue_program.specs.Disks.{disk_run}
 use Rattle.venue_program.specs.Doors.{DoorsRun}
 use Rattle.venue_program.specs.Kept.{SeatEnds, ServedDoors}
 use Rattle.venue_program.specs.Services.{IsServiceEnd}

@@ -1,5 +1,5 @@
 -- From how a session ends that keeps a journal to its headline.
-use Rattle.std.proofs.Common.{◌≡◌, ◌⊎◌, ℕ, List, ◌++◌, Option, Some, sym, subst, inl, inr}
+use Rattle.std.proofs.Common.{◌≡◌, ◌⊎◌, ℕ, List, ◌++◌, Option, Some, subst, inl, inr}
 use Rattle.venue_ports.specs.Files.{StoredFile}
 use Rattle.journal_start.specs.Shelves.{Shelf}
 use Rattle.shared_hall.specs.Entry.{Entry}
@@ -8,7 +8,6 @@ use Rattle.journal_start.specs.Told.{told_records}
 use Rattle.venue_service.specs.Making.{shelf_of}
 use Rattle.venue_service.specs.Records.{Logged}
 use Rattle.journal_start.specs.Headline.{Headline}
-use Rattle.journal_start.specs.Moments.{Reads}
 use Rattle.venue_commands.specs.declared.status.Status.{Status}
 use Rattle.venue_commands.specs.declared.status.Status.TheVariants.{Done, Negative, Memory}
 use Rattle.venue_commands.specs.Runs.{Run}

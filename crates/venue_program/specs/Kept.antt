@@ -9,7 +9,7 @@ use Rattle.venue_ports.specs.Files.{StoredFile}
 use Rattle.venue_ports.specs.Moments.{Moment}
 use Rattle.journal_start.specs.Stamps.{entries_of}
 use Rattle.journal_start.specs.Resumed.{Resumed}
-use Rattle.journal_start.specs.Told.{told_records}
+use Rattle.journal_start.specs.Told.{told_records, HoldsRecords}
 use Rattle.shared_hall.specs.Entry.{Entry}
 use Rattle.venue_service.specs.Ends.{Measured}
 use Rattle.shared_hall.specs.Facts.{Facts}
@@ -128,7 +128,7 @@ abbrev pub SeatEnds : Option Shelf → List (List ℕ) → List Entry → Measur
 SeatEnds shelf keys entries console reads records count status =
     SeatServed shelf keys entries console reads records count status ⊎ SeatUntaken entries console records count status
 
--- a session was served over a hall that went on so, and the disk comes back with the records of its log
+-- a session was served over a hall that went on so, and the disk comes back: it holds the records of its log, and at most one more
 pub record KeptSession (words : List (List ℕ)) (files : Option (List StoredFile)) (run : Run) (doors : DoorsRun) (disks : DisksRun) (status : Status) : Type 0 where
   pub base : List ℕ
   pub folder : List ℕ
@@ -141,6 +141,7 @@ pub record KeptSession (words : List (List ℕ)) (files : Option (List StoredFil
   pub back : disks.disk ≡ Some disk
   pub count : ℕ
   pub ends : SeatEnds (shelf_of files base) settings.staff_keys entries (console_of run) (reads_of run) (told_records count disk.moments) count status
+  pub held : HoldsRecords count disk.moments
   pub folders : run.folders ≤ run.folders_now
   pub asked : AskedOnce base journal disks.opens disks.opens_now disks.names disks.names_now
   pub disks_kept : disks.faults_now ≡ disks.faults
@@ -162,7 +163,7 @@ pub record ServedDoors (base : List ℕ) (settings : Settings) (entries : List E
   pub kept : AreRecordsOf records entries ⊎ IsKeptOn entries records
   pub ends : (AreBoundAt address doors × IsServiceEnd address terms records console doors status) ⊎ (AreUnasked doors × IsTold console [] × (status ≡ Memory))
 
--- the words ask for a service that keeps a journal, which was served, and the disk comes back
+-- the words ask for a service that keeps a journal, which was served, and the disk comes back so too
 pub record KeptService (words : List (List ℕ)) (files : Option (List StoredFile)) (run : Run) (doors : DoorsRun) (disks : DisksRun) (status : Status) : Type 0 where
   pub base : List ℕ
   pub folder : List ℕ
@@ -178,6 +179,7 @@ pub record KeptService (words : List (List ℕ)) (files : Option (List StoredFil
   pub back : disks.disk ≡ Some disk
   pub count : ℕ
   pub ends : ServedDoors base settings entries address workers connections (told_records count disk.moments) (console_of run) doors status
+  pub held : HoldsRecords count disk.moments
   pub unread : IsUnread run
   pub folders : run.folders ≤ run.folders_now
   pub asked : AskedOnce base journal disks.opens disks.opens_now disks.names disks.names_now

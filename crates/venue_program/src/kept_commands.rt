@@ -4,7 +4,7 @@
 ghost use Rattle.std.specs.Prelude.{◌≡◌, ◌≤◌, ℕ, List, false, length, IfSome, IsSome};
 ghost use Rattle.std.specs.Arc.{arc_value};
 ghost use Rattle.journal_start.specs.Stamps.{entries_of};
-ghost use Rattle.journal_start.specs.Told.{told_records};
+ghost use Rattle.journal_start.specs.Told.{told_records, HoldsRecords};
 ghost use Rattle.shared_hall.specs.Making.{shelf_of};
 ghost use Rattle.shared_hall.specs.Standing.{AreRecordsOf};
 ghost use Rattle.venue_service.specs.Ends.{connection_between};
@@ -68,7 +68,7 @@ fn serve_session<F: Folders, D: Doors, C: Stream, K: Disks, R: Wait>(
     requires records { AreRecordsOf (told_records start.kept.journal.count (K.Disk.moments start.kept.journal.disk)) (entries_of start.kept.resumed.held.stamp) }
     ensures back { IsSome result.disk }
     ensures ends { IfSome result.disk (λ disk. (count : ℕ) × SeatEnds (shelf_of (F.files folders) start.base) (arc_value start.settings).staff_keys (entries_of start.kept.resumed.held.stamp)
-        (connection_between C.Stream console.old console.new) (reads_between C.Stream console.old console.new) (told_records count (K.Disk.moments disk)) count result.status) }
+        (connection_between C.Stream console.old console.new) (reads_between C.Stream console.old console.new) (told_records count (K.Disk.moments disk)) count result.status × HoldsRecords count (K.Disk.moments disk)) }
     ensures files { F.files result.folders ≡ F.files folders }
     ensures doors { result.doors ≡ doors }
     ensures folders_later { F.faults folders ≤ F.faults result.folders }
@@ -150,7 +150,8 @@ fn serve_doors<F: Folders + Send, D: Doors + Send, C: Stream, K: Disks, R: Threa
     requires records { AreRecordsOf (told_records start.kept.journal.count (K.Disk.moments start.kept.journal.disk)) (entries_of start.kept.resumed.held.stamp) }
     ensures back { IsSome result.disk }
     ensures ends { IfSome result.disk (λ disk. (count : ℕ) × ServedDoors start.base (arc_value start.settings) (entries_of start.kept.resumed.held.stamp) service.entry.address.now
-        service.entry.workers service.entry.connections (told_records count (K.Disk.moments disk)) (connection_between C.Stream console.old console.new) (doors_between D.Doors doors result.doors) result.status) }
+        service.entry.workers service.entry.connections (told_records count (K.Disk.moments disk)) (connection_between C.Stream console.old console.new) (doors_between D.Doors doors result.doors) result.status
+        × HoldsRecords count (K.Disk.moments disk)) }
     ensures files { F.files result.folders ≡ F.files folders }
     ensures left { C.left console.new ≡ C.left console.old }
     ensures folders_later { F.faults folders ≤ F.faults result.folders }

@@ -1,4 +1,4 @@
-use Rattle.std.proofs.Common.{◌≡◌, ◌≤◌, ◌∙◌, Option, option_map, refl, sym, subst, ap, inl, inr}
+use Rattle.std.proofs.Common.{◌≡◌, ◌≤◌, option_map, refl, sym, subst, ap, inl, inr}
 use Rattle.std.specs.Prelude.{IfNone, IfSome}
 use Rattle.std.specs.Arc.{arc_value}
 use Rattle.journal_start.specs.Stamps.{entries_of}
@@ -42,6 +42,7 @@ returns-in-Ok-clause-ends g c words asks =
       back = back.1;
       count = back.2.0;
       ends = doors_as _ _ _ _ _ _ _ _ _ _ _ reached.base back.2.1;
+      held = back.2.2;
       unread = served.ensures.left;
       folders = later_on _ _ _ reached.counted served.ensures.folders_later;
       asked = reached.asked;

@@ -1,4 +1,4 @@
-use Rattle.std.proofs.Common.{◌≡◌, ◌∙◌, refl, sym, subst, ap, inl, inr}
+use Rattle.std.proofs.Common.{◌∙◌, refl, sym, subst, ap, inl, inr}
 use Rattle.std.specs.Arc.{arc_value}
 use Rattle.journal_start.specs.Stamps.{entries_of}
 use Rattle.journal_start.specs.Told.{told_records}
@@ -15,7 +15,7 @@ returns-in-Ok-clause-ends g c =
     let ready = c.in-Ok.ensures in
     let log = served.result.log in
     let entries = entries_of c.args.start.kept.resumed.held.stamp in
-    let told = ap (λ d. told_records log.count (g.K.Disk.Disk.moments d)) (sym c.into_disk.ensures) in (
+    let told = ap (λ d. told_records log.count (g.K.Disk.Disk.moments d)) (sym c.into_disk.ensures.disk) in (
       log.count,
       record {
         terms = terms_of c.in-Ok.ready.plan;
@@ -25,6 +25,7 @@ returns-in-Ok-clause-ends g c =
             (told_records log.count (g.K.Disk.Disk.moments c.into_disk.result)) served.ensures.kept ready.opening c.requires.records told;
         ends = inl (bound_as _ _ _ ready.address served.ensures.bound, service_as _ _ _ _ _ _ _ _ ready.address told served.ensures.ends);
       },
+      c.into_disk.ensures.held,
     )
 
 pub returns-in-Err-clause-ends : goal.returns-in-Err-clause-ends
@@ -43,7 +44,8 @@ returns-in-Err-clause-ends g c =
         });
         opening_is = refl;
         terms_are = (record { base_is = refl; keys = refl; workers_are = refl; connections_are = refl });
-        kept = inl (subst (λ d. AreRecordsOf (told_records n (g.K.Disk.Disk.moments d)) entries) (sym c.into_disk-in-Err.ensures) c.requires.records);
+        kept = inl (subst (λ d. AreRecordsOf (told_records n (g.K.Disk.Disk.moments d)) entries) (sym c.into_disk-in-Err.ensures.disk) c.requires.records);
         ends = inr (record { accepted = refl; binds = refl; bound = refl; faults = refl }, record { wrote = wrote_nothing _; faultless = refl }, refl);
       },
+      c.into_disk-in-Err.ensures.held,
     )

@@ -1,4 +1,4 @@
-use Rattle.std.proofs.Common.{◌≡◌, ℕ, [], refl, append-nil, inr}
+use Rattle.std.proofs.Common.{[], refl, append-nil, inr}
 use Rattle.journal_start.specs.Stamps.{entries_of}
 use Rattle.journal_start.specs.Told.{told_records}
 use Rattle.venue_program.proofs.Hosting.{wrote_nothing}
@@ -15,7 +15,8 @@ returns-in-Err-clause-ends g c =
         nothing = (record { wrote = wrote_nothing _; faultless = refl });
         history = entries;
         begins = ([], append-nil entries);
-        kept = log_as (λ d. told_records n (g.K.Disk.Disk.moments d)) (λ d. n) c.args.start.kept.journal.disk c.into_disk-in-Err.result entries entries c.into_disk-in-Err.ensures refl
+        kept = log_as (λ d. told_records n (g.K.Disk.Disk.moments d)) (λ d. n) c.args.start.kept.journal.disk c.into_disk-in-Err.result entries entries c.into_disk-in-Err.ensures.disk refl
             c.requires.length c.requires.records;
       }),
+      c.into_disk-in-Err.ensures.held,
     )

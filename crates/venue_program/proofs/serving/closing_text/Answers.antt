@@ -1,5 +1,4 @@
 use Rattle.std.proofs.Common.{ℕ, ◌++◌, codes, ap, ◌∙◌}
-use Rattle.std.specs.Prelude.{string_bytes}
 use Rattle.std.specs.Fmt.{decimal}
 use Rattle.venue_program.specs.Services.{closing_line}
 use Rattle.venue_program.proofs.Hosting.{closing_spelled, text_as}
