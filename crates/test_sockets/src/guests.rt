@@ -121,6 +121,31 @@ fn who_becomes_ready_later_comes_later(rt: HostRuntime) -> Result<(), Fail> {
 }
 
 #[test]
+fn who_waits_is_served_while_others_come(rt: HostRuntime) -> Result<(), Fail> {
+    let address = free_address(&rt, rt.alloc())?;
+    let lobby = Lobby::new(rt.alloc())?;
+    let mut doors = LobbyDoors::new(&rt, &lobby);
+    doors.bind(address.as_str()).expect(&rt, "a bind");
+    let mut slow = client(&rt, address.as_str(), &WHOLE[..36])?;
+    let quick = b"\n\nGET / HTTP/1.0\n\n".as_slice();
+    let mut others = Vec::new(rt.alloc());
+    others.push(client(&rt, address.as_str(), quick)?)?;
+    let mut buf = [0; 64];
+    let mut is_served = false;
+    for turn in 0..100 {
+        // There is one more than was handed out, so somebody is always in front of the doors.
+        others.push(client(&rt, address.as_str(), quick)?)?;
+        if turn == 1 {
+            slow.write_all(&WHOLE[36..])?;
+        }
+        let mut link = doors.accept().expect(&rt, "a connection");
+        is_served |= link.read(&mut buf) == Ok(37);
+    }
+    assert!(rt; is_served);
+    Ok(())
+}
+
+#[test]
 fn what_the_system_refuses_is_a_fault(rt: HostRuntime) -> Result<(), Fail> {
     let address = free_address(&rt, rt.alloc())?;
     let beside = Beside {

@@ -148,6 +148,26 @@ fn who_pauses_gives_way_to_others(rt: HostRuntime) -> Result<(), Fail> {
 }
 
 #[test]
+fn a_crowd_in_front_of_the_doors_is_seen_at_once(rt: HostRuntime) -> Result<(), Fail> {
+    // By this clock no time passes, so nothing but a crowd ends the wait.
+    let beside = Beside {
+        rt: &rt,
+        clock: ByHand::at(0),
+    };
+    let mut others = Vec::new(rt.alloc());
+    let lobby = Lobby::new(rt.alloc())?;
+    let Pair {
+        mut link,
+        client: _client,
+    } = accepted_pair(&beside, &lobby, rt.alloc(), &mut others, 8)?;
+    let start = Instant::now(&rt)?;
+    assert!(rt; link.read(&mut [0; 64]) == Ok(WHOLE.len()));
+    assert!(rt; link.read(&mut [0; 64]) == Err(Failed));
+    assert!(rt; start.elapsed(&rt)? < Duration::from_secs(5));
+    Ok(())
+}
+
+#[test]
 fn who_reads_nothing_gives_way_to_others(rt: HostRuntime) -> Result<(), Fail> {
     for (count, least, most) in [(1, 2_000, 10_000), (8, 200, 1_900)] {
         let mut others = Vec::new(rt.alloc());

@@ -61,18 +61,27 @@ pub(crate) fn read_at_once(stream: &TcpStream, buf: &mut [u8]) -> Result<Option<
     read
 }
 
+// Has reads wait for a slice.
+fn set_read_options(stream: &TcpStream) -> io::Result<()> {
+    stream.set_nonblocking(false)?;
+    stream.set_read_timeout(Some(Duration::from_millis(SLICE_MILLIS)))
+}
+
 // Has calls wait for a slice, and each piece sent at once.
 fn set_options(stream: &TcpStream) -> io::Result<()> {
-    let slice = Duration::from_millis(SLICE_MILLIS);
-    stream.set_nonblocking(false)?;
+    set_read_options(stream)?;
     stream.set_nodelay(true)?;
-    stream.set_read_timeout(Some(slice))?;
-    stream.set_write_timeout(Some(slice))
+    stream.set_write_timeout(Some(Duration::from_millis(SLICE_MILLIS)))
 }
 
 /// From now on a call at the socket waits for a slice, and each piece is sent at once. Until then none waits.
 pub(crate) fn let_wait(stream: &TcpStream) -> Result<(), Failed> {
     set_options(stream).map_err(|_| Failed)
+}
+
+/// From now on a read at the socket waits for a slice.
+pub(crate) fn let_read_wait(stream: &TcpStream) -> Result<(), Failed> {
+    set_read_options(stream).map_err(|_| Failed)
 }
 
 /// Tells the other side that no more comes.

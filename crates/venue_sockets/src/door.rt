@@ -98,15 +98,25 @@ impl Door {
         }
     }
 
-    /// Lets in those who came, at this time. For one for whom there is no room, the one that has waited longest is closed; who finds no room even
-    /// then stays in the system's queue.
-    pub(crate) fn let_in(&mut self, guests: &mut Guests, now: Duration) -> Result<(), Failed> {
+    /// Lets in those who came, at this time, until so many are ready. For one for whom there is no room, the one that has waited longest is
+    /// closed; who finds no room even then stays in the system's queue.
+    pub(crate) fn let_in(
+        &mut self,
+        guests: &mut Guests,
+        now: Duration,
+        enough: usize,
+    ) -> Result<(), Failed> {
         if self.queue == Queue::Empty {
             return Ok(());
         }
         self.queue = Queue::Open;
         let mut made_room = false;
         for _ in 0..MOST_AT_ONCE {
+            // The queue stays open here. An event tells of a change alone, so whoever came before would be forgotten if any but an accept that
+            // finds nobody said that it is empty.
+            if guests.ready_count() >= enough {
+                return Ok(());
+            }
             if !guests.make_room() {
                 self.queue = Queue::Held;
                 return Ok(());

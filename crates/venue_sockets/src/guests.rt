@@ -36,6 +36,11 @@ impl Guests {
         self.ready.len()
     }
 
+    /// Whether anybody has sent less than a message.
+    pub(crate) fn are_waiting(&self) -> bool {
+        self.waiters.len() > 0
+    }
+
     pub(crate) fn is_empty(&self) -> bool {
         self.waiters.len() == 0 && self.ready.is_empty()
     }

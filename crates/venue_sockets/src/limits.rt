@@ -48,6 +48,14 @@ pub(crate) fn behind_of(ready: usize, coming: usize) -> Behind
     }
 }
 
+/// How many that are ready tell a worker all that it asks, where so many workers are on their way: at its end one more, and else a crowd more.
+pub(crate) fn enough(awaited: Awaited, coming: usize) -> usize {
+    match awaited {
+        Awaited::Bytes | Awaited::Room => coming.saturating_add(CROWD),
+        Awaited::End => coming.saturating_add(1),
+    }
+}
+
 /// The most that a worker waits in all.
 pub(crate) fn most(awaited: Awaited, behind: Behind) -> Duration
     ensures { as_nanos result ≡ most_nanos awaited behind }

@@ -7,7 +7,9 @@ ghost use Rattle.venue_sockets.specs.declared.limits.Awaited.TheVariants.{Bytes,
 ghost use Rattle.venue_sockets.specs.declared.limits.Behind.TheVariants.{Nobody};
 ghost use Rattle.venue_sockets.specs.Limits.{most_nanos};
 
-use crate::calls::{end_output, let_wait, now, read_at_once, read_slice, since, write_slice};
+use crate::calls::{
+    end_output, let_read_wait, let_wait, now, read_at_once, read_slice, since, write_slice,
+};
 use crate::limits::{Awaited, Behind, ONE_CALL_SECS, SLICE_MILLIS, most};
 use crate::lobby::Lobby;
 use crate::waits::Waiting;
@@ -82,12 +84,20 @@ impl<'a, R: Clock> LobbyLink<'a, R> {
         Ok(())
     }
 
+    // Lets the reads that are left wait, where they don't yet.
+    fn let_read_wait(&self) -> Result<(), Failed> {
+        if self.may_wait {
+            return Ok(());
+        }
+        let_read_wait(&self.stream)
+    }
+
     // Who waits behind. It takes a look from the time on at which others, who are fewer than a crowd, are not kept waiting any more.
     fn behind(&self, awaited: Awaited, waited: Duration) -> Behind {
         if waited < most(awaited, Behind::Others) {
-            self.lobby.seen_behind()
+            self.lobby.known_behind(self.rt)
         } else {
-            self.lobby.behind(self.rt)
+            self.lobby.behind(self.rt, awaited)
         }
     }
 
@@ -124,7 +134,7 @@ impl<'a, R: Clock> LobbyLink<'a, R> {
     fn read_slice(&self, buf: &mut [u8]) -> Result<Option<usize>, Failed>
         ensures { IfOk result (λ read. IfSome read (λ n. n ≤ length buf.old)) }
     {
-        if self.lobby.seen_behind() == Behind::Crowd {
+        if self.lobby.known_behind(self.rt) == Behind::Crowd {
             return read_at_once(&self.stream, buf);
         }
         let mut stream = &self.stream;
@@ -238,10 +248,10 @@ impl<'a, R: Clock> LobbyLink<'a, R> {
     fn rest_slices(&self, buf: &mut [u8], from: Duration) -> Result<usize, Failed> {
         let mut stream = &self.stream;
         for _ in 0..MOST_SLICES {
-            self.go_on(Awaited::End, Duration::ZERO, from)?;
             if let Some(count) = read_slice(&mut stream, buf)? {
                 return Ok(count);
             }
+            self.go_on(Awaited::End, Duration::ZERO, from)?;
         }
         Err(Failed)
     }
@@ -252,12 +262,13 @@ impl<'a, R: Clock> LobbyLink<'a, R> {
         let from = now(self.rt)?;
         end_output(&self.stream)?;
         self.go_on(Awaited::End, Duration::ZERO, from)?;
-        self.let_wait()?;
+        self.let_read_wait()?;
         let mut buf = [0; LAST_READ];
         for _ in 0..LAST_READS {
             if self.rest_slices(&mut buf, from)? == 0 {
                 return Ok(());
             }
+            self.go_on(Awaited::End, Duration::ZERO, from)?;
         }
         Ok(())
     }

@@ -1,11 +1,11 @@
 //! Where connections wait without a worker, shared by the doors and the links.
 
 use crate::door::Door;
-use crate::limits::{Behind, behind_of};
+use crate::limits::{Awaited, Behind, behind_of, enough};
 use crate::pool::Pool;
 use std::alloc::{AllocError, Global};
 use std::net::{Net, TcpStream};
-use std::sync::atomic::{AtomicUsize, Ordering};
+use std::sync::atomic::{AtomicBool, AtomicUsize, Ordering};
 use std::sync::{Mutex, Wait};
 use std::time::Clock;
 use venue_ports::Failed;
@@ -18,6 +18,7 @@ pub struct Lobby {
     pool: Mutex<Pool>,
     ready: AtomicUsize,
     coming: AtomicUsize,
+    is_open: AtomicBool,
 }
 
 impl Lobby {
@@ -27,13 +28,16 @@ impl Lobby {
             pool: Mutex::new(Pool::new(alloc)?),
             ready: AtomicUsize::new(0),
             coming: AtomicUsize::new(0),
+            is_open: AtomicBool::new(false),
         })
     }
 
     /// Listens at an address.
     pub(crate) fn open<R: Net + Wait>(&self, rt: &R, address: &str) -> Result<(), Failed> {
         let door = Door::bind(rt, address)?;
-        self.pool.lock(rt).open(door);
+        let mut pool = self.pool.lock(rt);
+        pool.open(door);
+        self.note(&pool);
         Ok(())
     }
 
@@ -42,23 +46,20 @@ impl Lobby {
         let mut pool = self.pool.lock(rt);
         self.one_came();
         for _ in rt.forever() {
-            match pool.next_ready() {
-                Some(stream) => {
-                    self.note(pool.ready_count());
-                    return Ok(TcpStream::from(stream));
-                }
-                None => {
-                    pool.wait(rt)?;
-                    self.note(pool.ready_count());
-                }
+            let next = pool.next_ready();
+            self.note(&pool);
+            match next {
+                Some(stream) => return Ok(TcpStream::from(stream)),
+                None => pool.wait(rt)?,
             }
         }
         unreachable!()
     }
 
-    // Tells those who don't hold the lock how many are ready.
-    fn note(&self, ready: usize) {
-        self.ready.store(ready, Ordering::SeqCst);
+    // Tells those who don't hold the lock how many are ready, and whether others may be in front of the door.
+    fn note(&self, pool: &Pool) {
+        self.ready.store(pool.ready_count(), Ordering::SeqCst);
+        self.is_open.store(pool.is_open(), Ordering::SeqCst);
     }
 
     // A worker is here, which may be one that was on its way.
@@ -81,17 +82,34 @@ impl Lobby {
         )
     }
 
-    /// Who waits for a worker, by a look. Where a worker is at the doors, nobody does.
-    pub(crate) fn behind(&self, clock: &impl Clock) -> Behind {
-        let seen = self.seen_behind();
-        if seen == Behind::Crowd {
-            return seen;
-        }
+    // Looks at the doors until so many are ready, where no worker is there, and tells whether it did.
+    fn look(&self, clock: &impl Clock, enough: usize) -> bool {
         let Some(mut pool) = self.pool.try_lock() else {
-            return Behind::Nobody;
+            return false;
         };
-        let _ = pool.look(clock);
-        self.note(pool.ready_count());
+        let _ = pool.look(clock, enough);
+        self.note(&pool);
+        true
+    }
+
+    /// Who is known to wait for a worker. Where the last one at the doors left some who came, they are looked at.
+    pub(crate) fn known_behind(&self, clock: &impl Clock) -> Behind {
+        if self.is_open.load(Ordering::SeqCst) {
+            self.look(
+                clock,
+                enough(Awaited::Bytes, self.coming.load(Ordering::SeqCst)),
+            );
+        }
+        self.seen_behind()
+    }
+
+    /// Who waits for a worker that waits for this itself, by a look where what was seen doesn't tell enough. Where a worker is at the doors,
+    /// nobody does.
+    pub(crate) fn behind(&self, clock: &impl Clock, awaited: Awaited) -> Behind {
+        let enough = enough(awaited, self.coming.load(Ordering::SeqCst));
+        if self.ready.load(Ordering::SeqCst) < enough && !self.look(clock, enough) {
+            return Behind::Nobody;
+        }
         self.seen_behind()
     }
 }

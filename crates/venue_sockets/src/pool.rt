@@ -44,6 +44,14 @@ impl Pool {
         self.guests.ready_count()
     }
 
+    /// Whether somebody may be in front of the door whom nobody has looked at.
+    pub(crate) fn is_open(&self) -> bool {
+        match &self.door {
+            Some(door) => door.is_open(),
+            None => false,
+        }
+    }
+
     /// The one that has been ready longest.
     pub(crate) fn next_ready(&mut self) -> Option<TcpStream> {
         self.guests.next_ready()
@@ -63,24 +71,29 @@ impl Pool {
         }
     }
 
-    /// Waits until something happens, and looks at it.
+    /// Waits until something happens, and looks at it until somebody is ready.
     pub(crate) fn wait(&mut self, clock: &impl Clock) -> Result<(), Failed> {
         match &self.door {
             Some(door) => {
                 let within = self.longest_turn(door);
-                self.turn(clock, within)
+                self.turn(clock, within, 1)
             }
             None => Err(Failed),
         }
     }
 
-    /// Looks once at what has happened, without waiting.
-    pub(crate) fn look(&mut self, clock: &impl Clock) -> Result<(), Failed> {
-        self.turn(clock, Some(Duration::ZERO))
+    /// Looks once at what has happened, without waiting, until so many are ready.
+    pub(crate) fn look(&mut self, clock: &impl Clock, enough: usize) -> Result<(), Failed> {
+        self.turn(clock, Some(Duration::ZERO), enough)
     }
 
-    // Looks at what happens within this time, lets in those who came, and closes those who are late.
-    fn turn(&mut self, clock: &impl Clock, within: Option<Duration>) -> Result<(), Failed> {
+    // Looks at what happens within this time, lets in those who came until so many are ready, and closes those who are late.
+    fn turn(
+        &mut self,
+        clock: &impl Clock,
+        within: Option<Duration>,
+        enough: usize,
+    ) -> Result<(), Failed> {
         let Pool {
             door,
             events,
@@ -89,13 +102,16 @@ impl Pool {
         let Some(door) = door else {
             return Err(Failed);
         };
-        door.wait(events, within)?;
-        // A place that becomes free here is taken again only by those who are let in behind, so each event finds its own connection.
-        for event in events.iter() {
-            door.look(event, guests);
+        // While the door is open and nobody waits, no event tells more than the accept does.
+        if !door.is_open() || guests.are_waiting() {
+            door.wait(events, within)?;
+            // A place that becomes free here is taken again only by those who are let in behind, so each event finds its own connection.
+            for event in events.iter() {
+                door.look(event, guests);
+            }
         }
         let now = now(clock)?;
-        door.let_in(guests, now)?;
+        door.let_in(guests, now, enough)?;
         guests.close_late(now);
         Ok(())
     }
