@@ -25,18 +25,18 @@ pub read_back : (w : Width) (n m : ℤ) → n ≡ m → FitsSigned w m → to_z 
 read_back w n m e fits = rw e (to_z-of_z w m fits)
 
 -- a product whose factors are read back
-pub product_of : (r m n : ℤ) → r ≡ to_z w64 (of_z w64 m) *ℤ to_z w64 (of_z w64 n) → IsWithin 200000000 m (pos 0) → IsWithin 200000000 n (pos 0) → r ≡ m *ℤ n
-product_of r m n e h k = e ∙ ap₂ ◌*ℤ◌ (to_z-of_z w64 m (fits_from_IsWithin 200000000 m h (lit< tt))) (to_z-of_z w64 n (fits_from_IsWithin 200000000 n k (lit< tt)))
+pub product_of : (r m n : ℤ) → r ≡ to_z w64 (of_z w64 m) *ℤ to_z w64 (of_z w64 n) → IsWithin 800000000 m (pos 0) → IsWithin 800000000 n (pos 0) → r ≡ m *ℤ n
+product_of r m n e h k = e ∙ ap₂ ◌*ℤ◌ (to_z-of_z w64 m (fits_from_IsWithin 800000000 m h (lit< tt))) (to_z-of_z w64 n (fits_from_IsWithin 800000000 n k (lit< tt)))
 
 -- the sum and the difference of two products, as the code computes them
-pub sum_of : (m n : ℤ) → IsWithin 40000000000000000 m (pos 0) → IsWithin 40000000000000000 n (pos 0) → to_z w64 (of_z w64 (to_z w64 (of_z w64 m) +ℤ to_z w64 (of_z w64 n))) ≡ m +ℤ n
+pub sum_of : (m n : ℤ) → IsWithin 640000000000000000 m (pos 0) → IsWithin 640000000000000000 n (pos 0) → to_z w64 (of_z w64 (to_z w64 (of_z w64 m) +ℤ to_z w64 (of_z w64 n))) ≡ m +ℤ n
 sum_of m n h k = omega (arith, ints)
 
-pub difference_of : (m n : ℤ) → IsWithin 40000000000000000 m (pos 0) → IsWithin 40000000000000000 n (pos 0) → to_z w64 (of_z w64 (to_z w64 (of_z w64 m) -ℤ to_z w64 (of_z w64 n))) ≡ m -ℤ n
+pub difference_of : (m n : ℤ) → IsWithin 640000000000000000 m (pos 0) → IsWithin 640000000000000000 n (pos 0) → to_z w64 (of_z w64 (to_z w64 (of_z w64 m) -ℤ to_z w64 (of_z w64 n))) ≡ m -ℤ n
 difference_of m n h k = omega (arith, ints)
 
 -- the square of a wide number that comes from 64 bits
-pub wide_square_of : (n : ℤ) → IsWithin 80000000000000000 n (pos 0) → (FitsSigned w128 (n *ℤ n)) × (to_z w128 (of_z w128 (to_z w64 (of_z w64 n))) ≡ n)
+pub wide_square_of : (n : ℤ) → IsWithin 1280000000000000000 n (pos 0) → (FitsSigned w128 (n *ℤ n)) × (to_z w128 (of_z w128 (to_z w64 (of_z w64 n))) ≡ n)
 wide_square_of n h =
-    let range : IsWithin 6400000000000000000000000000000000 (n *ℤ n) (pos 0) = IsWithin-mul n n 80000000000000000 80000000000000000 h h in
+    let range : IsWithin 1638400000000000000000000000000000000 (n *ℤ n) (pos 0) = IsWithin-mul n n 1280000000000000000 1280000000000000000 h h in
     (omega (arith, ints), omega (arith, ints))

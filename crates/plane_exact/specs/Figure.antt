@@ -5,7 +5,7 @@ use Rattle.venue_types.specs.declared.point.Point.{Point}
 use Rattle.venue_types.specs.declared.point.Ring.{Ring}
 use Rattle.venue_types.specs.declared.point.Part.{Part}
 use Rattle.venue_types.specs.declared.point.Shape.{Shape}
-use Rattle.plane_exact.specs.Plane.{side, IsClose}
+use Rattle.plane_exact.specs.Plane.{side, IsClose, IsNearby}
 use Rattle.plane_exact.specs.Segment.{IsNearEdge, Crosses}
 
 -- a straight line between two neighbours of a ring
@@ -86,6 +86,10 @@ IsNear p shape t = IsNearSome p t (all_edges shape)
 -- any two of the positions are close
 pub record AllClose (points : List Point) : Type 0 where
   pub close : (a b : Point) → Contains points a → Contains points b → IsClose a b
+
+-- any two of the positions are nearby
+pub record AllNearby (points : List Point) : Type 0 where
+  pub near : (a b : Point) → Contains points a → Contains points b → IsNearby a b
 
 -- two of the edges cross
 pub record HaveCrossing (list : List Edge) : Type 0 where

@@ -18,6 +18,16 @@ pub record IsCloseDoubled (a b : Spot) : Type 0 where
   pub x : IsWithin 400000000 a.x b.x
   pub y : IsWithin 400000000 a.y b.y
 
+-- the two positions differ by at most 800,000,000 on each axis, as close positions do of which all numbers are taken four times
+pub record IsNearby (a b : Point) : Type 0 where
+  pub x : IsWithin 800000000 a.x b.x
+  pub y : IsWithin 800000000 a.y b.y
+
+-- the coordinates are at most 2 * 10^18 on both sides of 0, so that four times them are numbers of 64 bits
+pub record IsInRange (p : Point) : Type 0 where
+  pub x : IsWithin 2000000000000000000 p.x (pos 0)
+  pub y : IsWithin 2000000000000000000 p.y (pos 0)
+
 -- the square of a whole number
 unfoldable pub square : ℤ → ℤ
 square n = n *ℤ n

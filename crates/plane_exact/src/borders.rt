@@ -1,15 +1,15 @@
 //! What is near a shape's border.
 
 ghost use Rattle.std.specs.Prelude.{◌≡◌, ◌∷◌, ◌≤◌, ◌↔◌, IsTrue, flat_map};
-ghost use Rattle.plane_exact.specs.Figure.{AllClose, vertices, part_edges, part_points, ring_points, ring_edges, edges, edges_from, IsNear, IsNearSome};
+ghost use Rattle.plane_exact.specs.Figure.{AllNearby, vertices, part_edges, part_points, ring_points, ring_edges, edges, edges_from, IsNear, IsNearSome};
 
 use crate::segments::near_edge;
 use venue_types::{Part, Point, Ring, Shape};
 
 /// Whether `p` is at most `t` nanodegrees from the border of the shape, its holes' borders among it. Looks at every edge.
 pub fn near(p: Point, shape: &Shape, t: u32) -> bool
-    requires close { AllClose (p ∷ vertices shape.now) }
-    requires tolerance { t ≤ 1000000 }
+    requires close { AllNearby (p ∷ vertices shape.now) }
+    requires tolerance { t ≤ 4000000 }
     ensures { IsTrue result ↔ IsNear p shape.now t }
 {
     near_parts(p, shape.parts.as_slice(), t)
@@ -17,8 +17,8 @@ pub fn near(p: Point, shape: &Shape, t: u32) -> bool
 
 // Whether `p` is at most `t` from some edge of the polygons.
 fn near_parts(p: Point, parts: &[Part], t: u32) -> bool
-    requires close { AllClose (p ∷ flat_map part_points parts.now) }
-    requires tolerance { t ≤ 1000000 }
+    requires close { AllNearby (p ∷ flat_map part_points parts.now) }
+    requires tolerance { t ≤ 4000000 }
     ensures { IsTrue result ↔ IsNearSome p t (flat_map part_edges parts.now) }
 {
     for part in parts {
@@ -31,8 +31,8 @@ fn near_parts(p: Point, parts: &[Part], t: u32) -> bool
 
 // Whether `p` is at most `t` from some edge of the polygon.
 fn near_part(p: Point, part: &Part, t: u32) -> bool
-    requires close { AllClose (p ∷ part_points part.now) }
-    requires tolerance { t ≤ 1000000 }
+    requires close { AllNearby (p ∷ part_points part.now) }
+    requires tolerance { t ≤ 4000000 }
     ensures { IsTrue result ↔ IsNearSome p t (part_edges part.now) }
 {
     near_ring(p, &part.outer, t) || near_rings(p, part.holes.as_slice(), t)
@@ -40,8 +40,8 @@ fn near_part(p: Point, part: &Part, t: u32) -> bool
 
 // Whether `p` is at most `t` from some edge of the rings.
 fn near_rings(p: Point, rings: &[Ring], t: u32) -> bool
-    requires close { AllClose (p ∷ ring_points rings.now) }
-    requires tolerance { t ≤ 1000000 }
+    requires close { AllNearby (p ∷ ring_points rings.now) }
+    requires tolerance { t ≤ 4000000 }
     ensures { IsTrue result ↔ IsNearSome p t (ring_edges rings.now) }
 {
     for ring in rings {
@@ -54,8 +54,8 @@ fn near_rings(p: Point, rings: &[Ring], t: u32) -> bool
 
 /// Whether `p` is at most `t` nanodegrees from some edge of the ring alone. Stops at the first such edge.
 pub fn near_ring(p: Point, ring: &Ring, t: u32) -> bool
-    requires close { AllClose (p ∷ ring.now.points) }
-    requires tolerance { t ≤ 1000000 }
+    requires close { AllNearby (p ∷ ring.now.points) }
+    requires tolerance { t ≤ 4000000 }
     ensures { IsTrue result ↔ IsNearSome p t (edges ring.now.points) }
 {
     match ring.points.as_slice() {
@@ -66,8 +66,8 @@ pub fn near_ring(p: Point, ring: &Ring, t: u32) -> bool
 
 /// Whether `p` is at most `t` from some edge of the line from `start` through `rest`.
 pub fn near_chain(p: Point, start: Point, rest: &[Point], t: u32) -> bool
-    requires close { AllClose (p ∷ start ∷ rest.now) }
-    requires tolerance { t ≤ 1000000 }
+    requires close { AllNearby (p ∷ start ∷ rest.now) }
+    requires tolerance { t ≤ 4000000 }
     ensures { IsTrue result ↔ IsNearSome p t (edges_from start rest.now) }
 {
     let mut a = start;

@@ -9,12 +9,12 @@ use Rattle.venue_types.specs.declared.point.Ring.{Ring}
 use Rattle.plane_trees.specs.declared.octagons.Octagon.{Octagon}
 use Rattle.plane_trees.specs.declared.octagons.Offset.{Offset}
 use Rattle.plane_exact.specs.Segment.{IsNearEdge}
-use Rattle.plane_exact.specs.Figure.{Edge, AllClose, edges, edges_from, meets_ray, crossings, IsNearSome, ring_points, ring_edges}
+use Rattle.plane_exact.specs.Figure.{Edge, AllNearby, edges, edges_from, meets_ray, crossings, IsNearSome, ring_points, ring_edges}
 use Rattle.plane_trees.specs.Line.{Direction, Longitude, Rising, Falling, slant, stretch}
 use Rattle.plane_trees.specs.Octagons.{offset, kept, IsOffset, band, IsInBand, IsAtBand, IsRound, IsMissed, IsBefore, before_x, before_sum, before_difference}
 use Rattle.plane_trees.specs.Trees.{IsClosedRing, IsGrove, AddsGrove, octagons_of}
 use Rattle.plane_exact.proofs.ListLemmas.{any_of_append}
-use Rattle.plane_exact.proofs.CloseLemmas.{AllClose-left, AllClose-right}
+use Rattle.plane_exact.proofs.NearbyLemmas.{AllNearby-left, AllNearby-right}
 use Rattle.plane_trees.proofs.SlantLemmas.{ray_closed}
 use Rattle.plane_trees.proofs.OctagonLemmas.{IsRound-wider, IsRound-append}
 use Rattle.plane_trees.proofs.SightLemmas.{slant_x, slant_sum, slant_difference, all_before, missed_seen}
@@ -43,11 +43,11 @@ rings_edges whole front back e = ap ring_edges e ∙ flat_map-append (λ (ring :
 pub rings_points : (whole front back : List Ring) → whole ≡ front ++ back → ring_points whole ≡ ring_points front ++ ring_points back
 rings_points whole front back e = ap ring_points e ∙ flat_map-append (λ (ring : Ring). ring.points) front back
 
-pub close_front : (p : Point) (whole front back : List Ring) → whole ≡ front ++ back → AllClose (p ∷ ring_points whole) → AllClose (p ∷ ring_points front)
-close_front p whole front back e h = AllClose-left p (ring_points front) (ring_points back) (subst (λ (xs : List Point). AllClose (p ∷ xs)) (rings_points whole front back e) h)
+pub close_front : (p : Point) (whole front back : List Ring) → whole ≡ front ++ back → AllNearby (p ∷ ring_points whole) → AllNearby (p ∷ ring_points front)
+close_front p whole front back e h = AllNearby-left p (ring_points front) (ring_points back) (subst (λ (xs : List Point). AllNearby (p ∷ xs)) (rings_points whole front back e) h)
 
-pub close_back : (p : Point) (whole front back : List Ring) → whole ≡ front ++ back → AllClose (p ∷ ring_points whole) → AllClose (p ∷ ring_points back)
-close_back p whole front back e h = AllClose-right p (ring_points front) (ring_points back) (subst (λ (xs : List Point). AllClose (p ∷ xs)) (rings_points whole front back e) h)
+pub close_back : (p : Point) (whole front back : List Ring) → whole ≡ front ++ back → AllNearby (p ∷ ring_points whole) → AllNearby (p ∷ ring_points back)
+close_back p whole front back e h = AllNearby-right p (ring_points front) (ring_points back) (subst (λ (xs : List Point). AllNearby (p ∷ xs)) (rings_points whole front back e) h)
 
 pub closed_front : (whole front back : List Ring) → whole ≡ front ++ back → All IsClosedRing whole → All IsClosedRing front
 closed_front whole front back e h = All-left IsClosedRing front back (subst (λ (xs : List Ring). All IsClosedRing xs) e h)

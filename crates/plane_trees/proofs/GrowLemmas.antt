@@ -4,11 +4,11 @@ use Rattle.std.proofs.Math.Seq.{take-append_seam, drop-append_seam}
 use Rattle.std.proofs.lemmas.List.Elements.{All-tail}
 use Rattle.venue_types.specs.declared.point.Point.{Point}
 use Rattle.plane_trees.specs.declared.octagons.Octagon.{Octagon}
-use Rattle.plane_exact.specs.Figure.{AllClose}
+use Rattle.plane_exact.specs.Figure.{AllNearby}
 use Rattle.plane_trees.specs.Line.{Direction, last_from}
 use Rattle.plane_trees.specs.Octagons.{offset, band, IsInBand, IsRound}
 use Rattle.plane_trees.specs.Trees.{IsTree, AddsTree, octagons_of}
-use Rattle.plane_exact.proofs.CloseLemmas.{AllClose-fewer}
+use Rattle.plane_exact.proofs.NearbyLemmas.{AllNearby-fewer}
 use Rattle.plane_trees.proofs.OctagonLemmas.{IsRound-wider, IsRound-append}
 
 -- ---- halves of joined lists
@@ -66,8 +66,8 @@ once_more : (start q : Point) (rest : List Point) → Contains (start ∷ start 
 once_more start q rest (zero, within, at) = (0, omega arith, at)
 once_more start q rest (suc k, within, at) = (k, omega arith, at)
 
-pub own_origin : (start : Point) (rest : List Point) → AllClose (start ∷ rest) → AllClose (start ∷ start ∷ rest)
-own_origin start rest h = AllClose-fewer (start ∷ start ∷ rest) (start ∷ rest) (λ q. once_more start q rest) h
+pub own_origin : (start : Point) (rest : List Point) → AllNearby (start ∷ rest) → AllNearby (start ∷ start ∷ rest)
+own_origin start rest h = AllNearby-fewer (start ∷ start ∷ rest) (start ∷ rest) (λ q. once_more start q rest) h
 
 pub whole_tree : (depth : ℕ) (origin start : Point) (rest : List Point) (old new : List Octagon) → old ≡ [] → AddsTree depth origin start rest old new → IsTree depth origin new start rest
 whole_tree depth origin start rest old new e (added, f, n, h) = subst (λ (xs : List Octagon). IsTree depth origin xs start rest) (sym (f ∙ ap (λ xs. xs ++ added) e)) h

@@ -8,7 +8,7 @@ use Rattle.plane_exact.specs.Figure.{Edge, edges_from}
 use Rattle.plane_trees.specs.Line.{last_from}
 use Rattle.plane_trees.specs.Octagons.{IsRound}
 use Rattle.plane_trees.specs.Trees.{IsTree}
-use Rattle.plane_exact.proofs.CloseLemmas.{Contains-later}
+use Rattle.plane_exact.proofs.NearbyLemmas.{Contains-later}
 
 -- ---- the end of a line
 

@@ -52,7 +52,7 @@ IsSound origin run = IsTree run.depth origin run.octagons.now run.start run.rest
 -- the place that is asked about is that of the position, and close to the origin
 pub record IsMeasured (asked : Asked) : Type 0 where
   pub place : IsOffset asked.place asked.origin asked.position
-  pub range : (way : Direction) → IsWithin 400000000 (kept way asked.place) (pos 0)
+  pub range : (way : Direction) → IsWithin 1600000000 (kept way asked.place) (pos 0)
 
 -- the two runs make up the run
 pub record AreHalves (run front back : Run) : Type 0 where

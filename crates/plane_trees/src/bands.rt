@@ -1,7 +1,7 @@
 //! A shape made ready for many questions.
 
 ghost use Rattle.std.specs.Prelude.{◌≡◌, ◌∷◌, ◌++◌, ◌≤◌, ◌↔◌, IsTrue, IfOk, OnOk};
-ghost use Rattle.plane_exact.specs.Figure.{AllClose, vertices, rings, rings_of, part_points, IsInside, IsNear};
+ghost use Rattle.plane_exact.specs.Figure.{AllNearby, vertices, rings, rings_of, part_points, IsInside, IsNear};
 
 use crate::grove_borders::{is_near_bands, is_near_grove};
 use crate::grove_rays::{is_odd_at_bands, is_odd_at_grove};
@@ -38,7 +38,7 @@ impl<'a> Model for Bands<'a> {
 impl<'a> Bands<'a> {
     /// Makes the shape ready, in a few passes over its points.
     pub fn of(alloc: Global, shape: &'a Shape) -> Result<Bands<'a>, OutOfMemory>
-        requires { AllClose (vertices shape.now) }
+        requires { AllNearby (vertices shape.now) }
         ensures { IfOk result (λ bands. bands ≡ shape.now) }
     {
         let banded = bands_of(alloc, shape)?;
@@ -53,7 +53,7 @@ impl<'a> Bands<'a> {
     /// Whether `p` is inside the shape, as `inside` says. On most shapes looks at a number of octagons that grows as the logarithm
     /// of its edges.
     pub fn inside(&self, p: Point) -> bool
-        requires { AllClose (p ∷ vertices self.now) }
+        requires { AllNearby (p ∷ vertices self.now) }
         ensures { IsTrue result ↔ IsInside p self.now }
     {
         match &self.over {
@@ -71,8 +71,8 @@ impl<'a> Bands<'a> {
 
     /// Whether `p` is at most `t` nanodegrees from the border of the shape, its holes' borders among it.
     pub fn near(&self, p: Point, t: u32) -> bool
-        requires close { AllClose (p ∷ vertices self.now) }
-        requires tolerance { t ≤ 1000000 }
+        requires close { AllNearby (p ∷ vertices self.now) }
+        requires tolerance { t ≤ 4000000 }
         ensures { IsTrue result ↔ IsNear p self.now t }
     {
         match &self.over {
@@ -91,7 +91,7 @@ impl<'a> Bands<'a> {
 
 // The rings of the shape made ready, polygon by polygon.
 fn bands_of<'a>(alloc: Global, shape: &'a Shape) -> Result<Vec<RingBands<'a>>, OutOfMemory>
-    requires { AllClose (vertices shape.now) }
+    requires { AllNearby (vertices shape.now) }
     ensures { IfOk result (λ list. list.items ≡ rings shape.now) }
 {
     let mut list = Vec::new(alloc);
@@ -107,7 +107,7 @@ fn add_bands<'a>(
     part: &'a Part,
     list: &mut Vec<RingBands<'a>>,
 ) -> Result<(), OutOfMemory>
-    requires { AllClose (part_points part.now) }
+    requires { AllNearby (part_points part.now) }
     ensures { OnOk result (list.new.items ≡ list.old.items ++ rings_of part.now) }
 {
     list.push(RingBands::of(alloc, &part.outer)?)?;

@@ -1,7 +1,7 @@
 //! Whether a position is near the borders of many rings.
 
 ghost use Rattle.std.specs.Prelude.{◌∷◌, ◌≤◌, ◌↔◌, IsTrue};
-ghost use Rattle.plane_exact.specs.Figure.{AllClose, IsNearSome, ring_points, ring_edges};
+ghost use Rattle.plane_exact.specs.Figure.{AllNearby, IsNearSome, ring_points, ring_edges};
 ghost use Rattle.plane_trees.specs.Trees.{IsMeasured};
 ghost use Rattle.plane_trees.specs.Groves.{IsSoundGrove};
 
@@ -12,10 +12,10 @@ use venue_types::Point;
 
 /// Whether the position is at most `t` from some edge of the rings.
 pub(crate) fn is_near_grove(asked: &Asked, grove: Grove, t: u32) -> bool
-    requires close { AllClose (asked.now.position ∷ ring_points grove.rings.now) }
+    requires close { AllNearby (asked.now.position ∷ ring_points grove.rings.now) }
     requires sound { IsSoundGrove asked.now.origin grove }
     requires measured { IsMeasured asked.now }
-    requires tolerance { t ≤ 1000000 }
+    requires tolerance { t ≤ 4000000 }
     ensures { IsTrue result ↔ IsNearSome asked.now.position t (ring_edges grove.entry.rings.now) }
 {
     if !may_be_near_grove(asked, grove, t) {
@@ -31,7 +31,7 @@ pub(crate) fn is_near_grove(asked: &Asked, grove: Grove, t: u32) -> bool
 fn may_be_near_grove(asked: &Asked, grove: Grove, t: u32) -> bool
     requires sound { IsSoundGrove asked.now.origin grove }
     requires measured { IsMeasured asked.now }
-    requires tolerance { t ≤ 1000000 }
+    requires tolerance { t ≤ 4000000 }
     ensures { IsNearSome asked.now.position t (ring_edges grove.entry.rings.now) → IsTrue result }
 {
     match grove.octagons {
@@ -42,8 +42,8 @@ fn may_be_near_grove(asked: &Asked, grove: Grove, t: u32) -> bool
 
 /// Whether `p` is at most `t` from some edge of the rings, ring by ring.
 pub(crate) fn is_near_bands(p: Point, rings: &[RingBands], t: u32) -> bool
-    requires close { AllClose (p ∷ ring_points rings.now) }
-    requires tolerance { t ≤ 1000000 }
+    requires close { AllNearby (p ∷ ring_points rings.now) }
+    requires tolerance { t ≤ 4000000 }
     ensures { IsTrue result ↔ IsNearSome p t (ring_edges rings.now) }
 {
     for ring in rings {

@@ -1,7 +1,7 @@
 //! Whether the ray from a position meets the edges of many rings an odd number of times.
 
 ghost use Rattle.std.specs.Prelude.{◌≡◌, ◌∷◌, ◌%◌, ◌↔◌, IsTrue, All};
-ghost use Rattle.plane_exact.specs.Figure.{AllClose, crossings, ring_points, ring_edges};
+ghost use Rattle.plane_exact.specs.Figure.{AllNearby, crossings, ring_points, ring_edges};
 ghost use Rattle.plane_trees.specs.Trees.{IsMeasured, IsClosedRing};
 ghost use Rattle.plane_trees.specs.Groves.{IsSoundGrove};
 
@@ -13,7 +13,7 @@ use venue_types::Point;
 
 /// Whether an odd number of the rings' edges meets the ray from the position. `closed` says that each ring is.
 pub(crate) fn is_odd_at_grove(asked: &Asked, closed: bool, grove: Grove) -> bool
-    requires close { AllClose (asked.now.position ∷ ring_points grove.rings.now) }
+    requires close { AllNearby (asked.now.position ∷ ring_points grove.rings.now) }
     requires sound { IsSoundGrove asked.now.origin grove }
     requires measured { IsMeasured asked.now }
     requires closed { IsTrue closed → All IsClosedRing grove.rings.now }
@@ -48,7 +48,7 @@ fn is_even_at_octagon(asked: &Asked, closed: bool, grove: Grove) -> bool
 
 /// Whether an odd number of the rings' edges meets the ray from `p`, ring by ring.
 pub(crate) fn is_odd_at_bands(p: Point, rings: &[RingBands]) -> bool
-    requires { AllClose (p ∷ ring_points rings.now) }
+    requires { AllNearby (p ∷ ring_points rings.now) }
     ensures { IsTrue result ↔ (crossings p (ring_edges rings.now) % 2 ≡ 1) }
 {
     let mut odd = false;

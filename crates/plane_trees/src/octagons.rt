@@ -2,8 +2,8 @@
 
 ghost use Rattle.std.specs.Prelude.{◌≡◌, ℕ, ◌*◌, ◌≤◌, ℤ, pos, ◌↔◌, IsTrue, ◌∷◌};
 ghost use Rattle.venue_types.specs.declared.point.Point.{Point};
-ghost use Rattle.plane_exact.specs.Plane.{IsWithin, IsClose};
-ghost use Rattle.plane_exact.specs.Figure.{AllClose};
+ghost use Rattle.plane_exact.specs.Plane.{IsWithin, IsNearby};
+ghost use Rattle.plane_exact.specs.Figure.{AllNearby};
 ghost use Rattle.plane_trees.specs.Line.{Direction, stretch};
 ghost use Rattle.plane_trees.specs.Octagons.{IsOffset, kept, band, IsInBand, IsAtBand, AreApart, IsRound, IsSeen};
 
@@ -59,9 +59,9 @@ pub(crate) enum Sight {
 
 /// The place of `q`, counted from the origin.
 pub(crate) fn offset_of(origin: Point, q: Point) -> Offset
-    requires { IsClose origin q }
+    requires { IsNearby origin q }
     ensures value { IsOffset result origin q }
-    ensures range { (way : Direction) → IsWithin 400000000 (kept way result) (pos 0) }
+    ensures range { (way : Direction) → IsWithin 1600000000 (kept way result) (pos 0) }
 {
     let x = q.x - origin.x;
     let y = q.y - origin.y;
@@ -97,8 +97,8 @@ impl Band {
 
     // Whether the band comes within `t` of `n`.
     fn is_at(self, n: i64, t: u32) -> bool
-        requires number { IsWithin 400000000 n (pos 0) }
-        requires tolerance { t ≤ 2000000 }
+        requires number { IsWithin 1600000000 n (pos 0) }
+        requires tolerance { t ≤ 8000000 }
         ensures { IsTrue result ↔ IsAtBand self n t }
     {
         let t = t as i64;
@@ -172,8 +172,8 @@ impl Octagon {
 
     /// Whether a position in the octagon may be within `t` of the place.
     pub fn is_at(&self, place: &Offset, t: u32) -> bool
-        requires place { (way : Direction) → IsWithin 400000000 (kept way place.now) (pos 0) }
-        requires tolerance { t ≤ 1000000 }
+        requires place { (way : Direction) → IsWithin 1600000000 (kept way place.now) (pos 0) }
+        requires tolerance { t ≤ 4000000 }
         ensures { ((way : Direction) → IsAtBand (band way self.now) (kept way place.now) (stretch way * t)) → IsTrue result }
     {
         if !self.x.is_at(place.x, t) {
@@ -201,7 +201,7 @@ impl Octagon {
 
 /// The octagon round the line from `start` through `rest`.
 pub(crate) fn octagon_of(origin: Point, start: Point, rest: &[Point]) -> Octagon
-    requires { AllClose (origin ∷ start ∷ rest.now) }
+    requires { AllNearby (origin ∷ start ∷ rest.now) }
     ensures { IsRound result origin (start ∷ rest.now) }
 {
     let mut octagon = Octagon::at(offset_of(origin, start));

@@ -1,7 +1,7 @@
 //! Growing the octagons over the rings of a shape.
 
 ghost use Rattle.std.specs.Prelude.{◌≡◌, ◌∷◌, IsTrue, IfOk, IfSome, OnOk, Contains, All};
-ghost use Rattle.plane_exact.specs.Figure.{AllClose, ring_points};
+ghost use Rattle.plane_exact.specs.Figure.{AllNearby, ring_points};
 ghost use Rattle.plane_trees.specs.Octagons.{IsRound};
 ghost use Rattle.plane_trees.specs.Trees.{AddsGrove, IsClosedRing};
 ghost use Rattle.plane_trees.specs.Groves.{IsOver};
@@ -18,7 +18,7 @@ const FEW: usize = 4;
 
 /// What is kept over the rings, where there are more than a few.
 pub(crate) fn over_of(alloc: Global, rings: &[RingBands]) -> Result<Option<Over>, OutOfMemory>
-    requires { AllClose (ring_points rings.now) }
+    requires { AllNearby (ring_points rings.now) }
     ensures { IfOk result (λ over. IfSome over (λ o. IsOver rings.now o)) }
 {
     if rings.len() <= FEW {
@@ -32,7 +32,7 @@ pub(crate) fn over_of(alloc: Global, rings: &[RingBands]) -> Result<Option<Over>
 
 // What is kept over the rings, counted from the origin.
 fn over_from(alloc: Global, origin: Point, rings: &[RingBands]) -> Result<Over, OutOfMemory>
-    requires close { AllClose (ring_points rings.now) }
+    requires close { AllNearby (ring_points rings.now) }
     requires origin { Contains (ring_points rings.now) origin }
     ensures { IfOk result (λ over. IsOver rings.now over) }
 {
@@ -65,7 +65,7 @@ fn add_grove(
     depth: usize,
     octagons: &mut Vec<Octagon>,
 ) -> Result<Octagon, OutOfMemory>
-    requires { AllClose (origin ∷ ring_points rings.now) }
+    requires { AllNearby (origin ∷ ring_points rings.now) }
     ensures grove { OnOk result (AddsGrove depth origin rings.now octagons.old.items octagons.new.items) }
     ensures round { IfOk result (λ octagon. IsRound octagon origin (ring_points rings.now)) }
 {
@@ -86,7 +86,7 @@ fn add_grove(
 
 // The octagon round the rings.
 fn octagon_of_rings(origin: Point, rings: &[RingBands]) -> Octagon
-    requires { AllClose (origin ∷ ring_points rings.now) }
+    requires { AllNearby (origin ∷ ring_points rings.now) }
     ensures { IsRound result origin (ring_points rings.now) }
 {
     let mut octagon = NOTHING;

@@ -1,7 +1,7 @@
 //! A ring made ready for many questions, and whether a ring crosses itself.
 
 ghost use Rattle.std.specs.Prelude.{◌≡◌, ◌∷◌, ◌≤◌, ◌%◌, ◌↔◌, IsTrue, IfOk, IfSome, Contains};
-ghost use Rattle.plane_exact.specs.Figure.{AllClose, edges, crossings, IsNearSome, HaveCrossing};
+ghost use Rattle.plane_exact.specs.Figure.{AllNearby, edges, crossings, IsNearSome, HaveCrossing};
 ghost use Rattle.plane_trees.specs.Octagons.{IsRound};
 ghost use Rattle.plane_trees.specs.Trees.{IsClosedRing};
 
@@ -38,7 +38,7 @@ impl<'a> Model for RingBands<'a> {
 impl<'a> RingBands<'a> {
     /// Makes the ring ready, in a few passes over its points.
     pub fn of(alloc: Global, ring: &'a Ring) -> Result<RingBands<'a>, OutOfMemory>
-        requires { AllClose ring.now.points }
+        requires { AllNearby ring.now.points }
         ensures { IfOk result (λ bands. bands ≡ ring.now) }
     {
         match ring.points.as_slice() {
@@ -61,7 +61,7 @@ impl<'a> RingBands<'a> {
     /// Whether `p` is inside the ring alone: an odd number of its edges meets the ray from `p`. On most rings looks at a number
     /// of octagons that grows as the logarithm of its edges.
     pub fn inside(&self, p: Point) -> bool
-        requires { AllClose (p ∷ self.now.points) }
+        requires { AllNearby (p ∷ self.now.points) }
         ensures { IsTrue result ↔ (crossings p (edges self.now.points) % 2 ≡ 1) }
     {
         let ring = self.ring;
@@ -81,8 +81,8 @@ impl<'a> RingBands<'a> {
 
     /// Whether `p` is at most `t` nanodegrees from some edge of the ring alone.
     pub fn near(&self, p: Point, t: u32) -> bool
-        requires close { AllClose (p ∷ self.now.points) }
-        requires tolerance { t ≤ 1000000 }
+        requires close { AllNearby (p ∷ self.now.points) }
+        requires tolerance { t ≤ 4000000 }
         ensures { IsTrue result ↔ IsNearSome p t (edges self.now.points) }
     {
         let ring = self.ring;
@@ -102,7 +102,7 @@ impl<'a> RingBands<'a> {
 
     /// The octagon round the ring, counted from the origin.
     pub(crate) fn octagon(&self, origin: Point) -> Octagon
-        requires { AllClose (origin ∷ self.now.points) }
+        requires { AllNearby (origin ∷ self.now.points) }
         ensures { IsRound result origin self.now.points }
     {
         let ring = self.ring;
@@ -137,7 +137,7 @@ impl<'a> RingBands<'a> {
 
 /// Whether two edges of the ring cross.
 pub fn ring_crosses(alloc: Global, ring: &Ring) -> Result<bool, OutOfMemory>
-    requires { AllClose ring.now.points }
+    requires { AllNearby ring.now.points }
     ensures { IfOk result (λ b. IsTrue b ↔ HaveCrossing (edges ring.now.points)) }
 {
     match ring.points.as_slice() {

@@ -1,7 +1,7 @@
 //! Whether a position is near a run of edges.
 
 ghost use Rattle.std.specs.Prelude.{◌∷◌, ◌≤◌, ◌↔◌, IsTrue};
-ghost use Rattle.plane_exact.specs.Figure.{AllClose, IsNearSome};
+ghost use Rattle.plane_exact.specs.Figure.{AllNearby, IsNearSome};
 ghost use Rattle.plane_trees.specs.Trees.{run_points, run_edges, IsSound, IsMeasured};
 
 use crate::runs::{Asked, Run, halves};
@@ -9,10 +9,10 @@ use plane_exact::near_chain;
 
 /// Whether the position is at most `t` from some edge of the run.
 pub(crate) fn is_near_run(asked: &Asked, run: Run, t: u32) -> bool
-    requires close { AllClose (asked.now.position ∷ run_points run) }
+    requires close { AllNearby (asked.now.position ∷ run_points run) }
     requires sound { IsSound asked.now.origin run }
     requires measured { IsMeasured asked.now }
-    requires tolerance { t ≤ 1000000 }
+    requires tolerance { t ≤ 4000000 }
     ensures { IsTrue result ↔ IsNearSome asked.now.position t (run_edges run.entry) }
 {
     if !may_be_near(asked, run, t) {
@@ -28,7 +28,7 @@ pub(crate) fn is_near_run(asked: &Asked, run: Run, t: u32) -> bool
 fn may_be_near(asked: &Asked, run: Run, t: u32) -> bool
     requires sound { IsSound asked.now.origin run }
     requires measured { IsMeasured asked.now }
-    requires tolerance { t ≤ 1000000 }
+    requires tolerance { t ≤ 4000000 }
     ensures { IsNearSome asked.now.position t (run_edges run.entry) → IsTrue result }
 {
     match run.octagons {

@@ -2,7 +2,7 @@
 
 ghost use Rattle.std.specs.Prelude.{◌∷◌, ◌++◌, ◌↔◌, IsTrue};
 ghost use Rattle.venue_types.specs.declared.point.Point.{Point};
-ghost use Rattle.plane_exact.specs.Figure.{AllClose, edges_from, HaveCrossing};
+ghost use Rattle.plane_exact.specs.Figure.{AllNearby, edges_from, HaveCrossing};
 ghost use Rattle.plane_trees.specs.Trees.{run_points, run_edges, IsSound, CrossesSome, CrossEachOther};
 
 use crate::runs::{Run, halves};
@@ -11,7 +11,7 @@ use venue_types::Point;
 
 /// Whether two edges of the run cross.
 pub(crate) fn crosses_itself(origin: Point, run: Run) -> bool
-    requires close { AllClose (run_points run) }
+    requires close { AllNearby (run_points run) }
     requires sound { IsSound origin run }
     ensures { IsTrue result ↔ HaveCrossing (run_edges run.entry) }
 {
@@ -31,7 +31,7 @@ pub(crate) fn crosses_itself(origin: Point, run: Run) -> bool
 
 // Whether an edge of the one run crosses an edge of the other.
 fn runs_cross(origin: Point, one: Run, other: Run) -> bool
-    requires close { AllClose (run_points one ++ run_points other) }
+    requires close { AllNearby (run_points one ++ run_points other) }
     requires one_sound { IsSound origin one }
     requires other_sound { IsSound origin other }
     ensures { IsTrue result ↔ CrossEachOther (run_edges one.entry) (run_edges other.entry) }
@@ -68,7 +68,7 @@ fn lie_apart(one: Run, other: Run) -> bool
 
 // Whether an edge of the line from `start` through `rest` crosses one of the line from `other` through `more`.
 fn lines_cross(start: Point, rest: &[Point], other: Point, more: &[Point]) -> bool
-    requires { AllClose ((start ∷ rest.now) ++ (other ∷ more.now)) }
+    requires { AllNearby ((start ∷ rest.now) ++ (other ∷ more.now)) }
     ensures { IsTrue result ↔ CrossEachOther (edges_from start rest.now) (edges_from other more.now) }
 {
     let mut a = start;
@@ -83,7 +83,7 @@ fn lines_cross(start: Point, rest: &[Point], other: Point, more: &[Point]) -> bo
 
 // Whether `ab` crosses an edge of the line from `start` through `rest`.
 fn crosses_line(a: Point, b: Point, start: Point, rest: &[Point]) -> bool
-    requires { AllClose (a ∷ b ∷ start ∷ rest.now) }
+    requires { AllNearby (a ∷ b ∷ start ∷ rest.now) }
     ensures { IsTrue result ↔ CrossesSome a b (edges_from start rest.now) }
 {
     let mut c = start;

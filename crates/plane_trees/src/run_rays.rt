@@ -1,7 +1,7 @@
 //! Whether the ray from a position meets a run of edges an odd number of times.
 
 ghost use Rattle.std.specs.Prelude.{◌≡◌, ◌∷◌, ◌%◌, ◌↔◌, IsTrue};
-ghost use Rattle.plane_exact.specs.Figure.{AllClose, crossings};
+ghost use Rattle.plane_exact.specs.Figure.{AllNearby, crossings};
 ghost use Rattle.plane_trees.specs.Line.{IsBetween};
 ghost use Rattle.plane_trees.specs.Trees.{run_points, run_edges, IsSound, IsMeasured, IsToldOf};
 
@@ -12,7 +12,7 @@ use venue_types::Point;
 
 /// Whether an odd number of the run's edges meets the ray from the position.
 pub(crate) fn is_odd_at_run(asked: &Asked, run: Run) -> bool
-    requires close { AllClose (asked.now.position ∷ run_points run) }
+    requires close { AllNearby (asked.now.position ∷ run_points run) }
     requires sound { IsSound asked.now.origin run }
     requires measured { IsMeasured asked.now }
     ensures { IsTrue result ↔ (crossings asked.now.position (run_edges run.entry) % 2 ≡ 1) }

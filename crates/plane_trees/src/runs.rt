@@ -2,7 +2,7 @@
 
 ghost use Rattle.std.specs.Prelude.{◌≡◌, IfSome};
 ghost use Rattle.venue_types.specs.declared.point.Point.{Point};
-ghost use Rattle.plane_exact.specs.Plane.{IsClose};
+ghost use Rattle.plane_exact.specs.Plane.{IsNearby};
 ghost use Rattle.plane_trees.specs.Line.{last_from};
 ghost use Rattle.plane_trees.specs.Trees.{IsMeasured, AreHalves};
 
@@ -29,7 +29,7 @@ pub(crate) struct Asked {
 
 impl Asked {
     pub fn of(origin: Point, position: Point) -> Asked
-        requires { IsClose origin position }
+        requires { IsNearby origin position }
         ensures measured { IsMeasured result }
         ensures position { result.position ≡ position }
         ensures origin { result.origin ≡ origin }

@@ -2,7 +2,7 @@
 
 ghost use Rattle.std.specs.Prelude.{◌≡◌, ◌∷◌, OnOk, IfOk};
 ghost use Rattle.venue_types.specs.declared.point.Point.{Point};
-ghost use Rattle.plane_exact.specs.Figure.{AllClose};
+ghost use Rattle.plane_exact.specs.Figure.{AllNearby};
 ghost use Rattle.plane_trees.specs.Octagons.{IsRound};
 ghost use Rattle.plane_trees.specs.Trees.{IsTree, AddsTree};
 
@@ -34,7 +34,7 @@ pub(crate) struct Tree {
 
 /// The tree of the line from `start` through `rest`, counted from its start.
 pub(crate) fn tree_of(alloc: Global, start: Point, rest: &[Point]) -> Result<Tree, OutOfMemory>
-    requires { AllClose (start ∷ rest.now) }
+    requires { AllNearby (start ∷ rest.now) }
     ensures { IfOk result (λ tree. IsTree tree.depth start tree.octagons.items start rest.now) }
 {
     let depth = depth_of(rest.len(), LEAF);
@@ -51,7 +51,7 @@ fn add_tree(
     depth: usize,
     octagons: &mut Vec<Octagon>,
 ) -> Result<Octagon, OutOfMemory>
-    requires { AllClose (origin ∷ start ∷ rest.now) }
+    requires { AllNearby (origin ∷ start ∷ rest.now) }
     ensures tree { OnOk result (AddsTree depth origin start rest.now octagons.old.items octagons.new.items) }
     ensures round { IfOk result (λ octagon. IsRound octagon origin (start ∷ rest.now)) }
 {

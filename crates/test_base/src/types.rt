@@ -115,6 +115,7 @@ fn settings_of(alloc: Global, key: Text, name: Text) -> Result<Settings, AllocEr
         ky: 11_000_000,
         border_tol: 1_000,
         contain_tol: 5_000,
+        inside: Inside::Straight,
         extras: Extras {
             elevator: 3_000,
             escalator: 0,

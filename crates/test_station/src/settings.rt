@@ -2,7 +2,7 @@
 
 use imdf_access::built_in;
 use std::alloc::Global;
-use venue_types::{Extras, List, OutOfMemory, Settings, Text};
+use venue_types::{Extras, Inside, List, OutOfMemory, Settings, Text};
 
 /// The settings that the station's `venue.toml` spells.
 pub fn station_settings(alloc: Global) -> Result<Settings, OutOfMemory> {
@@ -14,6 +14,7 @@ pub fn station_settings(alloc: Global) -> Result<Settings, OutOfMemory> {
         ky: 10_000_000,
         border_tol: 1_000,
         contain_tol: 5_000,
+        inside: Inside::Straight,
         extras: Extras {
             elevator: 3_000,
             escalator: 800,

@@ -4,6 +4,7 @@ use Rattle.std.specs.Fmt.{decimal}
 use Rattle.venue_types.specs.declared.feature_id.FeatureId.{FeatureId}
 use Rattle.venue_types.specs.declared.finding.Report.{Report}
 use Rattle.venue_types.specs.declared.link.Link.{Link}
+use Rattle.venue_types.specs.declared.settings.Inside.TheVariants.{Straight}
 use Rattle.venue_types.specs.declared.settings.Profile.{Profile}
 use Rattle.venue_types.specs.declared.settings.Settings.{Settings}
 use Rattle.venue_types.specs.Identifier.{identifier_read}
@@ -32,6 +33,7 @@ pub record AreBuildingSettings (settings : Settings) : Type 0 where
   pub ky_is : settings.ky ≡ 10000000
   pub border_is : settings.border_tol ≡ 1000
   pub contain_is : settings.contain_tol ≡ 5000
+  pub inside_is : settings.inside ≡ Straight
   pub elevator_is : settings.extras.elevator ≡ 3000
   pub escalator_is : settings.extras.escalator ≡ 800
   pub movingwalkway_is : settings.extras.movingwalkway ≡ 0

@@ -101,7 +101,7 @@ few_items (Some value) h = few_in (as_array value) h
 -- a sound table has few profiles
 pub few_profiles : (root : Members) → IsSound root → length (built_in_profiles ++ map profile_of (profile_tables root)) ≤ 16
 few_profiles root h =
-    let items : length (items_at (codes "profile") root) ≤ 14 = few_items (get_member (codes "profile") root) h.1.1.1.1.1.1.1.1.1.1.1.1.0 in
+    let items : length (items_at (codes "profile") root) ≤ 14 = few_items (get_member (codes "profile") root) h.1.1.1.1.1.1.1.1.1.1.1.1.1.0 in
     omega (arith, length-filter_map as_table (items_at (codes "profile") root), length-map (profile_tables root) profile_of)
 
 few_keys_in : (items : Option Items) → value_fault (codes "staff_keys") (on_list (judged_staff_list 0 64) items) ≡ None → length (items_in items) ≤ 64
@@ -115,5 +115,5 @@ few_keys (Some value) h = few_keys_in (as_array value) h
 -- and few staff keys
 pub few_staff_keys : (root : Members) → IsSound root → length (filter_map as_str (items_at (codes "staff_keys") root)) ≤ 64
 few_staff_keys root h =
-    let items : length (items_at (codes "staff_keys") root) ≤ 64 = few_keys (get_member (codes "staff_keys") root) h.1.1.1.1.1.1.1.1.1.1.1.0 in
+    let items : length (items_at (codes "staff_keys") root) ≤ 64 = few_keys (get_member (codes "staff_keys") root) h.1.1.1.1.1.1.1.1.1.1.1.1.0 in
     omega (arith, length-filter_map as_str (items_at (codes "staff_keys") root))

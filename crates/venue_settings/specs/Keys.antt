@@ -1,7 +1,7 @@
 -- The keys of the settings and of a profile, in the order in which they are judged: what stands at each, within what range, and whether it is needed.
 use Rattle.std.specs.Prelude.{ℕ, Bool, true, false, List, [], ◌∷◌, codes}
 use Rattle.venue_settings.specs.declared.keys.Form.{Form}
-use Rattle.venue_settings.specs.declared.keys.Form.TheVariants.{Whole, StaffKeys, Profiles, Name, Truth}
+use Rattle.venue_settings.specs.declared.keys.Form.TheVariants.{Whole, StaffKeys, Profiles, Name, Truth, Inside}
 
 -- a key; the range is of the number, of the list's count or of the text's length
 pub record Row : Type 0 where
@@ -19,13 +19,14 @@ needed name form low high = record { name = name; needed = true; form = form; lo
 abbrev pub optional : List ℕ → Form → ℕ → ℕ → Row
 optional name form low high = record { name = name; needed = false; form = form; low = low; high = high }
 
--- the keys of the settings: centimetres per degree, nanodegrees, centimetres, a number of versions, and two lists
+-- the keys of the settings: centimetres per degree, nanodegrees, a word, centimetres, a number of versions, and two lists
 abbrev pub settings_rows : List Row
 settings_rows =
     needed (codes "kx") Whole 1 20000000
     ∷ needed (codes "ky") Whole 1 20000000
     ∷ optional (codes "border_tol") Whole 0 100000
     ∷ optional (codes "contain_tol") Whole 0 1000000
+    ∷ optional (codes "inside") Inside 0 0
     ∷ optional (codes "elevator_extra") Whole 0 1000000
     ∷ optional (codes "escalator_extra") Whole 0 1000000
     ∷ optional (codes "movingwalkway_extra") Whole 0 1000000

@@ -5,11 +5,14 @@ use Rattle.imdf_access.specs.Profiles.{built_in_profiles}
 use Rattle.toml.specs.Data.{Members, integer, get_member, as_bool, as_str}
 use Rattle.toml.specs.Parse.{parse_document}
 use Rattle.venue_types.specs.declared.settings.Extras.{Extras}
+use Rattle.venue_types.specs.declared.settings.Inside.{Inside}
+use Rattle.venue_types.specs.declared.settings.Inside.TheVariants.{Straight}
 use Rattle.venue_types.specs.declared.settings.Profile.{Profile}
 use Rattle.venue_types.specs.declared.settings.Settings.{Settings}
 use Rattle.venue_settings.specs.declared.fault.SettingsFault.{SettingsFault}
 use Rattle.venue_settings.specs.declared.fault.SettingsFault.TheVariants as fault
 use Rattle.venue_settings.specs.Faults.{first_fault, items_at, profile_tables, text_at}
+use Rattle.venue_settings.specs.Values.{inside_of}
 
 -- the bytes are the text of a document with this table
 pub record IsDocument (bytes : List ℕ) (table : Members) : Type 0 where
@@ -23,6 +26,10 @@ IsNumberAt table key default n = MatchOption (get_member key table) (n ≡ defau
 -- the truth value at the key, false where there is none
 abbrev pub truth_at : List ℕ → Members → Bool
 truth_at key table = unwrap_or (option_and_then as_bool (get_member key table)) false
+
+-- how rooms are crossed by the word at the key, straight where there is no such key
+abbrev pub IsInsideAt : Members → List ℕ → Inside → Type 0
+IsInsideAt table key inside = MatchOption (get_member key table) (inside ≡ Straight) (λ value. option_and_then inside_of (as_str value) ≡ Some inside)
 
 -- the profile of a table
 abbrev pub profile_of : Members → Profile
@@ -54,6 +61,7 @@ pub record HasSettings (table : Members) (settings : Settings) : Type 0 where
   pub ky : get_member (codes "ky") table ≡ Some (integer (pos settings.ky))
   pub border_tol : IsNumberAt table (codes "border_tol") 1000 settings.border_tol
   pub contain_tol : IsNumberAt table (codes "contain_tol") 5000 settings.contain_tol
+  pub inside : IsInsideAt table (codes "inside") settings.inside
   pub extras : HasExtras table settings.extras
   pub last_version : IsNumberAt table (codes "last_version") 4294967295 settings.last_version
   pub staff_keys : settings.staff_keys ≡ filter_map as_str (items_at (codes "staff_keys") table)

@@ -1,12 +1,15 @@
 -- What values of a TOML document are good at a key (TOML 1.1).
-use Rattle.std.specs.Prelude.{ℕ, ℤ, pos, negsuc, Bool, true, false, List, [], ◌∷◌, length, Option, Some, None, is_some, nat_le, ◌&&◌, ◌||◌, ◌==◌, if◌then◌else◌}
+use Rattle.std.specs.Prelude.{ℕ, ℤ, pos, negsuc, Bool, true, false, List, [], ◌∷◌, length, Option, Some, None, is_some, option_and_then, codes, nat_le, ◌&&◌, ◌||◌, ◌==◌, if◌then◌else◌}
 use Rattle.std.specs.List.{list_all}
 use Rattle.std.specs.Option.{option_map_or}
+use Rattle.std.specs.Str.{bytes_eq}
 use Rattle.toml.specs.Data.{Data, Items, no_items, item, as_integer, as_str, as_bool, as_array, as_table}
+use Rattle.venue_types.specs.declared.settings.Inside.{Inside}
+use Rattle.venue_types.specs.declared.settings.Inside.TheVariants.{Straight, Clear}
 use Rattle.venue_settings.specs.declared.judge.Judgement.{Judgement}
 use Rattle.venue_settings.specs.declared.judge.Judgement.TheVariants.{Good, WrongKind, OutOfRange}
 use Rattle.venue_settings.specs.declared.keys.Form.{Form}
-use Rattle.venue_settings.specs.declared.keys.Form.TheVariants.{Whole, StaffKeys, Profiles, Name, Truth}
+use Rattle.venue_settings.specs.declared.keys.Form.TheVariants.{Whole, StaffKeys, Profiles, Name, Truth, Inside as Crossing}
 
 -- from the least to the greatest, both among them
 abbrev pub is_between : ℕ → ℕ → ℕ → Bool
@@ -86,6 +89,14 @@ judged_name least greatest value =
 abbrev pub judged_truth : Data → Judgement
 judged_truth value = judgement (is_some (as_bool value)) true
 
+-- how rooms are crossed, by its word
+abbrev pub inside_of : List ℕ → Option Inside
+inside_of text = if bytes_eq text (codes "straight") then Some Straight else (if bytes_eq text (codes "clear") then Some Clear else None)
+
+-- how a value is judged where such a word is asked for
+abbrev pub judged_inside : Data → Judgement
+judged_inside value = judgement (is_some (as_str value)) (is_some (option_and_then inside_of (as_str value)))
+
 -- how a value is judged at a key of this form and range
 abbrev pub judged : Form → ℕ → ℕ → Data → Judgement
 judged Whole least greatest value = judged_whole least greatest value
@@ -93,3 +104,4 @@ judged StaffKeys least greatest value = judged_staff_keys least greatest value
 judged Profiles least greatest value = judged_profiles least greatest value
 judged Name least greatest value = judged_name least greatest value
 judged Truth least greatest value = judged_truth value
+judged Crossing least greatest value = judged_inside value

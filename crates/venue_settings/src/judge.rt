@@ -3,10 +3,11 @@
 ghost use Rattle.std.specs.Prelude.{◌≡◌, ◌≤◌, ◌&&◌, pos, false, length, map, IfSome, IfNone};
 ghost use Rattle.std.specs.List.{list_all};
 ghost use Rattle.toml.specs.View.{view};
-ghost use Rattle.venue_settings.specs.Values.{judged, judgement, judged_whole, judged_staff_keys, judged_staff_list, judged_profiles, judged_profile_list, judged_name, judged_truth, is_whole_between, is_between, is_staff_key, is_name, is_name_byte, is_text, is_table, holds_staff_key};
+ghost use Rattle.venue_settings.specs.Values.{judged, judgement, judged_whole, judged_staff_keys, judged_staff_list, judged_profiles, judged_profile_list, judged_name, judged_truth, judged_inside, inside_of, is_whole_between, is_between, is_staff_key, is_name, is_name_byte, is_text, is_table, holds_staff_key};
 
 use crate::keys::{Form, Key};
 use toml::Value;
+use venue_types::Inside;
 
 /// What is to be said of a value at a key.
 #[derive(Clone, Copy, Debug, PartialEq, Eq)]
@@ -156,6 +157,28 @@ fn judge_truth(value: &Value) -> Judgement
     judge(value.is_bool(), true)
 }
 
+/// How rooms are crossed, by its word.
+pub(crate) fn inside_word(text: &str) -> Option<Inside>
+    ensures { result ≡ inside_of text.now }
+{
+    if text == "straight" {
+        Some(Inside::Straight)
+    } else if text == "clear" {
+        Some(Inside::Clear)
+    } else {
+        None
+    }
+}
+
+fn judge_inside(value: &Value) -> Judgement
+    ensures { result ≡ judged_inside (view value.now) }
+{
+    match value.as_str() {
+        Some(text) => judge(true, inside_word(text).is_some()),
+        None => Judgement::WrongKind,
+    }
+}
+
 /// How the value is judged at the key.
 pub(crate) fn judge_value(value: &Value, key: &Key) -> Judgement
     ensures { result ≡ judged key.now.form key.now.low key.now.high (view value.now) }
@@ -166,5 +189,6 @@ pub(crate) fn judge_value(value: &Value, key: &Key) -> Judgement
         Form::Profiles => judge_profiles(value, key.low, key.high),
         Form::Name => judge_name(value, key.low, key.high),
         Form::Truth => judge_truth(value),
+        Form::Inside => judge_inside(value),
     }
 }

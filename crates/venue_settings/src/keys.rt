@@ -13,6 +13,8 @@ pub(crate) enum Form {
     Name,
     /// A truth value, which has no range.
     Truth,
+    /// A word for how rooms are crossed, which has no range.
+    Inside,
 }
 
 /// A key of a table.
@@ -57,6 +59,14 @@ pub(crate) const CONTAIN_TOL: Key = Key {
     form: Form::Whole,
     low: 0,
     high: 1_000_000,
+};
+
+pub(crate) const INSIDE: Key = Key {
+    name: "inside",
+    needed: false,
+    form: Form::Inside,
+    low: 0,
+    high: 0,
 };
 
 pub(crate) const ELEVATOR_EXTRA: Key = Key {
@@ -132,11 +142,12 @@ pub(crate) const PROFILE: Key = Key {
 };
 
 /// The keys of the settings, in the order in which they are judged.
-pub(crate) static SETTINGS_KEYS: [Key; 13] = [
+pub(crate) static SETTINGS_KEYS: [Key; 14] = [
     KX,
     KY,
     BORDER_TOL,
     CONTAIN_TOL,
+    INSIDE,
     ELEVATOR_EXTRA,
     ESCALATOR_EXTRA,
     MOVINGWALKWAY_EXTRA,

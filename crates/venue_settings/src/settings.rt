@@ -14,13 +14,13 @@ ghost use Rattle.venue_settings.specs.Sound.{IsSound};
 
 use crate::fault::{SettingsFault, owned};
 use crate::keys::{
-    BORDER_TOL, CONTAIN_TOL, ELEVATOR_EXTRA, ESCALATOR_EXTRA, KX, KY, LAST_VERSION,
+    BORDER_TOL, CONTAIN_TOL, ELEVATOR_EXTRA, ESCALATOR_EXTRA, INSIDE, KX, KY, LAST_VERSION,
     MOVINGWALKWAY_EXTRA, PROFILE, RAMP_EXTRA, SETTINGS_KEYS, STAFF_KEYS, STAIRS_EXTRA,
     TRAVERSAL_EXTRA,
 };
 use crate::profiles::{all_profiles, judge_profiles};
 use crate::table::judge_table;
-use crate::values::{list_at, number_at};
+use crate::values::{inside_at, list_at, number_at};
 use std::alloc::Global;
 use toml::{Table, Value};
 use venue_types::{Extras, List, OutOfMemory, Profile, Settings, Text};
@@ -97,6 +97,7 @@ fn settings_of(table: &Table, staff_keys: List<Text>, profiles: List<Profile>) -
         ky: number_at(table, &KY, KY.low),
         border_tol: number_at(table, &BORDER_TOL, 1_000),
         contain_tol: number_at(table, &CONTAIN_TOL, 5_000),
+        inside: inside_at(table, &INSIDE),
         extras: extras_of(table),
         last_version: number_at(table, &LAST_VERSION, LAST_VERSION.high),
         staff_keys,

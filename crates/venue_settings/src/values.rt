@@ -1,17 +1,19 @@
 //! The values of a table.
 
 ghost use Rattle.std.specs.Prelude.{◌≡◌, ◌≤◌, Some, None, true, map, pos, MatchOption, option_copied, option_and_then};
-ghost use Rattle.toml.specs.Data.{as_array, as_integer, get_member};
+ghost use Rattle.toml.specs.Data.{as_array, as_integer, as_str, get_member};
 ghost use Rattle.toml.specs.View.{view, table_view};
 ghost use Rattle.venue_settings.specs.Faults.{items_at, items_in, key_fault, text_at as the_text_at};
-ghost use Rattle.venue_settings.specs.Settings.{IsNumberAt, truth_at as the_truth_at};
+ghost use Rattle.venue_settings.specs.Settings.{IsInsideAt, IsNumberAt, truth_at as the_truth_at};
 ghost use Rattle.venue_settings.specs.Table.{row_of};
-ghost use Rattle.venue_settings.specs.Values.{is_whole_between};
+ghost use Rattle.venue_settings.specs.Values.{is_whole_between, inside_of, judged_inside};
+ghost use Rattle.venue_settings.specs.declared.judge.Judgement.TheVariants.{Good};
 
-use crate::judge::whole_between;
+use crate::judge::{inside_word, whole_between};
 use crate::keys::{Form, Key};
 use crate::table::value_at;
 use toml::{Table, Value};
+use venue_types::Inside;
 
 /// The text at a key, empty where there is none.
 pub(crate) fn text_at<'a>(table: &'a Table, key: &str) -> &'a str
@@ -85,4 +87,25 @@ pub(crate) fn number_at(table: &Table, key: &Key, default: u32) -> u32
     ensures number { key_fault (table_view table.now) (row_of key.now) ≡ None → IsNumberAt (table_view table.now) key.now.name.now default result }
 {
     number_or(integer_at(table, key.name), key.low, key.high, default)
+}
+
+// How rooms are crossed by the word that was found, or straight; another value has been refused before.
+fn inside_in(found: &Value) -> Inside
+    ensures { judged_inside (view found.now) ≡ Good → option_and_then inside_of (as_str (view found.now)) ≡ Some result }
+{
+    match found.as_str() {
+        Some(text) => inside_word(text).unwrap_or(Inside::Straight),
+        None => Inside::Straight,
+    }
+}
+
+/// How rooms are crossed by the word at a key, straight where there is no such key.
+pub(crate) fn inside_at(table: &Table, key: &Key) -> Inside
+    requires { key.now.form ≡ Form.Inside }
+    ensures { key_fault (table_view table.now) (row_of key.now) ≡ None → IsInsideAt (table_view table.now) key.now.name.now result }
+{
+    match value_at(table, key.name) {
+        Some(value) => inside_in(value),
+        None => Inside::Straight,
+    }
 }

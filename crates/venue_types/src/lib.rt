@@ -43,6 +43,6 @@ pub use reply::{
     PlaceTold, Reply, StepRow, TourTold, Which,
 };
 pub use room::{push_reserved, reserve};
-pub use settings::{Extras, Profile, Settings};
+pub use settings::{Extras, Inside, Profile, Settings};
 pub use text::Text;
 pub use tour_query::TourQuery;

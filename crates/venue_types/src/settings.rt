@@ -60,6 +60,15 @@ pub struct Extras {
     pub ghost traversal_range: { traversal ≤ 1000000 },
 }
 
+/// How a visitor crosses a room, which is one unit.
+#[derive(Clone, Copy, Debug, PartialEq, Eq)]
+pub enum Inside {
+    /// Straight from place to place.
+    Straight,
+    /// Round the walls in it.
+    Clear,
+}
+
 /// The settings of a venue.
 #[derive(Drop)]
 pub struct Settings {
@@ -71,6 +80,7 @@ pub struct Settings {
     pub border_tol: u32,
     /// How far a place may lie outside what holds it, in nanodegrees, at most 1,000,000.
     pub contain_tol: u32,
+    pub inside: Inside,
     pub extras: Extras,
     /// The greatest number of a version, at least 1.
     pub last_version: u32,
@@ -102,6 +112,7 @@ impl Settings {
             ky: self.ky,
             border_tol: self.border_tol,
             contain_tol: self.contain_tol,
+            inside: self.inside,
             extras: self.extras,
             last_version: self.last_version,
             staff_keys,

@@ -5,7 +5,7 @@ ghost use Rattle.venue_commands.specs.BuildingReports.{AreBuildingSettings};
 
 use imdf_access::built_in;
 use std::alloc::Global;
-use venue_types::{Extras, List, OutOfMemory, Settings};
+use venue_types::{Extras, Inside, List, OutOfMemory, Settings};
 
 /// The settings of a building: nobody is staff, and there are no profiles but those that every venue has.
 pub(crate) fn building_settings(alloc: Global) -> Result<Settings, OutOfMemory>
@@ -17,6 +17,7 @@ pub(crate) fn building_settings(alloc: Global) -> Result<Settings, OutOfMemory>
         ky: 10_000_000,
         border_tol: 1_000,
         contain_tol: 5_000,
+        inside: Inside::Straight,
         extras: Extras {
             elevator: 3_000,
             escalator: 800,

@@ -2,7 +2,7 @@ use Rattle.std.proofs.Common.{refl}
 use Rattle.std.proofs.lemmas.Bool.{false≢true}
 use Rattle.plane_exact.proofs.BorderLemmas.{chain_here, chain_past}
 use Rattle.plane_exact.proofs.SegmentLemmas.{iff_along}
-use Rattle.plane_exact.proofs.CloseLemmas.{start_close, edge_close, end_close, chain_step}
+use Rattle.plane_exact.proofs.NearbyLemmas.{start_close, edge_close, end_close, chain_step}
 use Rattle.plane_exact.proofs.borders.near_chain.Goals as goal
 
 pub near_edge-requires-clause-edge : goal.near_edge-requires-clause-edge

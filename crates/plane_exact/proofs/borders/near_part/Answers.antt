@@ -2,19 +2,19 @@ use Rattle.std.proofs.Common.{◌∷◌, ◌↔◌, IsTrue, List, subst, sym}
 use Rattle.std.proofs.lemmas.Bool.{false≢true}
 use Rattle.venue_types.specs.declared.point.Ring.{Ring}
 use Rattle.plane_exact.specs.Segment.{IsNearEdge}
-use Rattle.plane_exact.specs.Figure.{AllClose, Edge, edges, ring_points, ring_edges, IsNearSome}
+use Rattle.plane_exact.specs.Figure.{AllNearby, Edge, edges, ring_points, ring_edges, IsNearSome}
 use Rattle.plane_exact.proofs.ListLemmas.{any_past_all}
 use Rattle.plane_exact.proofs.SegmentLemmas.{iff_along}
-use Rattle.plane_exact.proofs.CloseLemmas.{AllClose-left, AllClose-right}
+use Rattle.plane_exact.proofs.NearbyLemmas.{AllNearby-left, AllNearby-right}
 use Rattle.plane_exact.proofs.borders.near_part.Goals as goal
 
 pub near_ring-requires-clause-close : goal.near_ring-requires-clause-close
-near_ring-requires-clause-close c = AllClose-left c.args.p c.args.part.now.outer.points (ring_points c.args.part.now.holes) c.requires.close
+near_ring-requires-clause-close c = AllNearby-left c.args.p c.args.part.now.outer.points (ring_points c.args.part.now.holes) c.requires.close
 
 pub near_rings-requires-clause-close : goal.near_rings-requires-clause-close
 near_rings-requires-clause-close c =
-    let P : List Ring → Type 0 = λ rings. AllClose (c.args.p ∷ ring_points rings) in
-    subst P (sym c.as_slice.ensures) (AllClose-right c.args.p c.args.part.now.outer.points (ring_points c.args.part.now.holes) c.requires.close)
+    let P : List Ring → Type 0 = λ rings. AllNearby (c.args.p ∷ ring_points rings) in
+    subst P (sym c.as_slice.ensures) (AllNearby-right c.args.p c.args.part.now.outer.points (ring_points c.args.part.now.holes) c.requires.close)
 
 pub returns-else-near_ring : goal.returns-else-near_ring
 returns-else-near_ring c =

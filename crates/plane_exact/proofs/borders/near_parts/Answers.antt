@@ -3,7 +3,7 @@ use Rattle.std.proofs.lemmas.Bool.{false≢true}
 use Rattle.plane_exact.specs.Figure.{part_edges, part_points}
 use Rattle.plane_exact.proofs.BorderLemmas.{items_here, items_past}
 use Rattle.plane_exact.proofs.SegmentLemmas.{iff_along}
-use Rattle.plane_exact.proofs.CloseLemmas.{item_close, items_step}
+use Rattle.plane_exact.proofs.NearbyLemmas.{item_close, items_step}
 use Rattle.plane_exact.proofs.borders.near_parts.Goals as goal
 
 pub near_part-requires-clause-close : goal.near_part-requires-clause-close

@@ -4,7 +4,7 @@ use Rattle.venue_types.specs.declared.point.Ring.{Ring}
 use Rattle.plane_exact.specs.Figure.{edges}
 use Rattle.plane_exact.proofs.BorderLemmas.{items_here, items_past}
 use Rattle.plane_exact.proofs.SegmentLemmas.{iff_along}
-use Rattle.plane_exact.proofs.CloseLemmas.{item_close, items_step}
+use Rattle.plane_exact.proofs.NearbyLemmas.{item_close, items_step}
 use Rattle.plane_exact.proofs.borders.near_rings.Goals as goal
 
 pub near_ring-requires-clause-close : goal.near_ring-requires-clause-close

@@ -4,11 +4,11 @@ use Rattle.plane_exact.specs.Plane.{IsWithin}
 use Rattle.plane_exact.proofs.NumberLemmas.{IsWithin-mul, fits_from_IsWithin, read_back}
 use Rattle.plane_exact.proofs.numbers.product.Goals as goal
 
-range : (c : goal.Start) → IsWithin 40000000000000000 (c.args.m *ℤ c.args.n) (pos 0)
-range c = IsWithin-mul c.args.m c.args.n 200000000 200000000 c.requires.first c.requires.second
+range : (c : goal.Start) → IsWithin 640000000000000000 (c.args.m *ℤ c.args.n) (pos 0)
+range c = IsWithin-mul c.args.m c.args.n 800000000 800000000 c.requires.first c.requires.second
 
 fits : (c : goal.Start) → FitsSigned w64 (c.args.m *ℤ c.args.n)
-fits c = fits_from_IsWithin 40000000000000000 _ (range c) (lit< tt)
+fits c = fits_from_IsWithin 640000000000000000 _ (range c) (lit< tt)
 
 operands : (c : goal.Start) → to_z w64 (of_z w64 c.args.m) *ℤ to_z w64 (of_z w64 c.args.n) ≡ c.args.m *ℤ c.args.n
 operands c = ap₂ ◌*ℤ◌ (to_z-of_z w64 c.args.m c.ranges.m) (to_z-of_z w64 c.args.n c.ranges.n)

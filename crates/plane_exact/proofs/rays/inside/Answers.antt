@@ -1,13 +1,13 @@
 use Rattle.std.proofs.Common.{◌≡◌, ◌∷◌, ◌%◌, ◌↔◌, IsTrue, List, flat_map, ap, ◌∙◌, subst, sym}
 use Rattle.venue_types.specs.declared.point.Point.{Point}
 use Rattle.venue_types.specs.declared.point.Ring.{Ring}
-use Rattle.plane_exact.specs.Figure.{AllClose, Edge, edges, rings_of, part_points, part_edges, IsInside, crossings, vertices, all_edges}
+use Rattle.plane_exact.specs.Figure.{AllNearby, Edge, edges, rings_of, part_points, part_edges, IsInside, crossings, vertices, all_edges}
 use Rattle.plane_exact.proofs.ListLemmas.{flat_map-flat_map}
 use Rattle.plane_exact.proofs.rays.inside.Goals as goal
 
 pub is_odd_at_parts-requires : goal.is_odd_at_parts-requires
 is_odd_at_parts-requires c =
-    let P : List Point → Type 0 = λ points. AllClose (c.args.p ∷ points) in
+    let P : List Point → Type 0 = λ points. AllNearby (c.args.p ∷ points) in
     let same : flat_map part_points c.as_slice.result.now ≡ vertices c.args.shape.now = ap (flat_map part_points) c.as_slice.ensures ∙ sym (flat_map-flat_map (λ (ring : Ring). ring.points) rings_of c.args.shape.now.parts) in
     subst P (sym same) c.requires
 

@@ -1,5 +1,5 @@
 use Rattle.std.proofs.Common.{◌∙◌, sym}
-use Rattle.plane_exact.proofs.CloseLemmas.{start_close, edge_close, chain_step}
+use Rattle.plane_exact.proofs.NearbyLemmas.{start_close, edge_close, chain_step}
 use Rattle.plane_exact.proofs.ParityLemmas.{chain_met, chain_missed}
 use Rattle.plane_exact.proofs.rays.is_odd_at_chain.Goals as goal
 use Rattle.plane_exact.proofs.rays.is_odd_at_chain.Goals.{then-meets, else-meets}

@@ -1,7 +1,7 @@
 use Rattle.std.proofs.Common.{sym, ◌∙◌}
 use Rattle.std.proofs.lemmas.Bool.{false≢true}
 use Rattle.plane_exact.specs.Figure.{part_points, part_edges}
-use Rattle.plane_exact.proofs.CloseLemmas.{item_close, items_step}
+use Rattle.plane_exact.proofs.NearbyLemmas.{item_close, items_step}
 use Rattle.plane_exact.proofs.ParityLemmas.{items_odd, items_even}
 use Rattle.plane_exact.proofs.rays.is_odd_at_parts.Goals as goal
 use Rattle.plane_exact.proofs.rays.is_odd_at_parts.Goals.{then-is_odd_at_part, else-is_odd_at_part}

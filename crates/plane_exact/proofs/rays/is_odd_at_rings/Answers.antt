@@ -2,7 +2,7 @@ use Rattle.std.proofs.Common.{sym, ◌∙◌}
 use Rattle.std.proofs.lemmas.Bool.{false≢true}
 use Rattle.venue_types.specs.declared.point.Ring.{Ring}
 use Rattle.plane_exact.specs.Figure.{edges}
-use Rattle.plane_exact.proofs.CloseLemmas.{item_close, items_step}
+use Rattle.plane_exact.proofs.NearbyLemmas.{item_close, items_step}
 use Rattle.plane_exact.proofs.ParityLemmas.{items_odd, items_even}
 use Rattle.plane_exact.proofs.rays.is_odd_at_rings.Goals as goal
 use Rattle.plane_exact.proofs.rays.is_odd_at_rings.Goals.{then-inside_ring, else-inside_ring}

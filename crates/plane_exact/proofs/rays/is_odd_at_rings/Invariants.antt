@@ -1,10 +1,10 @@
 use Rattle.std.proofs.Common.{◌≡◌, ◌∷◌, ◌+◌, ◌%◌, cond, drop}
-use Rattle.plane_exact.specs.Figure.{AllClose, ring_points, ring_edges, crossings}
+use Rattle.plane_exact.specs.Figure.{AllNearby, ring_points, ring_edges, crossings}
 use Rattle.plane_exact.proofs.rays.is_odd_at_rings.Given as goal
 
 -- what was met so far and what is met ahead make up all
 abbrev pub invariant-loop-ring : goal.invariant-loop-ring
 invariant-loop-ring l = record {
-  close : AllClose (l.p ∷ ring_points (drop l.ring-index l.rings));
+  close : AllNearby (l.p ∷ ring_points (drop l.ring-index l.rings));
   parity : (cond l.odd 1 0 + crossings l.p (ring_edges (drop l.ring-index l.rings))) % 2 ≡ crossings l.p (ring_edges l.rings) % 2;
 }

@@ -1,8 +1,8 @@
 use Rattle.std.proofs.Common.{refl, sym, subst, List}
 use Rattle.venue_types.specs.declared.point.Ring.{Ring}
-use Rattle.plane_exact.specs.Figure.{AllClose, ring_points}
+use Rattle.plane_exact.specs.Figure.{AllNearby, ring_points}
 use Rattle.plane_exact.proofs.ListLemmas.{pushed_step}
-use Rattle.plane_exact.proofs.CloseLemmas.{plain_left, plain_right, plain_item, plain_step}
+use Rattle.plane_exact.proofs.NearbyLemmas.{plain_left, plain_right, plain_item, plain_step}
 use Rattle.plane_trees.proofs.bands.add_bands.Goals as goal
 
 pub of-requires : goal.of-requires
@@ -10,7 +10,7 @@ of-requires c = plain_left c.args.part.now.outer.points (ring_points c.args.part
 
 pub loop-hole-init : goal.loop-hole-init
 loop-hole-init c = record {
-  close = subst (λ (rings : List Ring). AllClose (ring_points rings)) (sym c.as_slice-hole-items.ensures) (plain_right c.args.part.now.outer.points (ring_points c.args.part.now.holes) c.requires);
+  close = subst (λ (rings : List Ring). AllNearby (ring_points rings)) (sym c.as_slice-hole-items.ensures) (plain_right c.args.part.now.outer.points (ring_points c.args.part.now.holes) c.requires);
   rings = refl;
 }
 

@@ -2,7 +2,7 @@ use Rattle.std.proofs.Common.{List, ◌∷◌, subst}
 use Rattle.std.proofs.lemmas.List.{take_all}
 use Rattle.venue_types.specs.declared.point.Point.{Point}
 use Rattle.plane_trees.specs.Octagons.{IsRound}
-use Rattle.plane_exact.proofs.CloseLemmas.{point_close}
+use Rattle.plane_exact.proofs.NearbyLemmas.{point_close}
 use Rattle.plane_trees.proofs.OctagonLemmas.{IsRound-at, IsRound-more}
 use Rattle.plane_trees.proofs.octagons.octagon_of.Goals as goal
 

@@ -1,5 +1,5 @@
 use Rattle.std.proofs.Common.{◌∷◌, take, drop}
-use Rattle.plane_exact.specs.Figure.{AllClose}
+use Rattle.plane_exact.specs.Figure.{AllNearby}
 use Rattle.plane_trees.specs.Octagons.{IsRound}
 use Rattle.plane_trees.proofs.octagons.octagon_of.Given as goal
 

@@ -3,7 +3,7 @@ use Rattle.std.proofs.lemmas.List.{take_all}
 use Rattle.venue_types.specs.declared.point.Ring.{Ring}
 use Rattle.plane_exact.specs.Figure.{ring_points}
 use Rattle.plane_trees.specs.Octagons.{IsRound}
-use Rattle.plane_exact.proofs.CloseLemmas.{item_close, items_step}
+use Rattle.plane_exact.proofs.NearbyLemmas.{item_close, items_step}
 use Rattle.plane_trees.proofs.GroveLemmas.{rings_more}
 use Rattle.plane_trees.proofs.over.octagon_of_rings.Goals as goal
 

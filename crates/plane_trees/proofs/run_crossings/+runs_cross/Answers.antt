@@ -1,29 +1,29 @@
 use Rattle.std.proofs.Common.{arith}
 use Rattle.plane_exact.specs.Figure.{Edge}
 use Rattle.plane_trees.specs.Trees.{run_points, run_edges, CrossesSome, CrossEachOther}
-use Rattle.plane_exact.proofs.CloseLemmas.{AllClose-parts}
+use Rattle.plane_exact.proofs.NearbyLemmas.{AllNearby-parts}
 use Rattle.plane_trees.proofs.RunLemmas.{enough, left_over, any_of_parts, any_from_front, any_from_back, others_parts, others_front, others_back}
 use Rattle.plane_trees.proofs.run_crossings.+runs_cross.Goals as goal
 
 pub runs_cross-requires : goal.runs_cross-requires
 runs_cross-requires t c =
     let half = c.in-Some.ensures in
-    (omega (arith, half.front_depth), (AllClose-parts (run_points c.args.one) (run_points c.args.other) (run_points c.in-Some.front) (run_points c.args.other) half.front_points (λ q h. h) c.requires.close, (half.front_sound c.args.origin c.requires.one_sound, c.requires.other_sound)))
+    (omega (arith, half.front_depth), (AllNearby-parts (run_points c.args.one) (run_points c.args.other) (run_points c.in-Some.front) (run_points c.args.other) half.front_points (λ q h. h) c.requires.close, (half.front_sound c.args.origin c.requires.one_sound, c.requires.other_sound)))
 
 pub runs_cross-requires-else-runs_cross : goal.runs_cross-requires-else-runs_cross
 runs_cross-requires-else-runs_cross t c =
     let half = c.in-Some.ensures in
-    (omega (arith, half.back_depth), (AllClose-parts (run_points c.args.one) (run_points c.args.other) (run_points c.in-Some.back) (run_points c.args.other) half.back_points (λ q h. h) c.requires.close, (half.back_sound c.args.origin c.requires.one_sound, c.requires.other_sound)))
+    (omega (arith, half.back_depth), (AllNearby-parts (run_points c.args.one) (run_points c.args.other) (run_points c.in-Some.back) (run_points c.args.other) half.back_points (λ q h. h) c.requires.close, (half.back_sound c.args.origin c.requires.one_sound, c.requires.other_sound)))
 
 pub runs_cross-requires-in-Some-halves : goal.runs_cross-requires-in-Some-halves
 runs_cross-requires-in-Some-halves t c =
     let half = c.in-Some-halves.ensures in
-    (omega (arith, half.front_depth), (AllClose-parts (run_points c.args.one) (run_points c.args.other) (run_points c.args.one) (run_points c.in-Some-halves.front) (λ q h. h) half.front_points c.requires.close, (c.requires.one_sound, half.front_sound c.args.origin c.requires.other_sound)))
+    (omega (arith, half.front_depth), (AllNearby-parts (run_points c.args.one) (run_points c.args.other) (run_points c.args.one) (run_points c.in-Some-halves.front) (λ q h. h) half.front_points c.requires.close, (c.requires.one_sound, half.front_sound c.args.origin c.requires.other_sound)))
 
 pub runs_cross-requires-else-runs_cross-2 : goal.runs_cross-requires-else-runs_cross-2
 runs_cross-requires-else-runs_cross-2 t c =
     let half = c.in-Some-halves.ensures in
-    (omega (arith, half.back_depth), (AllClose-parts (run_points c.args.one) (run_points c.args.other) (run_points c.args.one) (run_points c.in-Some-halves.back) (λ q h. h) half.back_points c.requires.close, (c.requires.one_sound, half.back_sound c.args.origin c.requires.other_sound)))
+    (omega (arith, half.back_depth), (AllNearby-parts (run_points c.args.one) (run_points c.args.other) (run_points c.args.one) (run_points c.in-Some-halves.back) (λ q h. h) half.back_points c.requires.close, (c.requires.one_sound, half.back_sound c.args.origin c.requires.other_sound)))
 
 pub returns-then-runs_cross : goal.returns-then-runs_cross
 returns-then-runs_cross t c =

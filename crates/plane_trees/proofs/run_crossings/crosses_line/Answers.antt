@@ -2,7 +2,7 @@ use Rattle.std.proofs.Common.{◌∷◌, refl}
 use Rattle.std.proofs.lemmas.Bool.{false≢true}
 use Rattle.plane_exact.specs.Segment.{Crosses}
 use Rattle.plane_exact.proofs.SegmentLemmas.{iff_along}
-use Rattle.plane_exact.proofs.CloseLemmas.{Contains-next, among_close}
+use Rattle.plane_exact.proofs.NearbyLemmas.{Contains-next, among_close}
 use Rattle.plane_trees.proofs.RunLemmas.{line_here, line_past}
 use Rattle.plane_trees.proofs.run_crossings.crosses_line.Goals as goal
 

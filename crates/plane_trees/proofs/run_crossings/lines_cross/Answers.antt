@@ -4,7 +4,7 @@ use Rattle.venue_types.specs.declared.point.Point.{Point}
 use Rattle.plane_exact.specs.Figure.{edges_from}
 use Rattle.plane_trees.specs.Trees.{CrossesSome}
 use Rattle.plane_exact.proofs.SegmentLemmas.{iff_along}
-use Rattle.plane_exact.proofs.CloseLemmas.{Contains-next, edge_with_line}
+use Rattle.plane_exact.proofs.NearbyLemmas.{Contains-next, edge_with_line}
 use Rattle.plane_trees.proofs.RunLemmas.{line_here, line_past}
 use Rattle.plane_trees.proofs.run_crossings.lines_cross.Goals as goal
 

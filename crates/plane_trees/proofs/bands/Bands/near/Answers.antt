@@ -6,7 +6,7 @@ use Rattle.venue_types.specs.declared.point.Shape.{Shape}
 use Rattle.plane_exact.specs.Figure.{rings, vertices, ring_points, ring_edges, IsNear, IsNearSome}
 use Rattle.plane_trees.specs.declared.groves.Over.{Over}
 use Rattle.plane_trees.specs.Groves.{IsOver}
-use Rattle.plane_exact.proofs.CloseLemmas.{origin_close}
+use Rattle.plane_exact.proofs.NearbyLemmas.{origin_close}
 use Rattle.plane_trees.proofs.RunLemmas.{IfSome-at}
 use Rattle.plane_trees.proofs.bands.Bands.near.Goals as goal
 

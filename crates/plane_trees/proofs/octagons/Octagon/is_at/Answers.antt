@@ -7,22 +7,22 @@ use Rattle.plane_trees.proofs.octagons.Octagon.is_at.Goals as goal
 
 pub is_at-requires-clause-number : goal.is_at-requires-clause-number
 is_at-requires-clause-number c =
-    let h : IsWithin 400000000 c.args.place.now.x (pos 0) = c.requires.place Longitude in
+    let h : IsWithin 1600000000 c.args.place.now.x (pos 0) = c.requires.place Longitude in
     record { above = omega (arith, ints); below = omega (arith, ints) }
 
 pub is_at-requires-2-clause-number : goal.is_at-requires-2-clause-number
 is_at-requires-2-clause-number c =
-    let h : IsWithin 400000000 c.args.place.now.y (pos 0) = c.requires.place Latitude in
+    let h : IsWithin 1600000000 c.args.place.now.y (pos 0) = c.requires.place Latitude in
     record { above = omega (arith, ints); below = omega (arith, ints) }
 
 pub is_at-requires-3-clause-number : goal.is_at-requires-3-clause-number
 is_at-requires-3-clause-number c =
-    let h : IsWithin 400000000 c.args.place.now.sum (pos 0) = c.requires.place Rising in
+    let h : IsWithin 1600000000 c.args.place.now.sum (pos 0) = c.requires.place Rising in
     record { above = omega (arith, ints); below = omega (arith, ints) }
 
 pub is_at-requires-4-clause-number : goal.is_at-requires-4-clause-number
 is_at-requires-4-clause-number c =
-    let h : IsWithin 400000000 c.args.place.now.difference (pos 0) = c.requires.place Falling in
+    let h : IsWithin 1600000000 c.args.place.now.difference (pos 0) = c.requires.place Falling in
     record { above = omega (arith, ints); below = omega (arith, ints) }
 
 pub returns-then-not-is_at : goal.returns-then-not-is_at

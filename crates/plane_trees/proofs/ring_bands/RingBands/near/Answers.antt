@@ -1,6 +1,6 @@
 use Rattle.std.proofs.Common.{ap, ◌∙◌}
 use Rattle.venue_types.specs.declared.point.Ring.{Ring}
-use Rattle.plane_exact.proofs.CloseLemmas.{first_close}
+use Rattle.plane_exact.proofs.NearbyLemmas.{first_close}
 use Rattle.plane_trees.proofs.ring_bands.RingBands.near.Goals as goal
 
 pub of-requires : goal.of-requires
