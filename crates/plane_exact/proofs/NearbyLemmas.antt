@@ -141,3 +141,34 @@ nearby a b h = record {
 
 pub all_nearby : (points : List Point) → AllClose points → AllNearby points
 all_nearby points h = record { near = λ a b p q. nearby a b (h.close a b p q) }
+
+-- ---- a way and a wall
+
+-- which of the ends of a way and of an edge are nearby
+pub record AreFourNear (a b c d : Point) : Type 0 where
+  pub way : IsNearby a b
+  pub edge : IsNearby c d
+  pub start_first : IsNearby a c
+  pub start_second : IsNearby a d
+  pub end_first : IsNearby b c
+  pub first_start : IsNearby c a
+  pub second_start : IsNearby d a
+  pub first_end : IsNearby c b
+  pub second_end : IsNearby d b
+
+pub four_near : (a b c d : Point) → AllNearby (a ∷ b ∷ c ∷ d ∷ []) → AreFourNear a b c d
+four_near a b c d h = record {
+  way = h.near a b (0, omega arith, refl) (1, omega arith, refl);
+  edge = h.near c d (2, omega arith, refl) (3, omega arith, refl);
+  start_first = h.near a c (0, omega arith, refl) (2, omega arith, refl);
+  start_second = h.near a d (0, omega arith, refl) (3, omega arith, refl);
+  end_first = h.near b c (1, omega arith, refl) (2, omega arith, refl);
+  first_start = h.near c a (2, omega arith, refl) (0, omega arith, refl);
+  second_start = h.near d a (3, omega arith, refl) (0, omega arith, refl);
+  first_end = h.near c b (2, omega arith, refl) (1, omega arith, refl);
+  second_end = h.near d b (3, omega arith, refl) (1, omega arith, refl);
+}
+
+-- and of a way and a vertex
+pub three_near : (a b v : Point) → AllNearby (a ∷ b ∷ v ∷ []) → (IsNearby a b) × (IsNearby a v) × (IsNearby b v)
+three_near a b v h = (h.near a b (0, omega arith, refl) (1, omega arith, refl), h.near a v (0, omega arith, refl) (2, omega arith, refl), h.near b v (1, omega arith, refl) (2, omega arith, refl))

@@ -3,3 +3,8 @@ pub mod Segment
 pub mod Figure
 pub mod Opening
 pub mod Length
+pub mod Scaled
+pub mod Sight
+pub mod Walls
+pub mod Seeing
+pub mod Corners

@@ -7,9 +7,11 @@ mod lengths;
 mod numbers;
 mod rays;
 mod segments;
+mod walls;
 
 pub use borders::{near, near_chain, near_ring};
 pub use laws::{detour_law, length_law, near_edge_law, turn_law};
 pub use lengths::{length_cm, spans};
 pub use rays::{inside, inside_ring, is_odd_at_chain};
 pub use segments::{crosses, near_edge, side};
+pub use walls::{Wall, stops};
