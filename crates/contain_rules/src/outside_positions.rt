@@ -9,6 +9,7 @@ use plane_trees::Bands;
 use venue_types::{Part, Point, Ring, Shape};
 
 /// Whether the position is inside the shape, or near its border.
+#[tactic(auto, using(plane_exact::proofs::NearbyLemmas::all_nearby))]
 pub(crate) fn is_held(shape: &Bands, tolerance: u32, p: Point) -> bool
     requires close { AllClose (p ∷ vertices shape.now) }
     requires range { tolerance ≤ 1000000 }

@@ -11,7 +11,8 @@ use Rattle.venue_types.specs.declared.features.OpeningRow.{OpeningRow}
 use Rattle.venue_types.specs.declared.features.UnitRow.{UnitRow}
 use Rattle.venue_types.specs.declared.point.Point.{Point}
 use Rattle.venue_types.specs.declared.point.Shape.{Shape}
-use Rattle.plane_exact.specs.Figure.{AllClose, vertices, IsNear}
+use Rattle.plane_exact.proofs.NearbyLemmas.{all_nearby}
+use Rattle.plane_exact.specs.Figure.{AllClose, AllNearby, vertices, IsNear}
 use Rattle.feature_rows.specs.Figures.{judged_positions}
 use Rattle.feature_rows.specs.Named.{IsUnit}
 use Rattle.opening_match.specs.declared.entries.Entry.{Entry}
@@ -92,14 +93,14 @@ no_matches t openings unit places empty of = record {
 
 -- ---- closeness
 
-pub close_alone : (p : Point) (points : List Point) → AllClose (p ∷ points) → AllClose points
-close_alone p points all = record { close = λ a b h k. all.close a b (Contains-append_right (p ∷ []) points a h) (Contains-append_right (p ∷ []) points b k) }
+pub close_alone : (p : Point) (points : List Point) → AllNearby (p ∷ points) → AllNearby points
+close_alone p points all = record { near = λ a b h k. all.near a b (Contains-append_right (p ∷ []) points a h) (Contains-append_right (p ∷ []) points b k) }
 
 -- where there is an opening with a vertex beside the shape, the shape's own vertices are close
-close_beside : (openings : List OpeningRow) (shape : Shape) (o : ℕ) → AreBeside shape openings → StartsAt openings o → AllClose (vertices shape)
-close_beside openings shape o beside s = close_alone s.vertex (vertices shape) ((beside.beside s.opening (member_at openings o s.opening s.there)).close s.vertex s.has)
+close_beside : (openings : List OpeningRow) (shape : Shape) (o : ℕ) → AreBeside shape openings → StartsAt openings o → AllNearby (vertices shape)
+close_beside openings shape o beside s = close_alone s.vertex (vertices shape) ((beside.beside s.opening (member_at openings o s.opening s.there)).near s.vertex s.has)
 
-pub close_shape : (t : ℕ) (openings : List OpeningRow) (unit : UnitRow) (places : List ℕ) → AreBeside unit.shape openings → AreCandidates t openings unit places → ¬ (places ≡ []) → AllClose (vertices unit.shape)
+pub close_shape : (t : ℕ) (openings : List OpeningRow) (unit : UnitRow) (places : List ℕ) → AreBeside unit.shape openings → AreCandidates t openings unit places → ¬ (places ≡ []) → AllNearby (vertices unit.shape)
 close_shape t openings unit places beside of filled = let o = some_in places filled in close_beside openings unit.shape o.0 beside (of.starts o.0 o.1)
 
 pub all_there : (t : ℕ) (openings : List OpeningRow) (unit : UnitRow) (places : List ℕ) → AreCandidates t openings unit places → All (λ o. o < length openings) places
@@ -128,7 +129,7 @@ pub units_beside : UnitLaw → (features : Features) (openings : List OpeningRow
 units_beside law features openings units close same file k d within =
     let unit = get_or units k d in
     let has : Contains features.units unit = subst (λ (us : List UnitRow). Contains us unit) file (Contains-get_or units k d within) in
-    record { beside = λ opening own. record { close = λ p at. law features opening p unit.id unit close (subst (λ (os : List OpeningRow). Contains os opening) same own) at (record { has = has; named = refl }) } }
+    record { beside = λ opening own. record { near = λ p at. all_nearby (p ∷ vertices unit.shape) (law features opening p unit.id unit close (subst (λ (os : List OpeningRow). Contains os opening) same own) at (record { has = has; named = refl })) } }
 
 pub filled : (xs : List ℕ) (n : ℕ) (b : Bool) → n ≡ length xs → b ≡ eqb n 0 → b ≡ false → ¬ (xs ≡ [])
 filled xs n b count is other empty = true≢false (sym (eq-eqb n 0 (count ∙ ap length empty)) ∙ sym is ∙ other)

@@ -3,15 +3,15 @@ use Rattle.std.specs.Prelude.{◌≡◌, ℕ, ◌∷◌, List, Some, All, Contai
 use Rattle.venue_types.specs.declared.features.OpeningRow.{OpeningRow}
 use Rattle.venue_types.specs.declared.point.Point.{Point}
 use Rattle.venue_types.specs.declared.point.Shape.{Shape}
-use Rattle.plane_exact.specs.Figure.{AllClose, vertices, IsNear}
+use Rattle.plane_exact.specs.Figure.{AllNearby, vertices, IsNear}
 
--- each of the positions is close to the shape
-pub record AreCloseTo (shape : Shape) (points : List Point) : Type 0 where
-  pub close : (p : Point) → Contains points p → AllClose (p ∷ vertices shape)
+-- each of the positions is nearby the shape
+pub record AreNearbyTo (shape : Shape) (points : List Point) : Type 0 where
+  pub near : (p : Point) → Contains points p → AllNearby (p ∷ vertices shape)
 
--- the vertices of each of the openings are close to the shape
+-- so are the vertices of each of the openings
 pub record AreBeside (shape : Shape) (openings : List OpeningRow) : Type 0 where
-  pub beside : (opening : OpeningRow) → Contains openings opening → AreCloseTo shape opening.line.points
+  pub beside : (opening : OpeningRow) → Contains openings opening → AreNearbyTo shape opening.line.points
 
 -- the opening at this place is there, and each of its vertices is near the border of the shape
 pub record RunsAlong (tolerance : ℕ) (openings : List OpeningRow) (shape : Shape) (o : ℕ) : Type 0 where

@@ -7,7 +7,7 @@ ghost use Rattle.opening_match.specs.Entries.{AreEntries, AreApart};
 ghost use Rattle.opening_match.specs.Frames.{IsAtHeight};
 ghost use Rattle.opening_match.specs.Places.{ArePlaces, AreDistinct};
 ghost use Rattle.venue_nodes.specs.TouchCounts.{AreMatches};
-ghost use Rattle.opening_match.specs.Matches.{AreCloseTo, AreBeside, RunsAlong};
+ghost use Rattle.opening_match.specs.Matches.{AreNearbyTo, AreBeside, RunsAlong};
 
 use crate::entries::Entry;
 use crate::frame::{Frame, frame_of};
@@ -18,7 +18,7 @@ use venue_types::{OpeningRow, OutOfMemory, Point, UnitRow};
 
 // Whether each position is near the border.
 fn are_near(bands: &Bands, tolerance: u32, points: &[Point]) -> bool
-    requires close { AreCloseTo bands.now points.now }
+    requires close { AreNearbyTo bands.now points.now }
     requires range { tolerance ≤ 100000 }
     ensures { IsTrue result ↔ All (λ p. IsNear p bands.now tolerance) points.now }
 {
