@@ -4,7 +4,7 @@ use std::alloc::{AllocError, Global};
 use std::process::Abort;
 use std::test::Fail;
 use venue_settings::{SettingsFault, read_settings};
-use venue_types::{Extras, Profile, Settings, Text};
+use venue_types::{Extras, Inside, Profile, Settings, Text};
 
 // The number that is printed for the fault, and its key or name.
 fn told(fault: &SettingsFault) -> (u8, &str) {
@@ -50,6 +50,7 @@ fn judge_numbers(rt: &impl Abort, settings: &Settings) {
     assert!(rt; settings.ky == 10_000_000);
     assert!(rt; settings.border_tol == 1_000);
     assert!(rt; settings.contain_tol == 5_000);
+    assert!(rt; settings.inside == Inside::Straight);
     assert!(rt; settings.last_version == 4_294_967_295);
 }
 
@@ -88,7 +89,7 @@ fn judge_station(rt: &impl Abort, settings: &Settings) {
 }
 
 // A text, the number of its fault and the fault's key or name.
-static ROWS: [(&str, u8, &str); 38] = [
+static ROWS: [(&str, u8, &str); 48] = [
     ("", 2, "kx"),
     ("kx = 0\nky = 1\n", 4, "kx"),
     ("kx = 1\n", 2, "ky"),
@@ -105,6 +106,16 @@ static ROWS: [(&str, u8, &str); 38] = [
     ("ky = 1\na.b = 1\n", 5, "a"),
     ("kx = 1\nky = 1\nborder_tol = 100001\n", 4, "border_tol"),
     ("kx = 1\nky = 1\ncontain_tol = 1000001\n", 4, "contain_tol"),
+    ("kx = 1\nky = 1\ninside = \"straight\"\n", 0, ""),
+    ("kx = 1\nky = 1\ninside = \"clear\"\n", 0, ""),
+    ("kx = 1\nky = 1\ninside = \"Clear\"\n", 4, "inside"),
+    ("kx = 1\nky = 1\ninside = \"\"\n", 4, "inside"),
+    ("kx = 1\nky = 1\ninside = \"clear \"\n", 4, "inside"),
+    ("kx = 1\nky = 1\ninside = true\n", 3, "inside"),
+    ("kx = 1\nky = 1\ninside = [\"clear\"]\n", 3, "inside"),
+    ("kx = 1\nky = 1\ninside = \"a\"\ncontain_tol = -1\n", 4, "contain_tol"),
+    ("kx = 1\nky = 1\nelevator_extra = -1\ninside = \"a\"\n", 4, "inside"),
+    ("kx = 1\nky = 1\ninsides = \"clear\"\n", 5, "insides"),
     ("kx = 1\nky = 1\nramp_extra = 1000001\n", 4, "ramp_extra"),
     ("kx = 1\nky = 1\nlast_version = 0\n", 4, "last_version"),
     (

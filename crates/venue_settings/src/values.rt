@@ -104,8 +104,8 @@ pub(crate) fn inside_at(table: &Table, key: &Key) -> Inside
     requires { key.now.form ≡ Form.Inside }
     ensures { key_fault (table_view table.now) (row_of key.now) ≡ None → IsInsideAt (table_view table.now) key.now.name.now result }
 {
-    match value_at(table, key.name) {
-        Some(value) => inside_in(value),
-        None => Inside::Straight,
-    }
+    let Some(value) = value_at(table, key.name) else {
+        return Inside::Straight;
+    };
+    inside_in(value)
 }
