@@ -1,12 +1,12 @@
 -- What the tests of `Seeing` decide.
-use Rattle.std.proofs.Common.{◌≡◌, ℕ, ◌*◌, ◌<◌, ℤ, pos, ◌*ℤ◌, ◌≤ℤ◌, ◌<ℤ◌, Bool, true, false, not, ◌&&◌, ◌||◌, if◌then◌else◌, cond, IsTrue, ◌↔◌, ◌⊎◌, inl, inr, List, [], ◌∷◌, length, get_or, refl, sym, ◌∙◌, arith}
+use Rattle.std.proofs.Common.{◌≡◌, ℕ, ◌*◌, ℤ, pos, ◌*ℤ◌, ◌≤ℤ◌, ◌<ℤ◌, Bool, true, false, not, ◌||◌, if◌then◌else◌, IsTrue, List, get_or, refl}
 use Rattle.std.specs.Bool.{Decides}
 use Rattle.std.specs.List.{list_any, All, Any, Contains}
 use Rattle.std.proofs.lemmas.Int.{by_lt_z}
 use Rattle.std.proofs.lemmas.Bool.{false≢true}
 use Rattle.std.proofs.lemmas.Bool.Decides.{Decides-and, Decides-or, Decides-not, Decides-int_eq}
 use Rattle.std.proofs.lemmas.List.Elements.{All-contains, Contains-get_or}
-use Rattle.std.proofs.lemmas.List.Folds.{Any-from_list_any, list_any-from_Any, list_any_none}
+use Rattle.std.proofs.lemmas.List.Folds.{Any-from_list_any, list_any-from_Any}
 use Rattle.venue_types.specs.declared.point.Point.{Point}
 use Rattle.plane_exact.specs.Plane.{side, along, squared_distance, square}
 use Rattle.plane_exact.specs.Segment.{Crosses, HaveOppositeSigns, IsNearEdge}
@@ -82,9 +82,10 @@ vertex_stops_decides a b t v = Decides-and _ _ (open_segment_decides a b v) (Dec
 -- ---- lists
 
 pub any_decides : {X : Type 0} (test : X → Bool) (P : X → Type 0) → ((x : X) → Decides (test x) (P x)) → (xs : List X) → Decides (list_any test xs) (Any P xs)
-any_decides test P d xs =
-    (λ h. let a = Any-from_list_any test xs h in (a.0, a.1, a.2, a.3, (d a.1).0 a.4),
-    λ a. list_any-from_Any test xs (a.0, a.1, a.2, a.3, (d a.1).1 a.4))
+any_decides test P d xs = (
+  λ h. let a = Any-from_list_any test xs h in (a.0, a.1, a.2, a.3, (d a.1).0 a.4),
+  λ a. list_any-from_Any test xs (a.0, a.1, a.2, a.3, (d a.1).1 a.4),
+)
 
 -- no item passes
 pub none_decides : {X : Type 0} (test : X → Bool) (xs : List X) → Decides (not (list_any test xs)) ((x : X) → Contains xs x → ¬ IsTrue (test x))
@@ -95,6 +96,7 @@ none_decides test xs =
 -- where a test decides P and not Q, and another Q, no item passes the first exactly where Q follows from P at each
 pub follows_decides : {X : Type 0} (test pardon : X → Bool) (P Q : X → Type 0) → ((x : X) → Decides (test x) (P x × (¬ Q x))) → ((x : X) → Decides (pardon x) (Q x)) → (xs : List X) → Decides (not (list_any test xs)) (All (λ x. P x → Q x) xs)
 follows_decides test pardon P Q d e xs =
-    let none = none_decides test xs in
-    (λ h k x within p. let y = get_or xs k x in stable (pardon y) (e y) (λ n. none.0 h y (Contains-get_or xs k x within) ((d y).1 (p, n))),
-    λ all. none.1 (λ x has passed. let s = (d x).0 passed in s.1 (All-contains (λ y. P y → Q y) xs x all has s.0)))
+    let none = none_decides test xs in (
+      λ h k x within p. let y = get_or xs k x in stable (pardon y) (e y) (λ n. none.0 h y (Contains-get_or xs k x within) ((d y).1 (p, n))),
+      λ all. none.1 (λ x has passed. let s = (d x).0 passed in s.1 (All-contains (λ y. P y → Q y) xs x all has s.0)),
+    )

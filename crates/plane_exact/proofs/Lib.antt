@@ -15,3 +15,4 @@ pub mod DecisionLemmas
 pub mod SightLaw
 pub mod TurnSight
 pub mod SeesLaw
+pub mod LookLemmas

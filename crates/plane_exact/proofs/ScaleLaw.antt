@@ -1,13 +1,10 @@
 -- Figures of which all numbers are taken k times: their edges and points, and what is near them or inside.
-use Rattle.std.proofs.Common.{◌≡◌, ℕ, ◌+◌, ◌*◌, ◌<◌, ◌%◌, zero, suc, Bool, true, false, ◌&&◌, ◌||◌, ℤ, pos, ◌*ℤ◌, ◌≤ℤ◌, ◌<ℤ◌, List, [], ◌∷◌, ◌++◌, cond, map, flat_map, Any, IsTrue, ◌↔◌, ◌⊎◌, inl, inr, refl, ap, ap₂, sym, ◌∙◌, subst, arith}
+use Rattle.std.proofs.Common.{◌≡◌, ℕ, ◌+◌, ◌*◌, ◌<◌, ◌%◌, Bool, true, false, ◌&&◌, ◌||◌, ℤ, pos, ◌*ℤ◌, List, [], ◌∷◌, ◌++◌, cond, map, flat_map, Any, IsTrue, ◌↔◌, inl, inr, refl, ap, ap₂, sym, ◌∙◌, subst, arith}
 use Rattle.std.proofs.lemmas.List.{map-append}
-use Rattle.std.proofs.lemmas.Bool.{false≢true}
 use lib.Signed.{lt_z, le_z}
 use Rattle.venue_types.specs.declared.point.Point.{Point}
 use Rattle.venue_types.specs.declared.point.Ring.{Ring}
-use Rattle.venue_types.specs.declared.point.Part.{Part}
 use Rattle.venue_types.specs.declared.point.Shape.{Shape}
-use Rattle.plane_exact.specs.Plane.{side}
 use Rattle.plane_exact.specs.Segment.{IsNearEdge}
 use Rattle.plane_exact.specs.Figure.{Edge, edges, edges_from, rings, rings_of, ring_edges, ring_points, all_edges, vertices, crossings, meets_ray, IsInside, IsNear, IsNearSome}
 use Rattle.plane_exact.specs.Scaled.{times, scaled, scaled_edge, scaled_ring, scaled_part}
@@ -52,9 +49,10 @@ times_near_end k t a b v h =
 any_changed : {X Y : Type 0} (P : Y → Type 0) (Q : X → Type 0) (f : X → Y) → ((x : X) → P (f x) ↔ Q x) → (xs : List X) → Any P (map f xs) ↔ Any Q xs
 any_changed P Q f same [] = (λ (k, y, within, at, h). absurd (omega (arith, within)), λ (k, y, within, at, h). absurd (omega (arith, within)))
 any_changed P Q f same (x ∷ xs) =
-    let rest = any_changed P Q f same xs in
-    (λ a. elim (any_of_cons P (f x) (map f xs) a) [ inl h ↦ any_here Q x xs ((same x).0 h) | inr h ↦ any_later Q x xs (rest.0 h) ],
-    λ a. elim (any_of_cons Q x xs a) [ inl h ↦ any_here P (f x) (map f xs) ((same x).1 h) | inr h ↦ any_later P (f x) (map f xs) (rest.1 h) ])
+    let rest = any_changed P Q f same xs in (
+      λ a. elim (any_of_cons P (f x) (map f xs) a) [ inl h ↦ any_here Q x xs ((same x).0 h) | inr h ↦ any_later Q x xs (rest.0 h) ],
+      λ a. elim (any_of_cons Q x xs a) [ inl h ↦ any_here P (f x) (map f xs) ((same x).1 h) | inr h ↦ any_later P (f x) (map f xs) (rest.1 h) ],
+    )
 
 pub times_near : (k t : ℕ) (p : Point) (shape : Shape) → 0 < k → IsNear (times k p) (scaled k shape) (k * t) ↔ IsNear p shape t
 unfolding IsNear

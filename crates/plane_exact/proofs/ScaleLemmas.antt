@@ -1,5 +1,5 @@
 -- Numbers of which all are taken n times: their order stays.
-use Rattle.std.proofs.Common.{◌≡◌, ℕ, ◌+◌, ◌*◌, ◌<◌, ◌≤◌, ℤ, pos, ◌+ℤ◌, ◌-ℤ◌, ◌*ℤ◌, ◌≤ℤ◌, ◌<ℤ◌, ◌↔◌, ◌⊎◌, inl, inr, ap, ap₂, sym, ◌∙◌, subst, zero, suc, arith}
+use Rattle.std.proofs.Common.{◌≡◌, ℕ, ◌*◌, ◌<◌, ℤ, pos, ◌+ℤ◌, ◌-ℤ◌, ◌*ℤ◌, ◌≤ℤ◌, ◌<ℤ◌, ◌↔◌, inl, inr, ap₂, sym, ◌∙◌, zero, suc, arith}
 use mathlib.Core.Path.{subst₂}
 use Rattle.std.proofs.lemmas.Int.{ints, by_lt_z}
 use lib.Signed.{clash_ℤ}
@@ -34,8 +34,10 @@ times_zero n x u f =
     (λ e. same x (above.0 (le_same u e)) (below.0 (same_le u e)), λ e. same u (above.1 (le_same x e)) (below.1 (same_le x e))) where
       le_same : (z : ℤ) → z ≡ pos 0 → z ≤ℤ pos 0
       le_same z e = omega (arith, ints)
+
       same_le : (z : ℤ) → z ≡ pos 0 → pos 0 ≤ℤ z
       same_le z e = omega (arith, ints)
+
       same : (z : ℤ) → z ≤ℤ pos 0 → pos 0 ≤ℤ z → z ≡ pos 0
       same z h k = omega (arith, ints)
 
@@ -45,9 +47,10 @@ times_opposite n x y u v f g =
     let x_below = times_lt n x (pos 0) u (pos 0) f z in
     let x_above = times_lt n (pos 0) x (pos 0) u z f in
     let y_below = times_lt n y (pos 0) v (pos 0) g z in
-    let y_above = times_lt n (pos 0) y (pos 0) v z g in
-    (λ s. elim s [ inl h ↦ inl (x_below.0 h.0, y_above.0 h.1) | inr h ↦ inr (x_above.0 h.0, y_below.0 h.1) ],
-    λ s. elim s [ inl h ↦ inl (x_below.1 h.0, y_above.1 h.1) | inr h ↦ inr (x_above.1 h.0, y_below.1 h.1) ])
+    let y_above = times_lt n (pos 0) y (pos 0) v z g in (
+      λ s. elim s [ inl h ↦ inl (x_below.0 h.0, y_above.0 h.1) | inr h ↦ inr (x_above.0 h.0, y_below.0 h.1) ],
+      λ s. elim s [ inl h ↦ inl (x_below.1 h.0, y_above.1 h.1) | inr h ↦ inr (x_above.1 h.0, y_below.1 h.1) ],
+    )
 
 -- ---- products of differences
 
@@ -133,6 +136,7 @@ times_near_edge k t p a b h =
     let within = times_lt (k * k) _ _ _ _ s d in
     let near_start = times_near_point k t a p h in
     let near_end = times_near_point k t b p h in
-    let near_line = times_le ((k * k) * (k * k)) _ _ _ _ (IsTimes-square (k * k) _ _ (times_side k a b p h)) (IsTimes-product (k * k) _ _ _ _ (times_tolerance k t h) d) in
-    (λ n. record { before = λ i. near_start.0 (n.before (back.1 i)); beyond = λ i j. near_end.0 (n.beyond (on.1 i) (past.1 j)); beside = λ i j. near_line.0 (n.beside (on.1 i) (within.1 j)) },
-    λ n. record { before = λ i. near_start.1 (n.before (back.0 i)); beyond = λ i j. near_end.1 (n.beyond (on.0 i) (past.0 j)); beside = λ i j. near_line.1 (n.beside (on.0 i) (within.0 j)) })
+    let near_line = times_le ((k * k) * (k * k)) _ _ _ _ (IsTimes-square (k * k) _ _ (times_side k a b p h)) (IsTimes-product (k * k) _ _ _ _ (times_tolerance k t h) d) in (
+      λ n. record { before = λ i. near_start.0 (n.before (back.1 i)); beyond = λ i j. near_end.0 (n.beyond (on.1 i) (past.1 j)); beside = λ i j. near_line.0 (n.beside (on.1 i) (within.1 j)) },
+      λ n. record { before = λ i. near_start.1 (n.before (back.0 i)); beyond = λ i j. near_end.1 (n.beyond (on.0 i) (past.0 j)); beside = λ i j. near_line.1 (n.beside (on.0 i) (within.0 j)) },
+    )

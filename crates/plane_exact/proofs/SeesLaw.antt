@@ -1,6 +1,5 @@
 -- Sight, asked of the shape of which all numbers are taken four times.
-use Rattle.std.proofs.Common.{◌≡◌, ℕ, ◌*◌, ◌<◌, ℤ, pos, ◌*ℤ◌, Bool, not, ◌&&◌, ◌||◌, IsTrue, ◌↔◌, ◌⊎◌, List, [], ◌∷◌, map, refl, ap, ap₂, sym, ◌∙◌, subst, arith}
-use Rattle.std.specs.Bool.{Decides}
+use Rattle.std.proofs.Common.{◌≡◌, ℕ, ◌*◌, ◌<◌, ℤ, pos, ◌*ℤ◌, Bool, not, ◌&&◌, ◌||◌, IsTrue, ◌↔◌, ◌⊎◌, List, [], ◌∷◌, map, refl, ap, ap₂, sym, ◌∙◌, arith}
 use Rattle.std.specs.List.{list_any, Contains}
 use Rattle.std.proofs.lemmas.Int.{ints}
 use Rattle.std.proofs.lemmas.Bool.Decides.{Decides-and}
@@ -102,10 +101,12 @@ sees_walls a b shape t =
     let points = vertices (scaled 4 shape) in
     let edges = none_decides (edge_stops from to (4 * t)) list in
     let corners = none_decides (vertex_stops from to (4 * t)) points in
-    let all = Decides-and _ _ edges (Decides-and _ _ corners (held_decides (middle_of a b) (scaled 4 shape) (4 * t))) in
-    (λ s. let h = all.0 (same_sight a b shape t ∙ (sight_decides a b shape t).1 s) in (no_wall list points from to (4 * t) h.0 h.1.0, h.1.1),
-    λ h. (sight_decides a b shape t).0
-    (sym (same_sight a b shape t)
-    ∙ all.1 (
-    (λ edge has stopped. h.0 (wall.Edge edge.from edge.to) has ((edge_stops_decides from to (4 * t) edge).0 stopped)),
-    ((λ v has stopped. h.0 (wall.Vertex v) has ((vertex_stops_decides from to (4 * t) v).0 stopped)), h.1))))
+    let all = Decides-and _ _ edges (Decides-and _ _ corners (held_decides (middle_of a b) (scaled 4 shape) (4 * t))) in (
+      λ s. let h = all.0 (same_sight a b shape t ∙ (sight_decides a b shape t).1 s) in (no_wall list points from to (4 * t) h.0 h.1.0, h.1.1),
+      λ h. (sight_decides a b shape t).0
+          (sym (same_sight a b shape t)
+          ∙ all.1 (
+            (λ edge has stopped. h.0 (wall.Edge edge.from edge.to) has ((edge_stops_decides from to (4 * t) edge).0 stopped)),
+            ((λ v has stopped. h.0 (wall.Vertex v) has ((vertex_stops_decides from to (4 * t) v).0 stopped)), h.1),
+          )),
+    )

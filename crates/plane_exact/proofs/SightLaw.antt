@@ -1,11 +1,11 @@
 -- Sight as it is computed is sight.
-use Rattle.std.proofs.Common.{◌≡◌, ℕ, ◌*◌, ◌%◌, Bool, not, ◌&&◌, ◌||◌, IsTrue, ◌↔◌, ◌⊎◌}
+use Rattle.std.proofs.Common.{ℕ, ◌*◌, ◌%◌, ◌||◌, ◌⊎◌}
 use Rattle.std.specs.Bool.{Decides}
 use Rattle.std.proofs.lemmas.Bool.Decides.{Decides-and, Decides-or, Decides-eqb}
 use Rattle.venue_types.specs.declared.point.Point.{Point}
 use Rattle.venue_types.specs.declared.point.Spot.{Spot}
 use Rattle.venue_types.specs.declared.point.Shape.{Shape}
-use Rattle.plane_exact.specs.Segment.{Crosses, IsNearEdge}
+use Rattle.plane_exact.specs.Segment.{Crosses}
 use Rattle.plane_exact.specs.Figure.{Edge, all_edges, vertices, crossings, IsInside, IsNear}
 use Rattle.plane_exact.specs.Scaled.{scaled}
 use Rattle.plane_exact.specs.Sight.{Sight, OnOpenSegment, HasEndNearEdge, HasEndNear, at_spot, middle_of}

@@ -1,15 +1,14 @@
 -- Who is seen sees.
-use Rattle.std.proofs.Common.{◌≡◌, ℕ, ◌*◌, ◌+◌, ℤ, pos, neg_ℤ, ◌+ℤ◌, ◌-ℤ◌, ◌*ℤ◌, ◌≤ℤ◌, ◌<ℤ◌, ◌⊎◌, inl, inr, length, ap₂, subst, sym, arith}
-use Rattle.std.specs.List.{All}
+use Rattle.std.proofs.Common.{◌≡◌, ℕ, ◌*◌, ℤ, pos, neg_ℤ, ◌+ℤ◌, ◌-ℤ◌, ◌<ℤ◌, ◌⊎◌, inl, inr, ap₂, subst, arith}
 use Rattle.std.proofs.lemmas.Int.{ints}
 use Rattle.venue_types.specs.declared.point.Point.{Point}
 use Rattle.venue_types.specs.declared.point.Spot.{Spot}
 use Rattle.venue_types.specs.declared.point.Shape.{Shape}
 use Rattle.plane_exact.specs.Plane.{side, along, squared_distance, square}
 use Rattle.plane_exact.specs.Segment.{Crosses, HaveOppositeSigns}
-use Rattle.plane_exact.specs.Figure.{Edge, IsInside, IsNear}
+use Rattle.plane_exact.specs.Figure.{IsInside, IsNear}
 use Rattle.plane_exact.specs.Scaled.{scaled}
-use Rattle.plane_exact.specs.Sight.{Sight, OnOpenSegment, HasEndNearEdge, HasEndNear, middle_of}
+use Rattle.plane_exact.specs.Sight.{Sight, OnOpenSegment, middle_of}
 use Rattle.plane_exact.proofs.PolynomialLemmas.{rep, rep-add, rep-sub, rep-neg, rep-mul, rep-same}
 
 side_turned : (a b v : Point) → side b a v ≡ neg_ℤ (side a b v)
@@ -42,6 +41,7 @@ opposite_turned : (m n u v : ℤ) → u ≡ neg_ℤ m → v ≡ neg_ℤ n → Ha
 opposite_turned m n u v e f h = elim h [ inl s ↦ inr (above m u e s.0, below n v f s.1) | inr s ↦ inl (below m u e s.0, above n v f s.1) ] where
   above : (m u : ℤ) → u ≡ neg_ℤ m → m <ℤ pos 0 → pos 0 <ℤ u
   above m u e h = omega (arith, ints)
+
   below : (m u : ℤ) → u ≡ neg_ℤ m → pos 0 <ℤ m → u <ℤ pos 0
   below m u e h = omega (arith, ints)
 

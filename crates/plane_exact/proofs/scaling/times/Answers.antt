@@ -1,6 +1,5 @@
 use Rattle.std.proofs.Common.{◌≡◌, ℕ, ◌≤◌, ℤ, pos, ◌*ℤ◌, to_z, of_z, w64, ap₂, lit<, arith}
 use Rattle.std.proofs.lemmas.Int.{ints}
-use Rattle.venue_types.specs.declared.point.Point.{Point}
 use Rattle.plane_exact.specs.Plane.{IsWithin}
 use Rattle.plane_exact.proofs.NumberLemmas.{IsWithin-mul, fits_from_IsWithin, read_back}
 use Rattle.plane_exact.proofs.scaling.times.Goals as goal
