@@ -9,3 +9,10 @@ pub mod ParityLemmas
 pub mod PolynomialLemmas
 pub mod NearLaw
 pub mod DetourLaw
+pub mod ScaleLemmas
+pub mod ScaleLaw
+pub mod DecisionLemmas
+pub mod SightLaw
+pub mod TurnSight
+pub mod SeesLaw
+pub mod LookLemmas

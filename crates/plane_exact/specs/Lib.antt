@@ -7,4 +7,5 @@ pub mod Scaled
 pub mod Sight
 pub mod Walls
 pub mod Seeing
+pub mod Looks
 pub mod Corners
