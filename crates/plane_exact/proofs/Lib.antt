@@ -9,3 +9,4 @@ pub mod ParityLemmas
 pub mod PolynomialLemmas
 pub mod NearLaw
 pub mod DetourLaw
+pub mod AreaLemmas

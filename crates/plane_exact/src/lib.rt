@@ -1,6 +1,7 @@
 //! Predicates on positions, segments and shapes of the plane, and lengths, all exact in whole numbers.
 #![tactic(auto)]
 
+mod areas;
 mod borders;
 mod laws;
 mod lengths;
@@ -9,6 +10,7 @@ mod rays;
 mod segments;
 mod walls;
 
+pub use areas::doubled_area;
 pub use borders::{near, near_chain, near_ring};
 pub use laws::{detour_law, length_law, near_edge_law, turn_law};
 pub use lengths::{length_cm, spans};
