@@ -10,3 +10,4 @@ pub mod PolynomialLemmas
 pub mod NearLaw
 pub mod DetourLaw
 pub mod AreaLemmas
+pub mod TurnLemmas

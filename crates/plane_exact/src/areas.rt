@@ -16,7 +16,7 @@ pub fn doubled_area(ring: &Ring) -> i128
     bounded_area(ring)
 }
 
-/// The same, and how great it may be.
+/// `doubled_area`, with a bound on how great it is.
 pub(crate) fn bounded_area(ring: &Ring) -> i128
     requires { AllNearby ring.now.points }
     ensures value { result ≡ doubled_area ring.now }

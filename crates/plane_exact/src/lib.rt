@@ -8,6 +8,7 @@ mod lengths;
 mod numbers;
 mod rays;
 mod segments;
+mod turns;
 mod walls;
 
 pub use areas::doubled_area;
@@ -16,4 +17,5 @@ pub use laws::{detour_law, length_law, near_edge_law, turn_law};
 pub use lengths::{length_cm, spans};
 pub use rays::{inside, inside_ring, is_odd_at_chain};
 pub use segments::{crosses, near_edge, side};
+pub use turns::corners;
 pub use walls::{Wall, stops};
