@@ -11,3 +11,5 @@ pub mod NearLaw
 pub mod DetourLaw
 pub mod AreaLemmas
 pub mod TurnLemmas
+pub mod CornerLaws
+pub mod ScalingLemmas

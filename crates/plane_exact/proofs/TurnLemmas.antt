@@ -1,7 +1,5 @@
 -- Steps along the turns of a ring, and which of them are corners.
-use Rattle.std.proofs.Common.{◌≡◌, ℕ, zero, suc, ◌+◌, ◌-◌, ◌*◌, ◌<◌, ◌≤◌, ℤ, pos, ◌*ℤ◌, ◌<ℤ◌, ◌≤ℤ◌, Bool, true, false, cond, List, [], ◌∷◌, ◌++◌, map, filter, length, get_or, drop, Contains, refl, ap, sym, ◌∙◌, subst, append_assoc, append-nil, arith}
-use Rattle.std.proofs.lemmas.Int.{ints}
-use lib.Signed.{lt_z}
+use Rattle.std.proofs.Common.{◌≡◌, ℕ, ◌+◌, ◌<◌, ◌≤◌, ℤ, Bool, true, false, cond, List, [], ◌∷◌, ◌++◌, map, filter, length, get_or, drop, Contains, refl, ap, sym, ◌∙◌, subst, append_assoc, append-nil, arith}
 use Rattle.std.specs.List.{dedup}
 use Rattle.std.proofs.lemmas.List.{drop_all}
 use Rattle.std.proofs.lemmas.List.Kept.{Contains-from_dedup}
@@ -16,7 +14,7 @@ use Rattle.plane_exact.proofs.NearbyLemmas.{AllNearby-fewer, AllNearby-origin, C
 abbrev pub found : ℤ → List Turn → List Point
 found area list = map (λ (turn : Turn). turn.at) (filter (is_corner area) list)
 
-found_first : (area : ℤ) (turn : Turn) (list : List Turn) → found area (turn ∷ list) ≡ cond (is_corner area turn) (turn.at ∷ []) [] ++ found area list
+pub found_first : (area : ℤ) (turn : Turn) (list : List Turn) → found area (turn ∷ list) ≡ cond (is_corner area turn) (turn.at ∷ []) [] ++ found area list
 found_first area turn list = by_case (is_corner area turn) where
   by_case : (b : Bool) → map (λ (turn : Turn). turn.at) (cond b (turn ∷ filter (is_corner area) list) (filter (is_corner area) list)) ≡ cond b (turn.at ∷ []) [] ++ found area list
   by_case true = refl

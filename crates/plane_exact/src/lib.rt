@@ -3,19 +3,23 @@
 
 mod areas;
 mod borders;
+mod corner_laws;
 mod laws;
 mod lengths;
 mod numbers;
 mod rays;
+mod scaling;
 mod segments;
 mod turns;
 mod walls;
 
 pub use areas::doubled_area;
 pub use borders::{near, near_chain, near_ring};
+pub use corner_laws::{area_law, corner_law};
 pub use laws::{detour_law, length_law, near_edge_law, turn_law};
 pub use lengths::{length_cm, spans};
 pub use rays::{inside, inside_ring, is_odd_at_chain};
+pub use scaling::scaled;
 pub use segments::{crosses, near_edge, side};
 pub use turns::corners;
 pub use walls::{Wall, stops};

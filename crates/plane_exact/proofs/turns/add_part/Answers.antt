@@ -1,4 +1,4 @@
-use Rattle.std.proofs.Common.{◌≡◌, List, subst, sym}
+use Rattle.std.proofs.Common.{List, subst, sym}
 use Rattle.venue_types.specs.declared.point.Ring.{Ring}
 use Rattle.plane_exact.specs.Figure.{AllNearby, ring_points}
 use Rattle.plane_exact.proofs.NearbyLemmas.{plain_left, plain_right}
