@@ -16,3 +16,7 @@ pub mod SightLaw
 pub mod TurnSight
 pub mod SeesLaw
 pub mod LookLemmas
+pub mod AreaLemmas
+pub mod TurnLemmas
+pub mod CornerLaws
+pub mod ScalingLemmas
