@@ -40,10 +40,10 @@ any_from_back P whole front back e h = subst (Any P) (sym e) (any_right P front 
 
 -- ---- near
 
-least_moved : (range : Band) (n o : ℤ) → IsInBand range (n -ℤ o) → (range.least +ℤ o) ≤ℤ n
+pub least_moved : (range : Band) (n o : ℤ) → IsInBand range (n -ℤ o) → (range.least +ℤ o) ≤ℤ n
 least_moved range n o h = omega (arith, ints)
 
-greatest_moved : (range : Band) (n o : ℤ) → IsInBand range (n -ℤ o) → n ≤ℤ (range.greatest +ℤ o)
+pub greatest_moved : (range : Band) (n o : ℤ) → IsInBand range (n -ℤ o) → n ≤ℤ (range.greatest +ℤ o)
 greatest_moved range n o h = omega (arith, ints)
 
 at_moved : (range : Band) (c o m : ℤ) (s : ℕ) → m ≡ c -ℤ o → (range.least +ℤ o) ≤ℤ (c +ℤ pos s) → c ≤ℤ ((range.greatest +ℤ o) +ℤ pos s) → IsAtBand range m s
