@@ -30,9 +30,9 @@ mean_of : (d s a b v : ℤ) → d *ℤ (v -ℤ a) ≡ s *ℤ (b -ℤ a) → ((d 
 mean_of d s a b v e =
     let rest = rep-sub (rep d) (rep s) in
     let whole : ((d -ℤ s) *ℤ a) +ℤ (s *ℤ b) ≡ (((d -ℤ s) *ℤ v) +ℤ (s *ℤ v)) +ℤ ((s *ℤ (b -ℤ a)) -ℤ (d *ℤ (v -ℤ a))) = rep-same
-      (rep-add (rep-mul rest (rep a)) (rep-mul (rep s) (rep b)))
-      (rep-add (rep-add (rep-mul rest (rep v)) (rep-mul (rep s) (rep v))) (rep-sub (rep-mul (rep s) (rep-sub (rep b) (rep a))) (rep-mul (rep d) (rep-sub (rep v) (rep a)))))
-      (omega arith) in
+    (rep-add (rep-mul rest (rep a)) (rep-mul (rep s) (rep b)))
+    (rep-add (rep-add (rep-mul rest (rep v)) (rep-mul (rep s) (rep v))) (rep-sub (rep-mul (rep s) (rep-sub (rep b) (rep a))) (rep-mul (rep d) (rep-sub (rep v) (rep a)))))
+    (omega arith) in
     without (((d -ℤ s) *ℤ a) +ℤ (s *ℤ b)) (((d -ℤ s) *ℤ v) +ℤ (s *ℤ v)) (s *ℤ (b -ℤ a)) (d *ℤ (v -ℤ a)) whole e
 
 x_parts : (a b v : Point) → side a b v ≡ pos 0 → squared_distance a b *ℤ (v.x -ℤ a.x) ≡ along a b v *ℤ (b.x -ℤ a.x)

@@ -1,4 +1,4 @@
-use Rattle.std.proofs.Common.{◌∷◌, drop}
+use Rattle.std.proofs.Common.{drop}
 use Rattle.plane_exact.specs.Figure.{ring_edges, ring_points}
 use Rattle.plane_trees.proofs.WallLemmas.{AreRingsAhead}
 use Rattle.plane_trees.proofs.grove_walls.wall_of_bands.Given as goal
