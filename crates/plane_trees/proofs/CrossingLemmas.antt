@@ -1,5 +1,5 @@
 -- Two segments that cross have a common point, so in no direction do their ranges lie apart.
-use Rattle.std.proofs.Common.{◌≡◌, ℕ, ◌+◌, ◌*◌, ◌<◌, ℤ, pos, negsuc, neg_ℤ, ◌+ℤ◌, ◌-ℤ◌, ◌*ℤ◌, ◌≤ℤ◌, ◌<ℤ◌, unsigned_abs, List, ◌∷◌, All, Contains, ◌⊎◌, inl, inr, subst, sym, ◌∙◌, refl, arith}
+use Rattle.std.proofs.Common.{◌≡◌, ℕ, ◌+◌, ◌<◌, ℤ, pos, neg_ℤ, ◌+ℤ◌, ◌-ℤ◌, ◌*ℤ◌, ◌≤ℤ◌, ◌<ℤ◌, unsigned_abs, List, ◌∷◌, All, Contains, inl, inr, sym, refl, arith}
 use Rattle.std.proofs.lemmas.Int.{ints}
 use Rattle.venue_types.specs.declared.point.Point.{Point}
 use Rattle.plane_exact.specs.Plane.{side}
@@ -46,7 +46,7 @@ turned_product : (x v : ℤ) → neg_ℤ x *ℤ v ≡ neg_ℤ (x *ℤ v)
 turned_product x v = rep-same (rep-mul (rep-neg (rep x)) (rep v)) (rep-neg (rep-mul (rep x) (rep v))) (omega arith)
 
 -- weights in whole numbers above 0
-weighed : (a b c d : Point) (u s v r : ℤ) → pos 0 <ℤ u → pos 0 <ℤ s → pos 0 <ℤ v → pos 0 <ℤ r → u +ℤ s ≡ v +ℤ r → (u *ℤ a.x) +ℤ (s *ℤ b.x) ≡ (v *ℤ c.x) +ℤ (r *ℤ d.x) → (u *ℤ a.y) +ℤ (s *ℤ b.y) ≡ (v *ℤ c.y) +ℤ (r *ℤ d.y) → HaveCommonPoint a b c d
+pub weighed : (a b c d : Point) (u s v r : ℤ) → pos 0 <ℤ u → pos 0 <ℤ s → pos 0 <ℤ v → pos 0 <ℤ r → u +ℤ s ≡ v +ℤ r → (u *ℤ a.x) +ℤ (s *ℤ b.x) ≡ (v *ℤ c.x) +ℤ (r *ℤ d.x) → (u *ℤ a.y) +ℤ (s *ℤ b.y) ≡ (v *ℤ c.y) +ℤ (r *ℤ d.y) → HaveCommonPoint a b c d
 weighed a b c d u s v r hu hs hv hr parts x y =
     let nu = natural u hu in
     let ns = natural s hs in
@@ -132,14 +132,14 @@ subtracted : (a b c d i j k l : ℤ) → a +ℤ b ≡ c +ℤ d → i +ℤ j ≡ 
 subtracted a b c d i j k l e f = omega (arith, ints)
 
 -- the common point's coordinate in a direction
-balanced : (way : Direction) (a b c d : Point) (u s v r : ℕ) → CommonPoint a b c d u s v r → (pos u *ℤ coordinate way a) +ℤ (pos s *ℤ coordinate way b) ≡ (pos v *ℤ coordinate way c) +ℤ (pos r *ℤ coordinate way d)
+pub balanced : (way : Direction) (a b c d : Point) (u s v r : ℕ) → CommonPoint a b c d u s v r → (pos u *ℤ coordinate way a) +ℤ (pos s *ℤ coordinate way b) ≡ (pos v *ℤ coordinate way c) +ℤ (pos r *ℤ coordinate way d)
 balanced Longitude a b c d u s v r h = h.x
 balanced Latitude a b c d u s v r h = h.y
 balanced Rising a b c d u s v r h = rw (times_sum u a.x a.y, times_sum s b.x b.y, times_sum v c.x c.y, times_sum r d.x d.y) (added (pos u *ℤ a.x) (pos s *ℤ b.x) (pos v *ℤ c.x) (pos r *ℤ d.x) (pos u *ℤ a.y) (pos s *ℤ b.y) (pos v *ℤ c.y) (pos r *ℤ d.y) h.x h.y)
 balanced Falling a b c d u s v r h = rw (times_difference u a.x a.y, times_difference s b.x b.y, times_difference v c.x c.y, times_difference r d.x d.y) (subtracted (pos u *ℤ a.x) (pos s *ℤ b.x) (pos v *ℤ c.x) (pos r *ℤ d.x) (pos u *ℤ a.y) (pos s *ℤ b.y) (pos v *ℤ c.y) (pos r *ℤ d.y) h.x h.y)
 
 -- a mean of numbers at most m is at most m, one of numbers above m is above it
-means_apart : (m a b c d : ℤ) (u s v r : ℕ) → 0 < v → u + s ≡ v + r → a ≤ℤ m → b ≤ℤ m → m <ℤ c → m <ℤ d → (pos u *ℤ a) +ℤ (pos s *ℤ b) ≡ (pos v *ℤ c) +ℤ (pos r *ℤ d) → ⊥
+pub means_apart : (m a b c d : ℤ) (u s v r : ℕ) → 0 < v → u + s ≡ v + r → a ≤ℤ m → b ≤ℤ m → m <ℤ c → m <ℤ d → (pos u *ℤ a) +ℤ (pos s *ℤ b) ≡ (pos v *ℤ c) +ℤ (pos r *ℤ d) → ⊥
 means_apart m a b c d u s v r some parts ha hb hc hd e =
     let from_a = multiple_le u a m ha in
     let from_b = multiple_le s b m hb in

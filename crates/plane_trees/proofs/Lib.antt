@@ -8,3 +8,5 @@ pub mod SightLemmas
 pub mod RunLemmas
 pub mod GrowLemmas
 pub mod GroveLemmas
+pub mod OnSegmentLemmas
+pub mod WallLemmas

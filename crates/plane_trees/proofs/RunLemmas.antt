@@ -1,5 +1,5 @@
 -- Steps of the walks over runs: what two parts answer makes up what the whole answers.
-use Rattle.std.proofs.Common.{◌≡◌, ℕ, zero, suc, ◌+◌, ◌*◌, ◌<◌, ℤ, pos, ◌+ℤ◌, ◌-ℤ◌, ◌≤ℤ◌, ◌<ℤ◌, Bool, true, false, IsTrue, ◌↔◌, ◌⊎◌, inl, inr, List, [], ◌∷◌, ◌++◌, length, drop, get_or, All, Any, Contains, Option, Some, IfSome, refl, sym, ap, subst, ◌∙◌, arith}
+use Rattle.std.proofs.Common.{◌≡◌, ℕ, ◌+◌, ◌*◌, ◌<◌, ℤ, pos, ◌+ℤ◌, ◌-ℤ◌, ◌≤ℤ◌, ◌<ℤ◌, Bool, true, false, IsTrue, ◌↔◌, ◌⊎◌, inl, inr, List, ◌∷◌, ◌++◌, length, drop, get_or, Any, Contains, Option, Some, IfSome, refl, sym, subst, ◌∙◌, arith}
 use Rattle.std.proofs.lemmas.Int.{ints}
 use Rattle.std.proofs.lemmas.Bool.{false≢true}
 use Rattle.std.proofs.lemmas.List.Elements.{All-weaker}
@@ -12,8 +12,7 @@ use Rattle.plane_exact.specs.Figure.{Edge, edges_from, IsNearSome, HaveCrossing}
 use Rattle.plane_trees.specs.Line.{Direction, coordinate, stretch}
 use Rattle.plane_trees.specs.Octagons.{offset, kept, IsOffset, band, IsInBand, IsAtBand, IsRound, AreApart}
 use Rattle.plane_trees.specs.Trees.{CrossesSome, CrossEachOther}
-use Rattle.plane_exact.proofs.ListLemmas.{drop_at, any_here, any_later, any_past, any_left, any_right, any_of_cons, any_of_append, any_past_all}
-use Rattle.plane_exact.proofs.SegmentLemmas.{iff_along}
+use Rattle.plane_exact.proofs.ListLemmas.{drop_at, any_here, any_past, any_left, any_right, any_of_append}
 use Rattle.plane_trees.proofs.NearLineLemmas.{line_at_most, line_at_least}
 use Rattle.plane_trees.proofs.CrossingLemmas.{lines_apart}
 
@@ -40,10 +39,10 @@ any_from_back P whole front back e h = subst (Any P) (sym e) (any_right P front 
 
 -- ---- near
 
-least_moved : (range : Band) (n o : ℤ) → IsInBand range (n -ℤ o) → (range.least +ℤ o) ≤ℤ n
+pub least_moved : (range : Band) (n o : ℤ) → IsInBand range (n -ℤ o) → (range.least +ℤ o) ≤ℤ n
 least_moved range n o h = omega (arith, ints)
 
-greatest_moved : (range : Band) (n o : ℤ) → IsInBand range (n -ℤ o) → n ≤ℤ (range.greatest +ℤ o)
+pub greatest_moved : (range : Band) (n o : ℤ) → IsInBand range (n -ℤ o) → n ≤ℤ (range.greatest +ℤ o)
 greatest_moved range n o h = omega (arith, ints)
 
 at_moved : (range : Band) (c o m : ℤ) (s : ℕ) → m ≡ c -ℤ o → (range.least +ℤ o) ≤ℤ (c +ℤ pos s) → c ≤ℤ ((range.greatest +ℤ o) +ℤ pos s) → IsAtBand range m s

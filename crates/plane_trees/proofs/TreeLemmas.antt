@@ -1,7 +1,7 @@
 -- The halves of a line, and the trees of octagons over them.
-use Rattle.std.proofs.Common.{◌≡◌, ℕ, zero, suc, ◌+◌, ◌-◌, ◌/◌, ◌%◌, ◌<◌, ◌≤◌, List, [], ◌∷◌, ◌++◌, length, take, drop, get_or, Contains, refl, sym, ap, subst, ◌∙◌, arith}
+use Rattle.std.proofs.Common.{◌≡◌, ℕ, zero, suc, ◌-◌, ◌/◌, ◌≤◌, List, [], ◌∷◌, ◌++◌, length, take, drop, get_or, Contains, ◌⊎◌, inl, inr, refl, sym, ap, subst, ◌∙◌, arith}
 use Rattle.std.proofs.lemmas.List.{take_all}
-use Rattle.std.proofs.lemmas.List.Elements.{Contains-append_left}
+use Rattle.std.proofs.lemmas.List.Elements.{Contains-append_left, Contains-append_cases}
 use Rattle.venue_types.specs.declared.point.Point.{Point}
 use Rattle.plane_trees.specs.declared.octagons.Octagon.{Octagon}
 use Rattle.plane_exact.specs.Figure.{Edge, edges_from}
@@ -55,6 +55,10 @@ from_middle a q middle front back e (suc k, within, at) = later_contained a q fr
 
 pub back_contained : (a q middle : Point) (rest front back : List Point) → rest ≡ front ++ back → middle ≡ last_from a front → Contains (middle ∷ back) q → Contains (a ∷ rest) q
 back_contained a q middle rest front back e f h = subst (λ (xs : List Point). Contains (a ∷ xs) q) (sym e) (from_middle a q middle front back f h)
+
+-- each point is one of the two parts'
+pub parts_cover : (a q middle : Point) (rest front back : List Point) → rest ≡ front ++ back → Contains (a ∷ rest) q → Contains (a ∷ front) q ⊎ Contains (middle ∷ back) q
+parts_cover a q middle rest front back e h = elim (Contains-append_cases (a ∷ front) back q (subst (λ (xs : List Point). Contains (a ∷ xs) q) e h)) [ inl k ↦ inl k | inr k ↦ inr (Contains-later q middle back k) ]
 
 -- ---- the halves of a tree
 

@@ -1,5 +1,5 @@
 -- How the code keeps runs of edges and their octagons: machinery of `Bands`, named by no public clause.
-use Rattle.std.specs.Prelude.{◌≡◌, ℕ, zero, suc, ◌+◌, ◌*◌, ◌/◌, ◌%◌, ◌<◌, ◌↔◌, Option, Some, None, List, [], ◌∷◌, ◌++◌, length, take, drop, Any, Contains, pos}
+use Rattle.std.specs.Prelude.{◌≡◌, ℕ, zero, suc, ◌+◌, ◌/◌, ◌%◌, ◌<◌, ◌↔◌, List, [], ◌∷◌, ◌++◌, length, take, drop, Any, Contains, pos, ◌⊎◌}
 use Rattle.venue_types.specs.declared.point.Point.{Point}
 use Rattle.venue_types.specs.declared.point.Ring.{Ring}
 use Rattle.plane_trees.specs.declared.octagons.Octagon.{Octagon}
@@ -7,6 +7,9 @@ use Rattle.plane_trees.specs.declared.octagons.Sight.{Sight}
 use Rattle.plane_trees.specs.declared.octagons.Sight.TheVariants.{Missed, Before, Among}
 use Rattle.plane_trees.specs.declared.runs.Run.{Run}
 use Rattle.plane_trees.specs.declared.runs.Asked.{Asked}
+use Rattle.plane_trees.specs.declared.run_walls.Way.{Way}
+use Rattle.plane_exact.specs.declared.walls.Wall.{Wall}
+use Rattle.plane_exact.specs.Walls.{IsAmong, Stops}
 use Rattle.plane_exact.specs.Plane.{IsWithin}
 use Rattle.plane_exact.specs.Segment.{Crosses}
 use Rattle.plane_exact.specs.Figure.{Edge, edges_from, crossings, ring_points}
@@ -59,6 +62,7 @@ pub record AreHalves (run front back : Run) : Type 0 where
   pub edges : run_edges run ≡ run_edges front ++ run_edges back
   pub front_points : (q : Point) → Contains (run_points front) q → Contains (run_points run) q
   pub back_points : (q : Point) → Contains (run_points back) q → Contains (run_points run) q
+  pub points : (q : Point) → Contains (run_points run) q → Contains (run_points front) q ⊎ Contains (run_points back) q
   pub front_sound : (origin : Point) → IsSound origin run → IsSound origin front
   pub back_sound : (origin : Point) → IsSound origin run → IsSound origin back
   pub front_depth : front.depth < run.depth
@@ -77,6 +81,20 @@ CrossesSome a b list = Any (λ edge. Crosses a b edge.from edge.to) list
 -- some edge of the one row crosses some edge of the other
 abbrev pub CrossEachOther : List Edge → List Edge → Type 0
 CrossEachOther one other = Any (λ edge. CrossesSome edge.from edge.to other) one
+
+-- ---- walls
+
+-- the octagon of the way lies round its ends
+abbrev pub IsRoundWay : Way → Type 0
+IsRoundWay way = IsRound way.octagon way.origin (way.start ∷ way.end ∷ [])
+
+-- one of these edges and points, and it stops the way from a to b
+abbrev pub IsObstacle : List Edge → List Point → Point → Point → ℕ → Wall → Type 0
+IsObstacle list points a b t wall = IsAmong list points wall × Stops wall a b t
+
+-- none of them stops the way
+abbrev pub IsFree : List Edge → List Point → Point → Point → ℕ → Type 0
+IsFree list points a b t = (wall : Wall) → IsAmong list points wall → ¬ Stops wall a b t
 
 -- ---- rings
 

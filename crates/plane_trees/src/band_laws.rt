@@ -5,6 +5,7 @@ ghost use Rattle.venue_types.specs.declared.point.Point.{Point};
 ghost use Rattle.venue_types.specs.declared.point.Ring.{Ring};
 ghost use Rattle.venue_types.specs.declared.point.Shape.{Shape};
 ghost use Rattle.plane_exact.specs.Segment.{Crosses};
+ghost use Rattle.plane_exact.specs.Sight.{OnOpenSegment};
 ghost use Rattle.plane_exact.specs.Figure.{Edge, edges, edges_from, crossings, rings, vertices, IsInside, IsNearSome};
 ghost use Rattle.plane_trees.specs.Line.{last_from, slant, IsBetween, IsClosed, Direction, coordinate, stretch, HaveCommonPoint};
 
@@ -34,4 +35,10 @@ pub fn near_line_law()
 pub fn crossing_law()
     ensures common { (a b c d : Point) → Crosses a b c d → HaveCommonPoint a b c d }
     ensures apart { (way : Direction) (m : ℤ) (a c : Point) (rest more : List Point) (one other : Edge) → All (λ q. coordinate way q ≤ℤ m) (a ∷ rest) → All (λ q. m <ℤ coordinate way q) (c ∷ more) → Contains (edges_from a rest) one → Contains (edges_from c more) other → ¬ Crosses one.from one.to other.from other.to }
+{}
+
+/// A position on a segment, strictly between its ends, lies in the range of the two in each direction.
+pub fn on_segment_law()
+    ensures least { (way : Direction) (m : ℤ) (a b v : Point) → OnOpenSegment a b v → m ≤ℤ coordinate way a → m ≤ℤ coordinate way b → m ≤ℤ coordinate way v }
+    ensures greatest { (way : Direction) (m : ℤ) (a b v : Point) → OnOpenSegment a b v → coordinate way a ≤ℤ m → coordinate way b ≤ℤ m → coordinate way v ≤ℤ m }
 {}

@@ -1,14 +1,20 @@
 //! A shape made ready for many questions.
 
-ghost use Rattle.std.specs.Prelude.{◌≡◌, ◌∷◌, ◌++◌, ◌≤◌, ◌↔◌, IsTrue, IfOk, OnOk};
+ghost use Rattle.std.specs.Prelude.{◌≡◌, ◌∷◌, ◌++◌, ◌≤◌, ◌↔◌, IsTrue, IfOk, OnOk, IfSome, IfNone};
 ghost use Rattle.plane_exact.specs.Figure.{AllNearby, vertices, rings, rings_of, part_points, IsInside, IsNear};
+ghost use Rattle.plane_exact.specs.Walls.{IsWallOf, Stops};
+ghost use Rattle.plane_exact.specs.declared.walls.Wall.{Wall};
 
 use crate::grove_borders::{is_near_bands, is_near_grove};
 use crate::grove_rays::{is_odd_at_bands, is_odd_at_grove};
+use crate::grove_walls::{wall_of_bands, wall_of_grove};
 use crate::groves::{Grove, Over};
+use crate::octagons::octagon_of;
 use crate::over::over_of;
 use crate::ring_bands::RingBands;
+use crate::run_walls::Way;
 use crate::runs::Asked;
+use plane_exact::Wall;
 use std::alloc::Global;
 use std::marker::Model;
 use venue_types::{OutOfMemory, Part, Point, Shape};
@@ -84,6 +90,35 @@ impl<'a> Bands<'a> {
                     octagons: over.octagons.as_slice(),
                 };
                 is_near_grove(&Asked::of(over.origin, p), grove, t)
+            }
+        }
+    }
+
+    /// A wall of the shape that stops the way from `a` to `b`, or nothing where none does: an edge that the way crosses or a vertex on
+    /// it, from which both ends are farther than `t` nanodegrees. On most shapes looks at a number of octagons that grows as the
+    /// logarithm of its edges.
+    pub fn wall_between(&self, a: Point, b: Point, t: u32) -> Option<Wall>
+        requires near { AllNearby (a ∷ b ∷ vertices self.now) }
+        requires tolerance { t ≤ 4000000 }
+        ensures found { IfSome result (λ wall. IsWallOf self.now wall × Stops wall a b t) }
+        ensures none { IfNone result ((wall : Wall) → IsWallOf self.now wall → ¬ Stops wall a b t) }
+    {
+        match &self.over {
+            None => wall_of_bands(a, b, t, self.banded.as_slice()),
+            Some(over) => {
+                let grove = Grove {
+                    rings: self.banded.as_slice(),
+                    depth: over.depth,
+                    octagons: over.octagons.as_slice(),
+                };
+                let way = Way {
+                    start: a,
+                    end: b,
+                    tolerance: t,
+                    origin: over.origin,
+                    octagon: octagon_of(over.origin, a, &[b]),
+                };
+                wall_of_grove(&way, grove)
             }
         }
     }

@@ -1,16 +1,18 @@
 //! A ring made ready for many questions, and whether a ring crosses itself.
 
-ghost use Rattle.std.specs.Prelude.{◌≡◌, ◌∷◌, ◌≤◌, ◌%◌, ◌↔◌, IsTrue, IfOk, IfSome, Contains};
+ghost use Rattle.std.specs.Prelude.{◌≡◌, ◌∷◌, ◌≤◌, ◌%◌, ◌↔◌, IsTrue, IfOk, IfSome, IfNone, Contains};
 ghost use Rattle.plane_exact.specs.Figure.{AllNearby, edges, crossings, IsNearSome, HaveCrossing};
 ghost use Rattle.plane_trees.specs.Octagons.{IsRound};
-ghost use Rattle.plane_trees.specs.Trees.{IsClosedRing};
+ghost use Rattle.plane_trees.specs.Trees.{IsClosedRing, IsObstacle, IsFree};
 
 use crate::octagons::{NOTHING, Octagon, octagon_of};
 use crate::run_borders::is_near_run;
 use crate::run_crossings::crosses_itself;
 use crate::run_rays::is_odd_at_run;
+use crate::run_walls::{Way, wall_of_run};
 use crate::runs::{Asked, Run, last_of};
 use crate::tree_growth::{Tree, tree_of};
+use plane_exact::Wall;
 use std::alloc::Global;
 use std::marker::Model;
 use venue_types::{OutOfMemory, Point, Ring};
@@ -96,6 +98,35 @@ impl<'a> RingBands<'a> {
                     octagons: self.octagons.as_slice(),
                 };
                 is_near_run(&Asked::of(*first, p), run, t)
+            }
+        }
+    }
+
+    /// A wall of the ring that stops the way from `a` to `b`, or nothing where none does.
+    pub(crate) fn wall_between(&self, a: Point, b: Point, t: u32) -> Option<Wall>
+        requires near { AllNearby (a ∷ b ∷ self.now.points) }
+        requires tolerance { t ≤ 4000000 }
+        ensures found { IfSome result (λ wall. IsObstacle (edges self.now.points) self.now.points a b t wall) }
+        ensures none { IfNone result (IsFree (edges self.now.points) self.now.points a b t) }
+    {
+        let ring = self.ring;
+        match ring.points.as_slice() {
+            [] => None,
+            [first, rest @ ..] => {
+                let run = Run {
+                    start: *first,
+                    rest,
+                    depth: self.depth,
+                    octagons: self.octagons.as_slice(),
+                };
+                let way = Way {
+                    start: a,
+                    end: b,
+                    tolerance: t,
+                    origin: *first,
+                    octagon: octagon_of(*first, a, &[b]),
+                };
+                wall_of_run(&way, run)
             }
         }
     }
