@@ -1,18 +1,21 @@
--- Positions in one box are close to one another.
+-- Positions in one box are nearby one another.
 use Rattle.std.proofs.Common.{◌≡◌, List, [], ◌∷◌, All, subst, sym, arith}
 use Rattle.std.proofs.lemmas.Int.{ints}
-use Rattle.std.proofs.lemmas.List.Elements.{All-nil, All-cons, All-append, All-contains}
+use Rattle.std.proofs.lemmas.List.Elements.{All-nil, All-cons, All-append, All-contains, All-map, All-weaker}
 use mathlib.Core.Path.{subst₂}
 use Rattle.venue_types.specs.declared.point.Ring.{Ring}
 use Rattle.venue_types.specs.declared.point.Part.{Part}
-use Rattle.plane_exact.specs.Figure.{vertices}
 use Rattle.venue_types.specs.declared.point.Point.{Point}
 use Rattle.venue_types.specs.declared.point.Spot.{Spot}
-use Rattle.plane_exact.specs.Plane.{IsClose, IsCloseDoubled}
-use Rattle.plane_exact.specs.Figure.{AllClose}
-use Rattle.test_figures.specs.Boxes.{IsInBox, IsInDoubledBox}
+use Rattle.plane_exact.specs.Plane.{IsNearby, IsInRange, IsCloseDoubled}
+use Rattle.plane_exact.specs.Figure.{AllNearby, vertices}
+use Rattle.venue_types.specs.declared.point.Shape.{Shape}
+use Rattle.plane_exact.specs.Scaled.{times, scaled}
+use Rattle.plane_exact.specs.Sight.{at_spot}
+use Rattle.plane_exact.proofs.ScaleLaw.{points_of_scaled}
+use Rattle.test_figures.specs.Boxes.{IsInBox, IsInDoubledBox, IsInWideBox}
 
-pub box_close : (a b : Point) → IsInBox a → IsInBox b → IsClose a b
+pub box_close : (a b : Point) → IsInBox a → IsInBox b → IsNearby a b
 box_close a b h k = record {
   x = record { above = omega (arith, ints); below = omega (arith, ints) };
   y = record { above = omega (arith, ints); below = omega (arith, ints) };
@@ -24,10 +27,10 @@ doubled_close a b h k = record {
   y = record { above = omega (arith, ints); below = omega (arith, ints) };
 }
 
-pub all_close : (p : Point) (points : List Point) → IsInBox p → All IsInBox points → AllClose (p ∷ points)
+pub all_close : (p : Point) (points : List Point) → IsInBox p → All IsInBox points → AllNearby (p ∷ points)
 all_close p points h k =
     let all = All-cons IsInBox p points h k in
-    record { close = λ a b inside_a inside_b. box_close a b (All-contains IsInBox (p ∷ points) a all inside_a) (All-contains IsInBox (p ∷ points) b all inside_b) }
+    record { near = λ a b inside_a inside_b. box_close a b (All-contains IsInBox (p ∷ points) a all inside_a) (All-contains IsInBox (p ∷ points) b all inside_b) }
 
 -- of a polygon with a hole and one without
 pub two_polygons : (outer hole notch : Ring) (holes none : List Ring) (parts : List Part) → parts ≡ record { outer = outer; holes = holes } ∷ record { outer = notch; holes = none } ∷ [] → holes ≡ hole ∷ [] → none ≡ [] → All IsInBox outer.points → All IsInBox hole.points → All IsInBox notch.points → All IsInBox (vertices (record { parts = parts }))
@@ -38,5 +41,54 @@ two_polygons outer hole notch holes none parts e f g h k l =
     subst P (sym e) (subst₂ Q (sym f) (sym g) whole)
 
 -- of the points alone
-pub points_close : (points : List Point) → All IsInBox points → AllClose points
-points_close points all = record { close = λ a b inside_a inside_b. box_close a b (All-contains IsInBox points a all inside_a) (All-contains IsInBox points b all inside_b) }
+pub points_close : (points : List Point) → All IsInBox points → AllNearby points
+points_close points all = record { near = λ a b inside_a inside_b. box_close a b (All-contains IsInBox points a all inside_a) (All-contains IsInBox points b all inside_b) }
+
+-- ---- the same with all numbers taken four times
+
+wide_near : (a b : Point) → IsInWideBox a → IsInWideBox b → IsNearby a b
+wide_near a b h k = record {
+  x = record { above = omega (arith, ints); below = omega (arith, ints) };
+  y = record { above = omega (arith, ints); below = omega (arith, ints) };
+}
+
+pub all_wide_near : (points : List Point) → All IsInWideBox points → AllNearby points
+all_wide_near points all = record { near = λ a b inside_a inside_b. wide_near a b (All-contains IsInWideBox points a all inside_a) (All-contains IsInWideBox points b all inside_b) }
+
+four_times : (a : Point) → IsInBox a → IsInWideBox (times 4 a)
+four_times a h = record {
+  x = record { above = omega (arith, ints); below = omega (arith, ints) };
+  y = record { above = omega (arith, ints); below = omega (arith, ints) };
+}
+
+pub spot_twice : (a : Spot) → IsInDoubledBox a → IsInWideBox (times 2 (at_spot a))
+spot_twice a h = record {
+  x = record { above = omega (arith, ints); below = omega (arith, ints) };
+  y = record { above = omega (arith, ints); below = omega (arith, ints) };
+}
+
+pub spot_in_range : (a : Spot) → IsInDoubledBox a → IsInRange (at_spot a)
+spot_in_range a h = record {
+  x = record { above = omega (arith, ints); below = omega (arith, ints) };
+  y = record { above = omega (arith, ints); below = omega (arith, ints) };
+}
+
+pub box_in_range : (a : Point) → IsInBox a → IsInRange a
+box_in_range a h = record {
+  x = record { above = omega (arith, ints); below = omega (arith, ints) };
+  y = record { above = omega (arith, ints); below = omega (arith, ints) };
+}
+
+-- of the vertices of a shape
+pub wide_vertices : (shape : Shape) → All IsInBox (vertices shape) → All IsInWideBox (vertices (scaled 4 shape))
+wide_vertices shape h = rw (points_of_scaled 4 shape) (All-map IsInWideBox (times 4) (vertices shape) (All-weaker IsInBox (λ p. IsInWideBox (times 4 p)) four_times (vertices shape) h))
+
+-- what `sight` asks of two spots and a shape
+pub sight_near : (a b : Spot) (shape : Shape) → IsInDoubledBox a → IsInDoubledBox b → All IsInBox (vertices shape) → AllNearby (times 2 (at_spot a) ∷ times 2 (at_spot b) ∷ vertices (scaled 4 shape))
+sight_near a b shape h k l = all_wide_near (times 2 (at_spot a) ∷ times 2 (at_spot b) ∷ vertices (scaled 4 shape)) (All-cons IsInWideBox (times 2 (at_spot a)) (times 2 (at_spot b) ∷ vertices (scaled 4 shape)) (spot_twice a h) (All-cons IsInWideBox (times 2 (at_spot b)) (vertices (scaled 4 shape)) (spot_twice b k) (wide_vertices shape l)))
+
+pub sight_range : (a b : Spot) (shape : Shape) → IsInDoubledBox a → IsInDoubledBox b → All IsInBox (vertices shape) → All IsInRange (at_spot a ∷ at_spot b ∷ vertices shape)
+sight_range a b shape h k l = All-cons IsInRange (at_spot a) (at_spot b ∷ vertices shape) (spot_in_range a h) (All-cons IsInRange (at_spot b) (vertices shape) (spot_in_range b k) (All-weaker IsInBox IsInRange box_in_range (vertices shape) l))
+
+pub box_range : (points : List Point) → All IsInBox points → All IsInRange points
+box_range points l = All-weaker IsInBox IsInRange box_in_range points l

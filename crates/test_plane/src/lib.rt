@@ -4,4 +4,6 @@
 #[cfg(test)]
 mod figures;
 #[cfg(test)]
+mod rooms;
+#[cfg(test)]
 mod trees;
