@@ -9,6 +9,7 @@ use std::alloc::Global;
 use venue_types::{OutOfMemory, Ring};
 
 /// Whether two edges of the ring cross.
+#[tactic(auto, using(plane_exact::proofs::NearbyLemmas::all_nearby))]
 pub(crate) fn crosses_itself(alloc: Global, ring: &Ring) -> Result<bool, OutOfMemory>
     requires { AllClose ring.now.points }
     ensures { IfOk result (λ crosses. IsTrue crosses ↔ CrossesItself ring.now) }

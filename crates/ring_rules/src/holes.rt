@@ -29,6 +29,7 @@ fn has_outside(points: &[Point], ring: &RingBands) -> bool
     false
 }
 
+#[tactic(auto, using(plane_exact::proofs::NearbyLemmas::all_nearby))]
 fn is_outside(p: Point, ring: &RingBands) -> bool
     requires { AllClose (p ∷ ring.now.points) }
     ensures { IsTrue result ↔ IsOutside ring.now p }

@@ -1,6 +1,7 @@
 use Rattle.std.proofs.Common.{◌≡◌, ◌+◌, [], ◌∷◌, List, OnOk, IfOk, length, map, refl, sym, subst, arith}
 use mathlib.Core.Path.{subst₂}
 use Rattle.venue_types.specs.declared.point.Ring.{Ring}
+use Rattle.plane_exact.proofs.NearbyLemmas.{all_nearby}
 use Rattle.rule_reports.specs.Passes.{Adds}
 use Rattle.ring_rules.specs.Rings.{as_hole}
 use Rattle.ring_rules.specs.Judged.{AreFit}
@@ -22,7 +23,7 @@ returns-then-is_empty c =
     }
 
 pub of-requires : goal.of-requires
-of-requires c = close_first c.args.part.now.outer c.args.part.now.holes c.requires
+of-requires c = all_nearby c.args.part.now.outer.points (close_first c.args.part.now.outer c.args.part.now.holes c.requires)
 
 pub add_holes-requires : goal.add_holes-requires
 add_holes-requires c = subst₂ (λ (border : Ring) (holes : List Ring). AreFit (border ∷ holes)) (sym c.in_ok-border.ensures) (sym c.as_slice.ensures) c.requires
