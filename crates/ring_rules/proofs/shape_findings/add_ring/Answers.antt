@@ -1,14 +1,8 @@
-use Rattle.std.proofs.Common.{[]}
 use Rattle.rule_reports.proofs.Adding.{on_ok}
-use Rattle.plane_exact.proofs.NearbyLemmas.{all_nearby}
 use Rattle.ring_rules.specs.declared.rules.RingRule.TheVariants.{G3, G5}
 use Rattle.ring_rules.specs.Findings.{alone}
-use Rattle.ring_rules.proofs.FitLemmas.{close_first}
 use Rattle.ring_rules.proofs.FindingLemmas.{adds_rule, adds_alone}
 use Rattle.ring_rules.proofs.shape_findings.add_ring.Goals as goal
-
-pub has_no_area-flat-requires : goal.has_no_area-flat-requires
-has_no_area-flat-requires c = all_nearby c.args.ring.now.points (close_first c.args.ring.now [] c.requires)
 
 pub returns-clause-adds : goal.returns-clause-adds
 returns-clause-adds c =
