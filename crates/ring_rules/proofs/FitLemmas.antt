@@ -1,21 +1,14 @@
 -- What holds of rings, of some of them, and of the rings of a folder.
-use Rattle.std.proofs.Common.{List, [], ◌∷◌, ◌++◌, All, flat_map, inl, inr, subst}
+use Rattle.std.proofs.Common.{List, [], ◌∷◌, ◌++◌, flat_map, inl, inr, subst}
 use Rattle.std.specs.Prelude.{Contains}
-use Rattle.std.proofs.lemmas.List.Elements.{All-contains, All-contains_itself, All-weaker, Contains-append_cases}
+use Rattle.std.proofs.lemmas.List.Elements.{Contains-append_cases}
 use Rattle.venue_types.proofs.Items.{Contains-only, Contains-first, Contains-later, Contains-cons_cases, Contains-flat_map}
 use Rattle.venue_types.specs.declared.point.Point.{Point}
 use Rattle.venue_types.specs.declared.point.Ring.{Ring}
 use Rattle.venue_types.specs.declared.point.Part.{Part}
 use Rattle.plane_exact.specs.Figure.{AllClose, ring_points, rings_of}
-use Rattle.feature_rows.specs.Sound.{IsOnEarth}
-use Rattle.ring_rules.specs.Judged.{AreFit, IsShort}
+use Rattle.ring_rules.specs.Judged.{AreFit}
 use Rattle.ring_rules.proofs.EdgeLemmas.{fewer_close}
-
-all_of : {X : Type 0} (P : X → Type 0) (xs : List X) → ((x : X) → Contains xs x → P x) → All P xs
-all_of P xs f = All-weaker (Contains xs) P f xs (All-contains_itself xs)
-
-pub fewer_all : {X : Type 0} (P : X → Type 0) (xs ys : List X) → ((x : X) → Contains xs x → Contains ys x) → All P ys → All P xs
-fewer_all P xs ys within h = all_of P xs (λ x w. All-contains P ys x h (within x w))
 
 points_in : (list : List Ring) (ring : Ring) → Contains list ring → (p : Point) → Contains ring.points p → Contains (ring_points list) p
 points_in list ring has p h = (Contains-flat_map (λ (r : Ring). r.points) list p).1 (ring, has, h)
@@ -39,11 +32,7 @@ pub fit_fewer : (some list : List Ring) → ((ring : Ring) → Contains some rin
 fit_fewer some list within fit =
     let inside : (p : Point) → Contains (ring_points some) p → Contains (ring_points list) p =
     λ p h. let at = points_of some p h in points_in list at.0 (within at.0 at.1) p at.2 in
-    record {
-      close = fewer_close (ring_points some) (ring_points list) inside fit.close;
-      on_earth = fewer_all IsOnEarth (ring_points some) (ring_points list) inside fit.on_earth;
-      short = fewer_all IsShort some list within fit.short;
-    }
+    record { close = fewer_close (ring_points some) (ring_points list) inside fit.close }
 
 pub fit_first : (ring : Ring) (rest : List Ring) → AreFit (ring ∷ rest) → AreFit (ring ∷ [])
 fit_first ring rest fit = fit_fewer (ring ∷ []) (ring ∷ rest) (λ r h. subst (λ (s : Ring). Contains (ring ∷ rest) s) (Contains-only ring r h) (Contains-first ring rest)) fit

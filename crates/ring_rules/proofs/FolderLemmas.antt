@@ -1,7 +1,7 @@
 -- The rings of a folder: that they are fit to be judged, and that the five files with shapes have all of them.
 use Rattle.std.proofs.Common.{◌≡◌, ℕ, ◌+◌, ◌⊎◌, inl, inr, List, [], flat_map, Some, None, refl, sym, subst, ap, ◌∙◌, arith}
 use Rattle.std.specs.Prelude.{Contains, slice_get}
-use Rattle.std.proofs.lemmas.List.Elements.{All-contains, All-weaker, Contains-append_left}
+use Rattle.std.proofs.lemmas.List.Elements.{Contains-append_left}
 use Rattle.venue_types.proofs.Items.{Contains-flat_map}
 use Rattle.venue_types.specs.declared.features.Features.{Features}
 use Rattle.venue_types.specs.declared.finding.Finding.{Finding}
@@ -12,16 +12,14 @@ use Rattle.venue_types.specs.declared.folder_file.File.TheVariants as file
 use Rattle.venue_types.specs.FolderFiles.{file_number, feature_files}
 use Rattle.rule_reports.specs.Passes.{Adds}
 use Rattle.rule_reports.proofs.Adding.{Adds-same, Adds-then}
-use Rattle.plane_exact.specs.Figure.{AllClose, rings, vertices}
+use Rattle.plane_exact.specs.Figure.{AllClose, vertices}
 use Rattle.feature_rows.specs.Figures.{shapes_of, positions_of, positions, judged_positions, display_of}
-use Rattle.feature_rows.specs.Sound.{AreSound, IsOnEarth, IsSoundRing, IsSoundShape}
 use Rattle.ring_rules.specs.Rings.{placed_rings}
 use Rattle.imdf_schema.specs.Rules.{rule_number}
 use Rattle.ring_rules.specs.Rules.{BreaksInRing, rule_of}
-use Rattle.ring_rules.specs.Judged.{AreFitShapes, IsShort}
+use Rattle.ring_rules.specs.Judged.{AreFitShapes}
 use Rattle.ring_rules.specs.Findings.{FindsInShapes}
 use Rattle.ring_rules.proofs.EdgeLemmas.{fewer_close}
-use Rattle.ring_rules.proofs.FitLemmas.{fewer_all}
 
 -- ---- the positions of a shape are judged
 
@@ -36,29 +34,23 @@ judged all f has shape there p at =
     let in_all : Contains (positions all) p = (Contains-flat_map (λ (g : File). positions_of g all) feature_files p).1 (f, has.listed, in_file) in
     Contains-append_left (positions all) (flat_map display_of all.units) p in_all
 
-fit_file : (all : Features) → AreSound all → AllClose (judged_positions all) → (f : File) → HasShapes all f → AreFitShapes (shapes_of f all)
-fit_file all sound close f has = record {
-  fit = λ shape there. record {
-    close = fewer_close (vertices shape) (judged_positions all) (judged all f has shape there) close;
-    on_earth = fewer_all IsOnEarth (vertices shape) (judged_positions all) (judged all f has shape there) sound.on_earth;
-    short = All-weaker IsSoundRing IsShort (λ ring h. h.few) (rings shape) (All-contains IsSoundShape (shapes_of f all) shape (sound.shapes f) there).rings;
-  };
-}
+fit_file : (all : Features) → AllClose (judged_positions all) → (f : File) → HasShapes all f → AreFitShapes (shapes_of f all)
+fit_file all close f has = record { fit = λ shape there. record { close = fewer_close (vertices shape) (judged_positions all) (judged all f has shape there) close } }
 
-pub fit_fixtures : (all : Features) → AreSound all → AllClose (judged_positions all) → AreFitShapes (shapes_of file.Fixture all)
-fit_fixtures all sound close = fit_file all sound close file.Fixture (record { listed = (5, omega arith, refl); placed = refl })
+pub fit_fixtures : (all : Features) → AllClose (judged_positions all) → AreFitShapes (shapes_of file.Fixture all)
+fit_fixtures all close = fit_file all close file.Fixture (record { listed = (5, omega arith, refl); placed = refl })
 
-pub fit_footprints : (all : Features) → AreSound all → AllClose (judged_positions all) → AreFitShapes (shapes_of file.Footprint all)
-fit_footprints all sound close = fit_file all sound close file.Footprint (record { listed = (6, omega arith, refl); placed = refl })
+pub fit_footprints : (all : Features) → AllClose (judged_positions all) → AreFitShapes (shapes_of file.Footprint all)
+fit_footprints all close = fit_file all close file.Footprint (record { listed = (6, omega arith, refl); placed = refl })
 
-pub fit_levels : (all : Features) → AreSound all → AllClose (judged_positions all) → AreFitShapes (shapes_of file.Level all)
-fit_levels all sound close = fit_file all sound close file.Level (record { listed = (9, omega arith, refl); placed = refl })
+pub fit_levels : (all : Features) → AllClose (judged_positions all) → AreFitShapes (shapes_of file.Level all)
+fit_levels all close = fit_file all close file.Level (record { listed = (9, omega arith, refl); placed = refl })
 
-pub fit_units : (all : Features) → AreSound all → AllClose (judged_positions all) → AreFitShapes (shapes_of file.Unit all)
-fit_units all sound close = fit_file all sound close file.Unit (record { listed = (14, omega arith, refl); placed = refl })
+pub fit_units : (all : Features) → AllClose (judged_positions all) → AreFitShapes (shapes_of file.Unit all)
+fit_units all close = fit_file all close file.Unit (record { listed = (14, omega arith, refl); placed = refl })
 
-pub fit_venues : (all : Features) → AreSound all → AllClose (judged_positions all) → AreFitShapes (shapes_of file.Venue all)
-fit_venues all sound close = fit_file all sound close file.Venue (record { listed = (15, omega arith, refl); placed = refl })
+pub fit_venues : (all : Features) → AllClose (judged_positions all) → AreFitShapes (shapes_of file.Venue all)
+fit_venues all close = fit_file all close file.Venue (record { listed = (15, omega arith, refl); placed = refl })
 
 -- ---- what is found in the five files
 

@@ -1,5 +1,4 @@
 pub mod BoundsLemmas
-pub mod AreaLemmas
 pub mod EdgeLemmas
 pub mod FitLemmas
 pub mod FindingLemmas

@@ -1,5 +1,5 @@
--- Rings and their holes (RFC 7946, section 3.1.6): which cross themselves, lie outside, or have no area.
-use Rattle.std.specs.Prelude.{◌≡◌, ℤ, pos, ◌%◌, ◌-ℤ◌, ◌*ℤ◌, ◌+ℤ◌, List, [], ◌∷◌, map, Option, Some, None, Contains}
+-- Rings and their holes (RFC 7946, section 3.1.6): which cross themselves or lie outside.
+use Rattle.std.specs.Prelude.{◌≡◌, ◌%◌, List, ◌∷◌, map, Option, Some, None, Contains}
 use Rattle.std.specs.List.{flat_map}
 use Rattle.venue_types.specs.declared.point.Point.{Point}
 use Rattle.venue_types.specs.declared.point.Ring.{Ring}
@@ -48,16 +48,3 @@ pub record LeavesBorder (placed : Placed) : Type 0 where
   pub has : Contains placed.ring.points vertex
   pub not_inside : ¬ IsInsideRing vertex border
   pub not_on : ¬ IsOnRing vertex border
-
--- the cross product of an edge's ends
-abbrev pub cross_product : Edge → ℤ
-cross_product edge = (edge.from.x *ℤ edge.to.y) -ℤ (edge.to.x *ℤ edge.from.y)
-
--- the sum of the cross products of edges
-abbrev pub cross_sum : List Edge → ℤ
-cross_sum [] = pos 0
-cross_sum (edge ∷ rest) = cross_product edge +ℤ cross_sum rest
-
--- twice the area of a ring, below 0 where it runs clockwise
-abbrev pub doubled_area : Ring → ℤ
-doubled_area ring = cross_sum (edges ring.points)

@@ -10,10 +10,11 @@ use Rattle.imdf_schema.specs.declared.rules.Rule.TheVariants as rule
 use Rattle.venue_types.specs.FolderFiles.{file_number}
 use Rattle.imdf_schema.specs.Rules.{rule_number}
 use Rattle.plane_exact.specs.Plane.{IsClose}
+use Rattle.plane_exact.specs.Corners.{doubled_area}
 use Rattle.feature_rows.specs.Figures.{judged_positions, shapes_of}
 use Rattle.ring_rules.specs.declared.rules.RingRule.{RingRule}
 use Rattle.ring_rules.specs.declared.rules.RingRule.TheVariants.{G3, G4, G5}
-use Rattle.ring_rules.specs.Rings.{Placed, placed_rings, CrossesItself, LeavesBorder, doubled_area}
+use Rattle.ring_rules.specs.Rings.{Placed, placed_rings, CrossesItself, LeavesBorder}
 
 -- two judged positions differ by more than 200,000,000 nanodegrees on an axis
 pub record IsSpread (features : Features) : Type 0 where
