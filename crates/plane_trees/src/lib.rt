@@ -1,4 +1,4 @@
-//! Shapes and rings made ready for many questions about positions: bands of four directions, kept for runs of edges.
+//! Shapes and rings made ready for many questions about positions and ways: bands of four directions, kept for runs of edges.
 #![tactic(auto)]
 
 mod band_laws;
