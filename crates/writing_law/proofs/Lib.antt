@@ -1,2 +1,7 @@
 mod Lists
 mod Ids
+mod Labels
+mod Figures
+mod Words
+mod Ordinals
+mod Refs

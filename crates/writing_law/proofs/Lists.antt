@@ -1,7 +1,7 @@
 -- A list of values that is written and read again.
 use Rattle.std.proofs.Common.{◌≡◌, ◌∙◌, List, [], ◌∷◌, map, Option, Some, refl, ap}
 use Rattle.std.specs.Prelude.{All}
-use Rattle.std.specs.List.{filter_map, cons_option, AllByRecursion}
+use Rattle.std.specs.List.{filter_map, cons_option}
 use Rattle.std.proofs.lemmas.List.Elements.{All-head, All-tail}
 use Rattle.exact_json.specs.Json.{Json, items_list}
 use Rattle.imdf_schema.specs.Values.{listed}

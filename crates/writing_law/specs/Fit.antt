@@ -1,5 +1,5 @@
 -- What the rows of a folder keep in which the first phase finds nothing, as far as their fixed form needs it to be read back.
-use Rattle.std.specs.Prelude.{◌≡◌, ◌≢◌, ◌^◌, ◌<◌, ◌≤◌, List, length, Some, All, IfSome}
+use Rattle.std.specs.Prelude.{◌≡◌, ◌≢◌, ◌^◌, ◌<◌, ◌≤◌, List, length, All, IfSome}
 use Rattle.std.specs.Str.{IsUtf8}
 use Rattle.venue_types.specs.declared.feature_id.FeatureId.{FeatureId}
 use Rattle.venue_types.specs.declared.features.Label.{Label}
