@@ -5,3 +5,4 @@ mod Figures
 mod Words
 mod Ordinals
 mod Refs
+mod Rows

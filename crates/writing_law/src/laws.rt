@@ -6,7 +6,21 @@ ghost use Rattle.geo_shapes.specs.Geometry.{HasPoint, HasLine, HasShape};
 ghost use Rattle.venue_types.specs.declared.feature_id.FeatureId.{FeatureId};
 ghost use Rattle.venue_types.specs.declared.features.Label.{Label};
 ghost use Rattle.venue_types.specs.declared.features.LevelRow.{LevelRow};
+ghost use Rattle.venue_types.specs.declared.features.PlainRow.{PlainRow};
+ghost use Rattle.venue_types.specs.declared.features.AmenityRow.{AmenityRow};
+ghost use Rattle.venue_types.specs.declared.features.AnchorRow.{AnchorRow};
+ghost use Rattle.venue_types.specs.declared.features.BuildingRow.{BuildingRow};
+ghost use Rattle.venue_types.specs.declared.features.DetailRow.{DetailRow};
+ghost use Rattle.venue_types.specs.declared.features.FixtureRow.{FixtureRow};
+ghost use Rattle.venue_types.specs.declared.features.FootprintRow.{FootprintRow};
+ghost use Rattle.venue_types.specs.declared.features.KioskRow.{KioskRow};
+ghost use Rattle.venue_types.specs.declared.features.OccupantRow.{OccupantRow};
+ghost use Rattle.venue_types.specs.declared.features.OpeningRow.{OpeningRow};
+ghost use Rattle.venue_types.specs.declared.features.RelationshipRow.{RelationshipRow};
+ghost use Rattle.venue_types.specs.declared.features.UnitRow.{UnitRow};
+ghost use Rattle.venue_types.specs.declared.features.VenueRow.{VenueRow};
 ghost use Rattle.venue_types.specs.declared.features.Ref.{Ref};
+ghost use Rattle.venue_types.specs.declared.folder_file.File.{File};
 ghost use Rattle.venue_types.specs.declared.kind.Kind.{Kind};
 ghost use Rattle.venue_types.specs.declared.kind.Kind.TheVariants as kind;
 ghost use Rattle.venue_types.specs.declared.point.Line.{Line};
@@ -14,10 +28,12 @@ ghost use Rattle.venue_types.specs.declared.point.Point.{Point};
 ghost use Rattle.venue_types.specs.declared.point.Shape.{Shape};
 ghost use Rattle.imdf_schema.specs.Values.{id_of, is_null, is_word};
 ghost use Rattle.imdf_rows.specs.Fields.{ids_field, labels_field, lists_word, door_is, passage_field, ref_of, refs_field, IsDisplay, IsOrdinal};
+ghost use Rattle.imdf_rows.specs.Rows.{IsPlainRow, IsAmenityRow, IsAnchorRow, IsBuildingRow, IsDetailRow, IsFixtureRow, IsFootprintRow, IsKioskRow, IsLevelRow, IsOccupantRow, IsOpeningRow, IsRelationshipRow, IsUnitRow, IsVenueRow};
 ghost use Rattle.imdf_read.specs.Ordinals.{IsInRange};
 ghost use Rattle.feature_rows.specs.Sound.{IsOnEarth};
 ghost use Rattle.imdf_write.specs.Values.{list_value, or_null, if_so, id_value, ordinal_value, point_value, line_value, shape_value, name_value, word_list, door_of, passage_word, direction_word, reference_value};
-ghost use Rattle.writing_law.specs.Fit.{FitsId, FitsRef, FitsName, FitsLine, FitsShape};
+ghost use Rattle.imdf_write.specs.Rows.{plain_feature, amenity_feature, anchor_feature, building_feature, detail_feature, fixture_feature, footprint_feature, kiosk_feature, level_feature, occupant_feature, opening_feature, relationship_feature, unit_feature, venue_feature};
+ghost use Rattle.writing_law.specs.Fit.{FitsId, FitsRef, FitsName, FitsLine, FitsShape, FitsPlain, FitsAmenity, FitsAnchor, FitsBuilding, FitsDetail, FitsFixture, FitsFootprint, FitsKiosk, FitsLevel, FitsOccupant, FitsOpening, FitsRelationship, FitsUnit, FitsVenue};
 
 /// Each field of a row is what is read of the value by which the fixed form writes it.
 pub fn field_law()
@@ -39,4 +55,22 @@ pub fn field_law()
     ensures ordinal { (row : LevelRow) → IsInRange row → IsOrdinal (ordinal_value row.ordinal) row.ordinal }
     ensures reference { (r : Option Ref) → IfSome r FitsRef → ref_of (or_null reference_value r) ≡ r }
     ensures references { (rs : List Ref) → All FitsRef rs → refs_field (list_value reference_value rs) ≡ rs }
+{}
+
+/// Each row is what is read of the feature by which the fixed form writes it, whatever its file.
+pub fn row_law()
+    ensures plain { (f : File) (row : PlainRow) → FitsPlain row → IsPlainRow (plain_feature f row) row }
+    ensures amenity { (f : File) (row : AmenityRow) → FitsAmenity row → IsAmenityRow (amenity_feature f row) row }
+    ensures anchor { (f : File) (row : AnchorRow) → FitsAnchor row → IsAnchorRow (anchor_feature f row) row }
+    ensures building { (f : File) (row : BuildingRow) → FitsBuilding row → IsBuildingRow (building_feature f row) row }
+    ensures detail { (f : File) (row : DetailRow) → FitsDetail row → IsDetailRow (detail_feature f row) row }
+    ensures fixture { (f : File) (row : FixtureRow) → FitsFixture row → IsFixtureRow (fixture_feature f row) row }
+    ensures footprint { (f : File) (row : FootprintRow) → FitsFootprint row → IsFootprintRow (footprint_feature f row) row }
+    ensures kiosk { (f : File) (row : KioskRow) → FitsKiosk row → IsKioskRow (kiosk_feature f row) row }
+    ensures level { (f : File) (row : LevelRow) → FitsLevel row → IsLevelRow (level_feature f row) row }
+    ensures occupant { (f : File) (row : OccupantRow) → FitsOccupant row → IsOccupantRow (occupant_feature f row) row }
+    ensures opening { (f : File) (row : OpeningRow) → FitsOpening row → IsOpeningRow (opening_feature f row) row }
+    ensures relationship { (f : File) (row : RelationshipRow) → FitsRelationship row → IsRelationshipRow (relationship_feature f row) row }
+    ensures unit { (f : File) (row : UnitRow) → FitsUnit row → IsUnitRow (unit_feature f row) row }
+    ensures venue { (f : File) (row : VenueRow) → FitsVenue row → IsVenueRow (venue_feature f row) row }
 {}
