@@ -45,7 +45,7 @@ as_listed Is value xs zip = subst (λ vs. AllZip Is vs xs) (sym (listed_back val
 angle_back : (limit : ℕ) (n : ℤ) → IsWithin n → neg_ℤ (pos limit) ≤ℤ n → n ≤ℤ pos limit → IsAngle limit (angle_value n) n
 angle_back limit n within low high = record { digits = degrees_text n; number = refl; nano = read_back n within; low = low; high = high }
 
-quarter_within : (n : ℤ) → neg_ℤ (pos 90000000000) ≤ℤ n → n ≤ℤ pos 90000000000 → IsWithin n
+pub quarter_within : (n : ℤ) → neg_ℤ (pos 90000000000) ≤ℤ n → n ≤ℤ pos 90000000000 → IsWithin n
 quarter_within n low high = (omega (arith, ints), omega (arith, ints))
 
 pub position_back : (p : Point) → IsOnEarth p → IsPosition (position_value p) p
@@ -80,7 +80,7 @@ part_back : (part : Part) → All IsOnEarth (ring_points (rings_of part)) → Al
 part_back part earth sound = record { rings = as_listed IsRing ring_value (part.outer ∷ part.holes) (rings_back (part.outer ∷ part.holes) earth sound) }
 
 -- the rings of several polygons are those of the first, and those of the others
-points_apart : (part : Part) (parts : List Part) → ring_points (rings_of part ++ flat_map rings_of parts) ≡ ring_points (rings_of part) ++ ring_points (flat_map rings_of parts)
+pub points_apart : (part : Part) (parts : List Part) → ring_points (rings_of part ++ flat_map rings_of parts) ≡ ring_points (rings_of part) ++ ring_points (flat_map rings_of parts)
 points_apart part parts = flat_map-append (λ (ring : Ring). ring.points) (rings_of part) (flat_map rings_of parts)
 
 parts_back : (parts : List Part) → All IsOnEarth (ring_points (flat_map rings_of parts)) → All IsSoundRing (flat_map rings_of parts) → AllZip IsPolygon (map part_value parts) parts

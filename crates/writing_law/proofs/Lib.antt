@@ -6,3 +6,7 @@ mod Words
 mod Ordinals
 mod Refs
 mod Rows
+mod Ascii
+mod Spelled
+mod SpelledFields
+mod SpelledRows

@@ -44,7 +44,7 @@ below size small = omega (arith, ints)
 above : (less : ℕ) → suc less ≤ 180 → negsuc less *ℤ pos 1000000000 ≡ neg_ℤ (pos (suc less * 1000000000))
 above less small = omega (arith, ints)
 
-nano_back : (n : ℤ) → neg_ℤ (pos 180) ≤ℤ n → n ≤ℤ pos 180 → IsNano (signed_decimal n) (n *ℤ pos 1000000000)
+pub nano_back : (n : ℤ) → neg_ℤ (pos 180) ≤ℤ n → n ≤ℤ pos 180 → IsNano (signed_decimal n) (n *ℤ pos 1000000000)
 unfolding number
 nano_back (pos size) low high =
     let small : size ≤ 180 = omega (arith, ints) in record {
