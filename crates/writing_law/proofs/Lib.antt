@@ -10,3 +10,4 @@ mod Ascii
 mod Spelled
 mod SpelledFields
 mod SpelledRows
+mod Files

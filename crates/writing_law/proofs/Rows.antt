@@ -1,5 +1,5 @@
 -- Each row is what is read of the feature by which the fixed form writes it.
-use Rattle.std.proofs.Common.{◌≡◌, Option, Some, unwrap_or, refl, sym, ap}
+use Rattle.std.proofs.Common.{◌≡◌, Option, unwrap_or, refl, sym, ap}
 use Rattle.geo_decimal.proofs.Values.{one_value}
 use Rattle.venue_types.specs.declared.feature_id.FeatureId.{FeatureId}
 use Rattle.venue_types.specs.declared.features.PlainRow.{PlainRow}

@@ -1,12 +1,12 @@
 -- The values of a row's fields are spelled by their compact texts.
-use Rattle.std.proofs.Common.{◌≡◌, ℕ, suc, ◌≤◌, Bool, true, false, List, [], ◌∷◌, ◌++◌, Option, Some, None, refl, sym, ap, ◌∙◌, subst, arith, ℤ, pos, codes}
-use Rattle.std.specs.Prelude.{All, IfSome, neg_ℤ, ◌≤ℤ◌, ◌≢◌, ◌*ℤ◌}
+use Rattle.std.proofs.Common.{◌≡◌, ℕ, suc, Bool, true, false, List, [], ◌∷◌, ◌++◌, Option, Some, None, refl, sym, ap, ◌∙◌, subst, arith, ℤ, pos, codes}
+use Rattle.std.specs.Prelude.{All, IfSome, neg_ℤ, ◌≤ℤ◌, ◌*ℤ◌}
 use Rattle.std.specs.List.{flat_map}
 use Rattle.std.specs.Str.{IsUtf8}
 use Rattle.std.specs.Fmt.{signed_decimal}
 use Rattle.std.proofs.lemmas.Str.{IsUtf8-from_ascii}
 use Rattle.std.proofs.lemmas.List.Elements.{All-nil, All-cons, All-head, All-tail}
-use Rattle.exact_json.specs.Json.{Json, null, number, text, items, object, no_items, item, no_pairs, pair}
+use Rattle.exact_json.specs.Json.{Json, text, items, no_items, item, no_pairs, pair}
 use Rattle.exact_json.specs.Number.{IsNumber}
 use Rattle.geo_decimal.specs.Value.{IsNano, IsWithin}
 use Rattle.geo_decimal.specs.Text.{degrees_text}
@@ -29,9 +29,9 @@ use Rattle.venue_types.specs.FolderFiles.{file_number, type_name}
 use Rattle.venue_types.proofs.IdentifierLemmas.{identifier_text-ascii}
 use Rattle.plane_exact.specs.Figure.{rings_of, ring_points}
 use Rattle.feature_rows.specs.Sound.{IsOnEarth}
-use Rattle.imdf_write.specs.Values.{list_value, or_null, if_so, id_value, ordinal_value, angle_value, position_value, positions_value, ring_value, part_value, geometry_value, point_value, line_value, parts_value, shape_value, label_pairs, name_value, word_list, door_value, door_of, type_numbered, reference_value, passage_word, direction_word}
-use Rattle.writing_law.specs.Fit.{FitsRef, FitsLabel, FitsName, FitsLine, FitsShape}
-use Rattle.writing_law.specs.Spelled.{IsSpelled, AreSpelled, HasSpelled}
+use Rattle.imdf_write.specs.Values.{list_value, or_null, id_value, ordinal_value, angle_value, position_value, positions_value, ring_value, part_value, geometry_value, point_value, line_value, parts_value, shape_value, label_pairs, name_value, word_list, door_value, door_of, type_numbered, reference_value, passage_word, direction_word}
+use Rattle.writing_law.specs.Fit.{FitsRef, FitsLabel, FitsLine, FitsShape}
+use Rattle.writing_law.specs.Spelled.{IsSpelled, HasSpelled}
 use Rattle.writing_law.proofs.Ascii.{word_utf8}
 use Rattle.writing_law.proofs.Figures.{all_front, all_rest, quarter_within, points_apart}
 use Rattle.writing_law.proofs.Ordinals.{nano_back}

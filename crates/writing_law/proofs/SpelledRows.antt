@@ -1,6 +1,6 @@
 -- The feature of each row is spelled by its compact text, and nests six deep at most.
-use Rattle.std.proofs.Common.{◌≡◌, ℕ, List, refl, arith, codes}
-use Rattle.exact_json.specs.Json.{Json, null, text, object, Members, no_pairs, pair}
+use Rattle.std.proofs.Common.{refl, arith, codes}
+use Rattle.exact_json.specs.Json.{Json, null, text, object, Members, no_pairs}
 use Rattle.geo_shapes.specs.Numbers.{SameNumbers}
 use Rattle.venue_types.specs.declared.feature_id.FeatureId.{FeatureId}
 use Rattle.venue_types.specs.declared.features.PlainRow.{PlainRow}
@@ -19,10 +19,9 @@ use Rattle.venue_types.specs.declared.features.UnitRow.{UnitRow}
 use Rattle.venue_types.specs.declared.features.VenueRow.{VenueRow}
 use Rattle.venue_types.specs.declared.folder_file.File.{File}
 use Rattle.venue_types.specs.FolderFiles.{type_name}
-use Rattle.imdf_schema.specs.declared.table.Property.{Property}
 use Rattle.imdf_schema.specs.declared.table.Property.TheVariants as property
-use Rattle.imdf_write.specs.Values.{id_value, if_so}
-use Rattle.imdf_write.specs.Rows.{with, feature, plain_feature, amenity_feature, anchor_feature, building_feature, detail_feature, fixture_feature, footprint_feature, kiosk_feature, level_feature, occupant_feature, opening_feature, relationship_feature, unit_feature, venue_feature}
+use Rattle.imdf_write.specs.Values.{id_value}
+use Rattle.imdf_write.specs.Rows.{feature, plain_feature, amenity_feature, anchor_feature, building_feature, detail_feature, fixture_feature, footprint_feature, kiosk_feature, level_feature, occupant_feature, opening_feature, relationship_feature, unit_feature, venue_feature}
 use Rattle.writing_law.specs.Fit.{FitsPlain, FitsAmenity, FitsAnchor, FitsBuilding, FitsDetail, FitsFixture, FitsFootprint, FitsKiosk, FitsLevel, FitsOccupant, FitsOpening, FitsRelationship, FitsUnit, FitsVenue}
 use Rattle.writing_law.specs.Spelled.{IsSpelled, HasSpelled}
 use Rattle.writing_law.proofs.Ascii.{word_utf8}
