@@ -150,13 +150,16 @@ features_spelled same features file.Unit fits = all_features FitsUnit (IsSpelled
 features_spelled same features file.Venue fits = all_features FitsVenue (IsSpelled 6) (venue_feature file.Venue) (venue_spelled same file.Venue) features.venues fits.venues
 
 module _ (spells : SpellsItself) (same : SameNumbers) (features : Features) (fits : FitsFeatures features) (limit : IsWithinLimit features) where
-  -- each file of features has its content
-  pub content_held : (f : File) → f ≢ file.Manifest → HasContent (written features) f (content_of (features_of f features))
-  content_held f not_manifest =
+  -- the slot of each file of features has its content
+  pub content_is : (f : File) → f ≢ file.Manifest → IsContent (canonical_file features f) (content_of (features_of f features))
+  content_is f not_manifest =
       let slot = slot_of features f not_manifest in
       let small : ¬ IsLarge (collection_file (features_of f features)) = subst (λ (s : Slot). ¬ IsLarge s) slot (small_there features f limit) in
       let is = content_there spells (features_of f features) (features_spelled same features f fits) small in
-      record { slot = canonical_file features f; at = slot_there features f; is = subst (λ (s : Slot). IsContent s (content_of (features_of f features))) (sym slot) is }
+      subst (λ (s : Slot). IsContent s (content_of (features_of f features))) (sym slot) is
+
+  pub content_held : (f : File) → f ≢ file.Manifest → HasContent (written features) f (content_of (features_of f features))
+  content_held f not_manifest = record { slot = canonical_file features f; at = slot_there features f; is = content_is f not_manifest }
 
   rows_held : {Row : Type 0} (Fit : Row → Type 0) (IsRow : Json → Row → Type 0) (f : File) (value : Row → Json) (rows : List Row) → f ≢ file.Manifest → features_of f features ≡ map value rows
       → ((row : Row) → Fit row → IsRow (value row) row) → All Fit rows → AreRows IsRow (written features) f rows

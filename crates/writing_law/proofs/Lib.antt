@@ -11,3 +11,9 @@ mod Spelled
 mod SpelledFields
 mod SpelledRows
 mod Files
+mod Zipped
+mod NoBreaks
+mod Formed
+mod Table
+mod Keeps
+mod KeptFiles
