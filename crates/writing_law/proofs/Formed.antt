@@ -123,11 +123,10 @@ later_texts x labels (y ∷ ys) h = (later_text (last_member y.tag (label_pairs 
 
 each_text : (labels : List Label) → AllByRecursion (λ (y : Label). is_text (last_of y.tag labels) ≡ true) labels
 each_text [] = tt
-each_text (x ∷ labels) =
-    (
-      first_text (last_member x.tag (label_pairs labels)) (bytes_eq x.tag x.tag) x.text ((bytes_eq-Decides x.tag x.tag).1 refl) (any_text x.tag labels),
-      later_texts x labels labels (each_text labels),
-    )
+each_text (x ∷ labels) = (
+  first_text (last_member x.tag (label_pairs labels)) (bytes_eq x.tag x.tag) x.text ((bytes_eq-Decides x.tag x.tag).1 refl) (any_text x.tag labels),
+  later_texts x labels labels (each_text labels),
+)
 
 all_texts : (all ys : List Label) → AllByRecursion (λ (y : Label). is_text (last_of y.tag all) ≡ true) ys → list_all (λ p. is_text (member (object (label_pairs all)) p.0)) (members_list (label_pairs ys)) ≡ true
 all_texts all [] h = refl

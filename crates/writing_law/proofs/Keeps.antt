@@ -2,6 +2,7 @@
 use Rattle.std.proofs.Common.{◌≡◌, ◌≢◌, ℕ, ◌+◌, ◌<◌, ◌≤◌, List, [], ◌∷◌, length, map, Option, Some, None, Bool, true, false, ◌||◌, is_some, IsTrue, refl, sym, ap, ◌∙◌, subst, inl, inr, ◌⊎◌, arith, codes}
 use Rattle.std.specs.Prelude.{All, Any, Contains, slice_get, sum_by, ℤ}
 use Rattle.std.specs.Str.{bytes_eq}
+use Rattle.std.proofs.lemmas.List.Elements.{All-nil}
 use Rattle.std.proofs.lemmas.List.Sums.{sum_by-cons}
 use Rattle.exact_json.specs.Json.{Json, null, text, member, Members, no_pairs}
 use Rattle.geo_shapes.specs.Laws.{HasOnePoint}
@@ -21,6 +22,7 @@ use Rattle.venue_types.specs.declared.features.OpeningRow.{OpeningRow}
 use Rattle.venue_types.specs.declared.features.RelationshipRow.{RelationshipRow}
 use Rattle.venue_types.specs.declared.features.UnitRow.{UnitRow}
 use Rattle.venue_types.specs.declared.features.VenueRow.{VenueRow}
+use Rattle.venue_types.specs.declared.features.Features.{Features}
 use Rattle.venue_types.specs.declared.features.Ref.{Ref}
 use Rattle.venue_types.specs.declared.folder_file.File.{File}
 use Rattle.venue_types.specs.declared.folder_file.File.TheVariants as file
@@ -45,7 +47,10 @@ use Rattle.imdf_read.specs.Broken.{IsMisformed, BreaksForm, ItemBreaks}
 use Rattle.feature_rows.specs.Sound.{IsOnEarth, element_count}
 use Rattle.imdf_write.specs.Values.{list_value, or_null, id_value, point_value, line_value, shape_value, parts_value, direction_word, reference_value}
 use Rattle.imdf_write.specs.Rows.{feature, plain_feature, amenity_feature, anchor_feature, building_feature, detail_feature, fixture_feature, footprint_feature, kiosk_feature, level_feature, occupant_feature, opening_feature, relationship_feature, unit_feature, venue_feature}
+use Rattle.imdf_write.specs.Folder.{features_of}
+use Rattle.writing_law.specs.Written.{FitsFeatures}
 use Rattle.writing_law.specs.Fit.{FitsId, FitsLine, FitsShape, FitsPlain, FitsAmenity, FitsAnchor, FitsBuilding, FitsDetail, FitsFixture, FitsFootprint, FitsKiosk, FitsLevel, FitsOccupant, FitsOpening, FitsRelationship, FitsUnit, FitsVenue}
+use Rattle.writing_law.proofs.Files.{all_features}
 use Rattle.writing_law.proofs.Lists.{listed_back}
 use Rattle.writing_law.proofs.Ids.{id_back}
 use Rattle.writing_law.proofs.Figures.{point_back, line_back, shape_back}
@@ -154,88 +159,158 @@ id_right id fits = ap (λ (o : Option FeatureId). is_some o) (id_back id fits)
 
 address_right : (row : PlainRow) → FitsPlain row → IsRightItem file.Address (plain_feature file.Address row)
 address_right row fits = record {
-  feature = refl; id = id_right row.id fits.id; type = refl; drawn = null_drawn; properties = tt;
-  ordinal = λ e. absurd (cc); direction = λ e. absurd (cc); elements = λ e. absurd (cc);
+  feature = refl;
+  id = id_right row.id fits.id;
+  type = refl;
+  drawn = null_drawn;
+  properties = tt;
+  ordinal = λ e. absurd (cc);
+  direction = λ e. absurd (cc);
+  elements = λ e. absurd (cc);
 }
 
 geofence_right : (row : PlainRow) → FitsPlain row → IsRightItem file.Geofence (plain_feature file.Geofence row)
 geofence_right row fits = record {
-  feature = refl; id = id_right row.id fits.id; type = refl; drawn = unjudged_drawn null; properties = tt;
-  ordinal = λ e. absurd (cc); direction = λ e. absurd (cc); elements = λ e. absurd (cc);
+  feature = refl;
+  id = id_right row.id fits.id;
+  type = refl;
+  drawn = unjudged_drawn null;
+  properties = tt;
+  ordinal = λ e. absurd (cc);
+  direction = λ e. absurd (cc);
+  elements = λ e. absurd (cc);
 }
 
 section_right : (row : PlainRow) → FitsPlain row → IsRightItem file.Section (plain_feature file.Section row)
 section_right row fits = record {
-  feature = refl; id = id_right row.id fits.id; type = refl; drawn = unjudged_drawn null; properties = tt;
-  ordinal = λ e. absurd (cc); direction = λ e. absurd (cc); elements = λ e. absurd (cc);
+  feature = refl;
+  id = id_right row.id fits.id;
+  type = refl;
+  drawn = unjudged_drawn null;
+  properties = tt;
+  ordinal = λ e. absurd (cc);
+  direction = λ e. absurd (cc);
+  elements = λ e. absurd (cc);
 }
 
 amenity_right : (row : AmenityRow) → FitsAmenity row → IsRightItem file.Amenity (amenity_feature file.Amenity row)
 amenity_right row fits = record {
-  feature = refl; id = id_right row.id fits.id; type = refl; drawn = point_drawn row.point fits.point;
+  feature = refl;
+  id = id_right row.id fits.id;
+  type = refl;
+  drawn = point_drawn row.point fits.point;
   properties = (id_or_null_formed row.address fits.address, ids_formed row.units fits.one fits.units, text_formed row.category, name_formed row.name);
-  ordinal = λ e. absurd (cc); direction = λ e. absurd (cc); elements = λ e. absurd (cc);
+  ordinal = λ e. absurd (cc);
+  direction = λ e. absurd (cc);
+  elements = λ e. absurd (cc);
 }
 
 anchor_right : (row : AnchorRow) → FitsAnchor row → IsRightItem file.Anchor (anchor_feature file.Anchor row)
 anchor_right row fits = record {
-  feature = refl; id = id_right row.id fits.id; type = refl; drawn = point_drawn row.point fits.point;
+  feature = refl;
+  id = id_right row.id fits.id;
+  type = refl;
+  drawn = point_drawn row.point fits.point;
   properties = (id_or_null_formed row.address fits.address, id_formed row.unit fits.unit);
-  ordinal = λ e. absurd (cc); direction = λ e. absurd (cc); elements = λ e. absurd (cc);
+  ordinal = λ e. absurd (cc);
+  direction = λ e. absurd (cc);
+  elements = λ e. absurd (cc);
 }
 
 building_right : (row : BuildingRow) → FitsBuilding row → IsRightItem file.Building (building_feature file.Building row)
 building_right row fits = record {
-  feature = refl; id = id_right row.id fits.id; type = refl; drawn = null_drawn; properties = id_or_null_formed row.address fits.address;
-  ordinal = λ e. absurd (cc); direction = λ e. absurd (cc); elements = λ e. absurd (cc);
+  feature = refl;
+  id = id_right row.id fits.id;
+  type = refl;
+  drawn = null_drawn;
+  properties = id_or_null_formed row.address fits.address;
+  ordinal = λ e. absurd (cc);
+  direction = λ e. absurd (cc);
+  elements = λ e. absurd (cc);
 }
 
 detail_right : (row : DetailRow) → FitsDetail row → IsRightItem file.Detail (detail_feature file.Detail row)
 detail_right row fits = record {
-  feature = refl; id = id_right row.id fits.id; type = refl; drawn = unjudged_drawn null; properties = id_or_null_formed row.level fits.level;
-  ordinal = λ e. absurd (cc); direction = λ e. absurd (cc); elements = λ e. absurd (cc);
+  feature = refl;
+  id = id_right row.id fits.id;
+  type = refl;
+  drawn = unjudged_drawn null;
+  properties = id_or_null_formed row.level fits.level;
+  ordinal = λ e. absurd (cc);
+  direction = λ e. absurd (cc);
+  elements = λ e. absurd (cc);
 }
 
 fixture_right : HasOnePoint → (row : FixtureRow) → FitsFixture row → IsRightItem file.Fixture (fixture_feature file.Fixture row)
 fixture_right one row fits = record {
-  feature = refl; id = id_right row.id fits.id; type = refl; drawn = shape_drawn one row.shape fits.shape;
+  feature = refl;
+  id = id_right row.id fits.id;
+  type = refl;
+  drawn = shape_drawn one row.shape fits.shape;
   properties = (id_or_null_formed row.level fits.level, id_or_null_formed row.anchor fits.anchor);
-  ordinal = λ e. absurd (cc); direction = λ e. absurd (cc); elements = λ e. absurd (cc);
+  ordinal = λ e. absurd (cc);
+  direction = λ e. absurd (cc);
+  elements = λ e. absurd (cc);
 }
 
 footprint_right : HasOnePoint → (row : FootprintRow) → FitsFootprint row → IsRightItem file.Footprint (footprint_feature file.Footprint row)
 footprint_right one row fits = record {
-  feature = refl; id = id_right row.id fits.id; type = refl; drawn = shape_drawn one row.shape fits.shape;
+  feature = refl;
+  id = id_right row.id fits.id;
+  type = refl;
+  drawn = shape_drawn one row.shape fits.shape;
   properties = ids_or_null_formed row.buildings fits.buildings;
-  ordinal = λ e. absurd (cc); direction = λ e. absurd (cc); elements = λ e. absurd (cc);
+  ordinal = λ e. absurd (cc);
+  direction = λ e. absurd (cc);
+  elements = λ e. absurd (cc);
 }
 
 kiosk_right : (row : KioskRow) → FitsKiosk row → IsRightItem file.Kiosk (kiosk_feature file.Kiosk row)
 kiosk_right row fits = record {
-  feature = refl; id = id_right row.id fits.id; type = refl; drawn = unjudged_drawn null;
+  feature = refl;
+  id = id_right row.id fits.id;
+  type = refl;
+  drawn = unjudged_drawn null;
   properties = (id_or_null_formed row.level fits.level, id_or_null_formed row.anchor fits.anchor);
-  ordinal = λ e. absurd (cc); direction = λ e. absurd (cc); elements = λ e. absurd (cc);
+  ordinal = λ e. absurd (cc);
+  direction = λ e. absurd (cc);
+  elements = λ e. absurd (cc);
 }
 
 level_right : HasOnePoint → (row : LevelRow) → FitsLevel row → IsRightItem file.Level (level_feature file.Level row)
 level_right one row fits = record {
-  feature = refl; id = id_right row.id fits.id; type = refl; drawn = shape_drawn one row.shape fits.shape;
+  feature = refl;
+  id = id_right row.id fits.id;
+  type = refl;
+  drawn = shape_drawn one row.shape fits.shape;
   properties = (id_or_null_formed row.address fits.address, ids_or_null_formed row.buildings fits.buildings);
-  ordinal = λ e. (row.ordinal, ordinal_back row.ordinal fits.ordinal.0 fits.ordinal.1); direction = λ e. absurd (cc); elements = λ e. absurd (cc);
+  ordinal = λ e. (row.ordinal, ordinal_back row.ordinal fits.ordinal.0 fits.ordinal.1);
+  direction = λ e. absurd (cc);
+  elements = λ e. absurd (cc);
 }
 
 occupant_right : (row : OccupantRow) → FitsOccupant row → IsRightItem file.Occupant (occupant_feature file.Occupant row)
 occupant_right row fits = record {
-  feature = refl; id = id_right row.id fits.id; type = refl; drawn = null_drawn;
+  feature = refl;
+  id = id_right row.id fits.id;
+  type = refl;
+  drawn = null_drawn;
   properties = (id_formed row.anchor fits.anchor, name_formed row.name);
-  ordinal = λ e. absurd (cc); direction = λ e. absurd (cc); elements = λ e. absurd (cc);
+  ordinal = λ e. absurd (cc);
+  direction = λ e. absurd (cc);
+  elements = λ e. absurd (cc);
 }
 
 opening_right : (row : OpeningRow) → FitsOpening row → IsRightItem file.Opening (opening_feature file.Opening row)
 opening_right row fits = record {
-  feature = refl; id = id_right row.id fits.id; type = refl; drawn = line_drawn row.line fits.line;
+  feature = refl;
+  id = id_right row.id fits.id;
+  type = refl;
+  drawn = line_drawn row.line fits.line;
   properties = (id_formed row.level fits.level, word_list_formed row.marked (codes "wheelchair"), word_list_formed row.out (codes "outofservice"), door_formed row.revolving row.turnstile);
-  ordinal = λ e. absurd (cc); direction = λ e. absurd (cc); elements = λ e. absurd (cc);
+  ordinal = λ e. absurd (cc);
+  direction = λ e. absurd (cc);
+  elements = λ e. absurd (cc);
 }
 
 direction_right : (directed : Bool) → (is_word (text (direction_word directed)) (codes "directed") || is_word (text (direction_word directed)) (codes "undirected")) ≡ true
@@ -274,28 +349,70 @@ elements_written row =
     let first = one_written row.origin in
     let last = one_written row.destination in
     let between : sum_by one_unless_null (listed (list_value reference_value row.between)) ≡ length row.between =
-        ap (sum_by one_unless_null) (listed_back reference_value row.between) ∙ several_written row.between in
+    ap (sum_by one_unless_null) (listed_back reference_value row.between) ∙ several_written row.between in
     let whole : elements (relationship_feature file.Relationship row)
-        ≡ one_unless_null (or_null reference_value row.origin) + sum_by one_unless_null (listed (list_value reference_value row.between)) + one_unless_null (or_null reference_value row.destination) = refl in
+    ≡ one_unless_null (or_null reference_value row.origin) + sum_by one_unless_null (listed (list_value reference_value row.between)) + one_unless_null (or_null reference_value row.destination) = refl in
     omega arith
 
 relationship_right : (row : RelationshipRow) → FitsRelationship row → element_count row ≤ 65 → IsRightItem file.Relationship (relationship_feature file.Relationship row)
 relationship_right row fits few = record {
-  feature = refl; id = id_right row.id fits.id; type = refl; drawn = unjudged_drawn null;
+  feature = refl;
+  id = id_right row.id fits.id;
+  type = refl;
+  drawn = unjudged_drawn null;
   properties = (ref_formed row.origin fits.origin, refs_formed row.between fits.between, ref_formed row.destination fits.destination, text_formed _);
-  ordinal = λ e. absurd (cc); direction = λ e. direction_right row.directed; elements = λ e. subst (λ n. n ≤ 65) (sym (elements_written row)) few;
+  ordinal = λ e. absurd (cc);
+  direction = λ e. direction_right row.directed;
+  elements = λ e. subst (λ n. n ≤ 65) (sym (elements_written row)) few;
 }
 
 unit_right : HasOnePoint → (row : UnitRow) → FitsUnit row → IsRightItem file.Unit (unit_feature file.Unit row)
 unit_right one row fits = record {
-  feature = refl; id = id_right row.id fits.id; type = refl; drawn = shape_drawn one row.shape fits.shape;
+  feature = refl;
+  id = id_right row.id fits.id;
+  type = refl;
+  drawn = shape_drawn one row.shape fits.shape;
   properties = (id_formed row.level fits.level, text_formed row.category, text_or_null_formed row.restricted (codes "restricted"), display_formed row.display fits.display, name_formed row.name);
-  ordinal = λ e. absurd (cc); direction = λ e. absurd (cc); elements = λ e. absurd (cc);
+  ordinal = λ e. absurd (cc);
+  direction = λ e. absurd (cc);
+  elements = λ e. absurd (cc);
 }
 
 venue_right : HasOnePoint → (row : VenueRow) → FitsVenue row → IsRightItem file.Venue (venue_feature file.Venue row)
 venue_right one row fits = record {
-  feature = refl; id = id_right row.id fits.id; type = refl; drawn = shape_drawn one row.shape fits.shape;
+  feature = refl;
+  id = id_right row.id fits.id;
+  type = refl;
+  drawn = shape_drawn one row.shape fits.shape;
   properties = id_or_null_formed row.address fits.address;
-  ordinal = λ e. absurd (cc); direction = λ e. absurd (cc); elements = λ e. absurd (cc);
+  ordinal = λ e. absurd (cc);
+  direction = λ e. absurd (cc);
+  elements = λ e. absurd (cc);
 }
+
+-- ---- features
+
+-- a relationship of few elements
+abbrev FitsFew : RelationshipRow → Type 0
+FitsFew row = FitsRelationship row × (element_count row ≤ 65)
+
+-- the features of this file break no rule on items
+pub features_keep : HasOnePoint → (features : Features) (f : File) → FitsFeatures features → All (BreaksNone f) (features_of f features)
+features_keep one features file.Manifest fits = All-nil (BreaksNone file.Manifest)
+features_keep one features file.Address fits = all_features FitsPlain (BreaksNone file.Address) (plain_feature file.Address) (λ row h. keeps file.Address _ (address_right row h)) features.addresses fits.addresses
+features_keep one features file.Amenity fits = all_features FitsAmenity (BreaksNone file.Amenity) (amenity_feature file.Amenity) (λ row h. keeps file.Amenity _ (amenity_right row h)) features.amenities fits.amenities
+features_keep one features file.Anchor fits = all_features FitsAnchor (BreaksNone file.Anchor) (anchor_feature file.Anchor) (λ row h. keeps file.Anchor _ (anchor_right row h)) features.anchors fits.anchors
+features_keep one features file.Building fits = all_features FitsBuilding (BreaksNone file.Building) (building_feature file.Building) (λ row h. keeps file.Building _ (building_right row h)) features.buildings fits.buildings
+features_keep one features file.Detail fits = all_features FitsDetail (BreaksNone file.Detail) (detail_feature file.Detail) (λ row h. keeps file.Detail _ (detail_right row h)) features.details fits.details
+features_keep one features file.Fixture fits = all_features FitsFixture (BreaksNone file.Fixture) (fixture_feature file.Fixture) (λ row h. keeps file.Fixture _ (fixture_right one row h)) features.fixtures fits.fixtures
+features_keep one features file.Footprint fits = all_features FitsFootprint (BreaksNone file.Footprint) (footprint_feature file.Footprint) (λ row h. keeps file.Footprint _ (footprint_right one row h)) features.footprints fits.footprints
+features_keep one features file.Geofence fits = all_features FitsPlain (BreaksNone file.Geofence) (plain_feature file.Geofence) (λ row h. keeps file.Geofence _ (geofence_right row h)) features.geofences fits.geofences
+features_keep one features file.Kiosk fits = all_features FitsKiosk (BreaksNone file.Kiosk) (kiosk_feature file.Kiosk) (λ row h. keeps file.Kiosk _ (kiosk_right row h)) features.kiosks fits.kiosks
+features_keep one features file.Level fits = all_features FitsLevel (BreaksNone file.Level) (level_feature file.Level) (λ row h. keeps file.Level _ (level_right one row h)) features.levels fits.levels
+features_keep one features file.Occupant fits = all_features FitsOccupant (BreaksNone file.Occupant) (occupant_feature file.Occupant) (λ row h. keeps file.Occupant _ (occupant_right row h)) features.occupants fits.occupants
+features_keep one features file.Opening fits = all_features FitsOpening (BreaksNone file.Opening) (opening_feature file.Opening) (λ row h. keeps file.Opening _ (opening_right row h)) features.openings fits.openings
+features_keep one features file.Relationship fits = all_features FitsFew (BreaksNone file.Relationship) (relationship_feature file.Relationship)
+    (λ row h. keeps file.Relationship _ (relationship_right row h.0 h.1)) features.relationships (λ k d below. (fits.relationships k d below, fits.sound.few_elements k d below))
+features_keep one features file.Section fits = all_features FitsPlain (BreaksNone file.Section) (plain_feature file.Section) (λ row h. keeps file.Section _ (section_right row h)) features.sections fits.sections
+features_keep one features file.Unit fits = all_features FitsUnit (BreaksNone file.Unit) (unit_feature file.Unit) (λ row h. keeps file.Unit _ (unit_right one row h)) features.units fits.units
+features_keep one features file.Venue fits = all_features FitsVenue (BreaksNone file.Venue) (venue_feature file.Venue) (λ row h. keeps file.Venue _ (venue_right one row h)) features.venues fits.venues

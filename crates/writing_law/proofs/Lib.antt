@@ -17,3 +17,5 @@ mod Formed
 mod Table
 mod Keeps
 mod KeptFiles
+mod KeptFolder
+mod NothingBroken

@@ -34,11 +34,12 @@ ghost use Rattle.feature_rows.specs.Sound.{IsOnEarth};
 ghost use Rattle.imdf_write.specs.Values.{list_value, or_null, if_so, id_value, ordinal_value, point_value, line_value, shape_value, name_value, word_list, door_of, passage_word, direction_word, reference_value};
 ghost use Rattle.imdf_write.specs.Rows.{plain_feature, amenity_feature, anchor_feature, building_feature, detail_feature, fixture_feature, footprint_feature, kiosk_feature, level_feature, occupant_feature, opening_feature, relationship_feature, unit_feature, venue_feature};
 ghost use Rattle.imdf_rows.specs.Folder.{AreFeatures};
-ghost use Rattle.writing_law.specs.Written.{FitsFeatures, written, IsWithinLimit};
+ghost use Rattle.writing_law.specs.Written.{FitsFeatures, written, IsWithinLimit, FindsNothing};
 ghost use Rattle.venue_types.specs.declared.features.Features.{Features};
 ghost use Rattle.writing_law.specs.Fit.{FitsId, FitsRef, FitsName, FitsLine, FitsShape, FitsPlain, FitsAmenity, FitsAnchor, FitsBuilding, FitsDetail, FitsFixture, FitsFootprint, FitsKiosk, FitsLevel, FitsOccupant, FitsOpening, FitsRelationship, FitsUnit, FitsVenue};
 
-use geo_shapes::same_numbers_law;
+use exact_json::laws::one_json_law;
+use geo_shapes::{one_point_law, same_numbers_law};
 use json_text::compact_law;
 
 /// Each field of a row is what is read of the value by which the fixed form writes it.
@@ -87,5 +88,16 @@ pub fn file_law()
     ensures { (features : Features) → FitsFeatures features → IsWithinLimit features → AreFeatures (written features) features }
 {
     compact_law();
+    same_numbers_law();
+}
+
+/// The first phase finds nothing in what was written, where the rows keep what they are to keep, and no file of the fixed
+/// form has more bytes than are read.
+pub fn rule_law()
+    ensures { (features : Features) → FitsFeatures features → IsWithinLimit features → FindsNothing (written features) }
+{
+    compact_law();
+    one_json_law();
+    one_point_law();
     same_numbers_law();
 }

@@ -3,4 +3,4 @@
 
 mod laws;
 
-pub use laws::{field_law, file_law, row_law};
+pub use laws::{field_law, file_law, row_law, rule_law};
