@@ -19,3 +19,6 @@ mod Keeps
 mod KeptFiles
 mod KeptFolder
 mod NothingBroken
+mod Strings
+mod Texts
+mod ReadFields
