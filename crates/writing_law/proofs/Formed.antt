@@ -1,11 +1,11 @@
 -- The values of the fixed form are of the forms that the table of properties asks for.
-use Rattle.std.proofs.Common.{◌≡◌, ◌∙◌, ℕ, zero, suc, ◌≤◌, List, [], ◌∷◌, length, map, Option, Some, None, is_some, unwrap_or, Bool, true, false, ◌&&◌, cond, IsTrue, refl, sym, ap, subst, inl, inr, arith}
+use Rattle.std.proofs.Common.{◌≡◌, ◌∙◌, ℕ, zero, suc, ◌≤◌, List, [], ◌∷◌, length, map, Option, Some, None, is_some, unwrap_or, Bool, true, false, ◌&&◌, cond, refl, sym, ap, subst, inl, inr, arith}
 use Rattle.std.specs.Prelude.{All, IfSome, slice_get}
 use Rattle.std.specs.List.{AllByRecursion, list_all}
 use Rattle.std.specs.Str.{bytes_eq}
 use Rattle.std.proofs.lemmas.List.Elements.{All-contains}
 use Rattle.std.proofs.lemmas.Slice.Eq.{bytes_eq-Decides}
-use Rattle.exact_json.specs.Json.{Json, null, text, items, object, Members, items_list, members_list, member, last_member, first_of_two}
+use Rattle.exact_json.specs.Json.{Json, null, text, object, items_list, members_list, member, last_member, first_of_two}
 use Rattle.venue_types.specs.declared.feature_id.FeatureId.{FeatureId}
 use Rattle.venue_types.specs.declared.features.Label.{Label}
 use Rattle.venue_types.specs.declared.features.Ref.{Ref}

@@ -1,10 +1,9 @@
 -- The feature of each row breaks no rule on items.
-use Rattle.std.proofs.Common.{◌≡◌, ◌≢◌, ℕ, ◌+◌, ◌<◌, ◌≤◌, List, [], ◌∷◌, length, map, Option, Some, None, Bool, true, false, ◌||◌, is_some, IsTrue, refl, sym, ap, ◌∙◌, subst, inl, inr, ◌⊎◌, arith, codes}
-use Rattle.std.specs.Prelude.{All, Any, Contains, slice_get, sum_by, ℤ}
-use Rattle.std.specs.Str.{bytes_eq}
+use Rattle.std.proofs.Common.{◌≡◌, ℕ, ◌+◌, ◌≤◌, List, [], ◌∷◌, length, map, Option, Some, None, Bool, true, false, ◌||◌, is_some, refl, sym, ap, ◌∙◌, subst, inl, inr, arith, codes}
+use Rattle.std.specs.Prelude.{All, sum_by, ℤ}
 use Rattle.std.proofs.lemmas.List.Elements.{All-nil}
 use Rattle.std.proofs.lemmas.List.Sums.{sum_by-cons}
-use Rattle.exact_json.specs.Json.{Json, null, text, member, Members, no_pairs}
+use Rattle.exact_json.specs.Json.{Json, null, text, member}
 use Rattle.geo_shapes.specs.Laws.{HasOnePoint}
 use Rattle.geo_shapes.specs.Position.{BreaksPositions}
 use Rattle.venue_types.specs.declared.feature_id.FeatureId.{FeatureId}
@@ -33,10 +32,8 @@ use Rattle.venue_types.specs.declared.point.Line.{Line}
 use Rattle.venue_types.specs.declared.point.Part.{Part}
 use Rattle.venue_types.specs.declared.point.Shape.{Shape}
 use Rattle.venue_types.specs.FolderFiles.{type_name, geometry_of}
-use Rattle.imdf_schema.specs.declared.table.Property.TheVariants as property
 use Rattle.imdf_schema.specs.declared.table.PropertyRow.{PropertyRow}
 use Rattle.imdf_schema.specs.Values.{is_word, is_id, listed}
-use Rattle.imdf_schema.specs.Properties.{properties}
 use Rattle.imdf_schema.specs.Items as item
 use Rattle.imdf_schema.specs.Items.{is_feature, geometry, unlisted_property, fits_geometry}
 use Rattle.imdf_rows.specs.Fields.{IsOrdinal}
@@ -46,7 +43,7 @@ use Rattle.imdf_read.specs.Counts.{places_of, longest_ring, one_unless_null, ele
 use Rattle.imdf_read.specs.Broken.{IsMisformed, BreaksForm, ItemBreaks}
 use Rattle.feature_rows.specs.Sound.{IsOnEarth, element_count}
 use Rattle.imdf_write.specs.Values.{list_value, or_null, id_value, point_value, line_value, shape_value, parts_value, direction_word, reference_value}
-use Rattle.imdf_write.specs.Rows.{feature, plain_feature, amenity_feature, anchor_feature, building_feature, detail_feature, fixture_feature, footprint_feature, kiosk_feature, level_feature, occupant_feature, opening_feature, relationship_feature, unit_feature, venue_feature}
+use Rattle.imdf_write.specs.Rows.{plain_feature, amenity_feature, anchor_feature, building_feature, detail_feature, fixture_feature, footprint_feature, kiosk_feature, level_feature, occupant_feature, opening_feature, relationship_feature, unit_feature, venue_feature}
 use Rattle.imdf_write.specs.Folder.{features_of}
 use Rattle.writing_law.specs.Written.{FitsFeatures}
 use Rattle.writing_law.specs.Fit.{FitsId, FitsLine, FitsShape, FitsPlain, FitsAmenity, FitsAnchor, FitsBuilding, FitsDetail, FitsFixture, FitsFootprint, FitsKiosk, FitsLevel, FitsOccupant, FitsOpening, FitsRelationship, FitsUnit, FitsVenue}

@@ -1,5 +1,5 @@
 -- The folder of the fixed form breaks no rule on the folder: its features and positions are those of its rows.
-use Rattle.std.proofs.Common.{◌≡◌, ◌≢◌, ◌∙◌, ℕ, ◌+◌, ◌<◌, ◌≤◌, List, [], ◌∷◌, ◌++◌, length, map, drop, Option, Some, None, Bool, true, false, if◌then◌else◌, refl, sym, ap, subst, arith}
+use Rattle.std.proofs.Common.{◌≡◌, ◌≢◌, ◌∙◌, ℕ, ◌+◌, ◌≤◌, List, [], ◌∷◌, ◌++◌, length, map, drop, Option, Some, None, Bool, true, false, if◌then◌else◌, refl, sym, ap, subst, arith}
 use Rattle.std.specs.Prelude.{All, sum_by}
 use Rattle.std.specs.List.{AllZip, AllByRecursion, flat_map}
 use Rattle.std.proofs.lemmas.List.{length-map, length-append}
@@ -11,7 +11,7 @@ use Rattle.std.proofs.lemmas.Slice.Zip.{AllZip-long}
 use Rattle.exact_json.specs.Json.{Json}
 use Rattle.geo_shapes.specs.Numbers.{SameNumbers}
 use Rattle.geo_shapes.specs.Position.{IsPosition}
-use Rattle.geo_shapes.specs.Geometry.{shape_places, line_places}
+use Rattle.geo_shapes.specs.Geometry.{shape_places}
 use Rattle.venue_types.specs.declared.features.Features.{Features}
 use Rattle.venue_types.specs.declared.features.AmenityRow.{AmenityRow}
 use Rattle.venue_types.specs.declared.features.AnchorRow.{AnchorRow}
@@ -25,7 +25,7 @@ use Rattle.venue_types.specs.declared.point.Shape.{Shape}
 use Rattle.venue_types.specs.FolderFiles.{geometry_of, feature_files}
 use Rattle.venue_types.proofs.Zips.{zip_one}
 use Rattle.imdf_schema.specs.Items.{geometry}
-use Rattle.imdf_schema.specs.Contents.{IsContent, content_items}
+use Rattle.imdf_schema.specs.Contents.{IsContent}
 use Rattle.imdf_read.specs.Counts.{places_of, is_judged, item_positions, collected, file_positions, total_positions, AreContents}
 use Rattle.plane_exact.specs.Figure.{vertices}
 use Rattle.feature_rows.specs.Rows.{ids_of, feature_count}
@@ -33,7 +33,7 @@ use Rattle.feature_rows.specs.Figures.{positions_of, positions}
 use Rattle.imdf_write.specs.Values.{shape_value}
 use Rattle.imdf_write.specs.Rows.{plain_feature, amenity_feature, anchor_feature, building_feature, detail_feature, fixture_feature, footprint_feature, kiosk_feature, level_feature, occupant_feature, opening_feature, relationship_feature, unit_feature, venue_feature}
 use Rattle.imdf_write.specs.Folder.{features_of, canonical_file, canonical}
-use Rattle.writing_law.specs.Fit.{FitsLine, FitsShape, FitsFixture, FitsFootprint, FitsLevel, FitsOpening, FitsUnit, FitsVenue}
+use Rattle.writing_law.specs.Fit.{FitsShape, FitsFixture, FitsFootprint, FitsLevel, FitsOpening, FitsUnit, FitsVenue}
 use Rattle.writing_law.specs.Written.{FitsFeatures, written, IsWithinLimit, content_of}
 use Rattle.writing_law.proofs.Lists.{items_back}
 use Rattle.writing_law.proofs.Figures.{line_back, shape_back}

@@ -22,3 +22,4 @@ mod NothingBroken
 mod Strings
 mod Texts
 mod ReadFields
+mod ReadRows

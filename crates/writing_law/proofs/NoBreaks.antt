@@ -1,7 +1,7 @@
 -- A value that stands for a line or a shape breaks none of the rules on positions and forms.
-use Rattle.std.proofs.Common.{◌≡◌, ◌∙◌, ℕ, ◌-◌, ◌<◌, ◌≤◌, max, List, [], ◌∷◌, length, Option, Some, None, unwrap_or, Bool, true, false, cond, IsSome, IsTrue, refl, sym, ap, subst, arith, codes}
-use Rattle.std.specs.Prelude.{All, Any, slice_get}
-use Rattle.std.specs.List.{AllZip, flat_map}
+use Rattle.std.proofs.Common.{◌≡◌, ◌∙◌, ℕ, ◌-◌, ◌≤◌, max, List, [], ◌∷◌, length, Option, Some, None, unwrap_or, cond, IsSome, IsTrue, refl, sym, ap, subst, arith, codes}
+use Rattle.std.specs.Prelude.{All, slice_get}
+use Rattle.std.specs.List.{AllZip}
 use Rattle.std.proofs.lemmas.List.Elements.{All-head, All-tail}
 use Rattle.std.proofs.lemmas.Slice.Zip.{AllZip-long}
 use Rattle.exact_json.specs.Json.{Json, list_values}

@@ -1,6 +1,6 @@
 -- The first phase finds nothing in the fixed form of sound rows.
-use Rattle.std.proofs.Common.{◌≡◌, ℕ, ◌<◌, List, Option, Some, sym, subst, inl, inr, arith}
-use Rattle.std.specs.Prelude.{All, slice_get}
+use Rattle.std.proofs.Common.{◌≡◌, List, Option, Some, subst, inl, inr, arith}
+use Rattle.std.specs.Prelude.{slice_get}
 use Rattle.std.proofs.lemmas.List.Elements.{All-contains}
 use Rattle.exact_json.specs.Json.{Json}
 use Rattle.geo_shapes.specs.Laws.{HasOnePoint}
@@ -8,12 +8,11 @@ use Rattle.geo_shapes.specs.Numbers.{SameNumbers}
 use Rattle.venue_types.specs.declared.features.Features.{Features}
 use Rattle.venue_types.specs.declared.files.Slot.{Slot}
 use Rattle.venue_types.specs.declared.finding.Finding.{Finding}
-use Rattle.venue_types.specs.declared.folder_file.File.{File}
 use Rattle.venue_types.proofs.Items.{member_at}
-use Rattle.imdf_schema.specs.Contents.{IsContent, HasContent, content_items}
+use Rattle.imdf_schema.specs.Contents.{IsContent, content_items}
 use Rattle.imdf_read.specs.declared.rules.ReadingRule.{ReadingRule}
 use Rattle.imdf_read.specs.declared.rules.ReadingRule.TheVariants.{F1, F2, F3, F4, M1, M2, M3, C1, C2, C3, C4, C5, C6, V1, L1, Q1, S1, S2, S3, S4, G1, G2}
-use Rattle.imdf_read.specs.Broken.{FolderBreaks, BreaksInFolder, BreaksInFile, BreaksInItem}
+use Rattle.imdf_read.specs.Broken.{FolderBreaks, BreaksInFile, BreaksInItem}
 use Rattle.imdf_write.specs.Folder.{features_of}
 use Rattle.writing_law.specs.Written.{FitsFeatures, written, IsWithinLimit, content_of, FindsNothing}
 use Rattle.writing_law.proofs.Files.{SpellsItself, content_held, items_there}

@@ -1,5 +1,5 @@
 -- What is read of any value fits: identifiers of sixteen bytes, references to features, and texts in UTF-8.
-use Rattle.std.proofs.Common.{◌≡◌, ◌≢◌, ◌∙◌, ℕ, zero, suc, ◌+◌, ◌*◌, ◌^◌, ◌<◌, ◌≤◌, Bool, true, false, cond, ◌&&◌, ◌||◌, ◌==◌, nat_lt, nat_le, List, [], ◌∷◌, length, map, get_or, take, drop, Option, Some, None, unwrap_or, Ordering, Less, Equal, Greater, refl, sym, ap, subst, arith, codes}
+use Rattle.std.proofs.Common.{◌≡◌, ◌≢◌, ℕ, zero, suc, ◌+◌, ◌*◌, ◌^◌, ◌<◌, Bool, true, false, cond, ◌&&◌, ◌==◌, List, [], ◌∷◌, length, map, get_or, take, drop, Option, Some, None, unwrap_or, Ordering, Less, Equal, Greater, refl, sym, subst, arith, codes}
 use Rattle.std.specs.Prelude.{All, IfSome, option_map}
 use Rattle.std.specs.List.{AllByRecursion, filter_map, cons_option, list_all}
 use Rattle.std.specs.Int.{w128, from_be_bytes}
@@ -9,16 +9,14 @@ use Rattle.std.specs.BTreeMap.{insert_entry}
 use Rattle.std.specs.Ordering.{nat_cmp, match_ordering}
 use Rattle.std.proofs.lemmas.Bool.{and_parts}
 use Rattle.std.proofs.lemmas.Bool.Decides.{nat_tests}
-use Rattle.std.proofs.lemmas.List.Elements.{All-nil, All-cons, All-map, All-from_recursion}
-use Rattle.uuid.specs.Text.{by_index, is_hex_digit, value_of, byte_of_digits, parsed_simple, parsed_hyphenated, parsed_braced, parsed_urn, parsed, digits_of, has_hyphens, has_urn_prefix}
+use Rattle.std.proofs.lemmas.List.Elements.{All-nil, All-cons}
+use Rattle.uuid.specs.Text.{by_index, is_hex_digit, value_of, byte_of_digits, parsed_simple, parsed_hyphenated, parsed_braced, parsed_urn, parsed, digits_of}
 use Rattle.uuid.proofs.TextLemmas.{by_index_at}
-use Rattle.exact_json.specs.Json.{Json, null, number, boolean, text, items, object, text_bytes, member, HasTexts}
+use Rattle.exact_json.specs.Json.{Json, null, number, boolean, text, items, object, member, HasTexts}
 use Rattle.venue_types.specs.declared.feature_id.FeatureId.{FeatureId}
-use Rattle.venue_types.specs.declared.features.Label.{Label}
-use Rattle.venue_types.specs.declared.features.Ref.{Ref}
 use Rattle.venue_types.specs.declared.folder_file.File.{File}
 use Rattle.venue_types.specs.declared.folder_file.File.TheVariants as file
-use Rattle.venue_types.specs.Identifier.{identifier_of, identifier_read}
+use Rattle.venue_types.specs.Identifier.{identifier_of}
 use Rattle.venue_types.specs.FolderFiles.{type_name, feature_files, file_among, file_of_type}
 use Rattle.std.specs.Str.{bytes_eq}
 use Rattle.imdf_schema.specs.Values.{listed, pairs_of, id_of}
@@ -141,7 +139,8 @@ among_fits (f ∷ fs) name all = found_fits (bytes_eq (type_name f) name) f (fil
 
 feature_files_fit : AllByRecursion HasFeatures feature_files
 feature_files_fit = (
-  (λ e. cc), ((λ e. cc), ((λ e. cc), ((λ e. cc), ((λ e. cc), ((λ e. cc), ((λ e. cc), ((λ e. cc), ((λ e. cc), ((λ e. cc), ((λ e. cc), ((λ e. cc), ((λ e. cc), ((λ e. cc), ((λ e. cc), ((λ e. cc), tt)))))))))))))))
+  (λ e. cc),
+  ((λ e. cc), ((λ e. cc), ((λ e. cc), ((λ e. cc), ((λ e. cc), ((λ e. cc), ((λ e. cc), ((λ e. cc), ((λ e. cc), ((λ e. cc), ((λ e. cc), ((λ e. cc), ((λ e. cc), ((λ e. cc), ((λ e. cc), tt))))))))))))))),
 )
 
 type_fits : (v : Json) → IfSome (type_of v) HasFeatures

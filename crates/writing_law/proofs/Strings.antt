@@ -1,12 +1,12 @@
 -- The text of a string in UTF-8 is UTF-8: a text may be cut at each backslash, and what an escape stands for is a character.
-use Rattle.std.proofs.Common.{◌≡◌, ◌∙◌, ℕ, zero, suc, ◌+◌, ◌-◌, ◌*◌, ◌<◌, ◌≤◌, Bool, true, false, cond, ◌&&◌, ◌||◌, ◌==◌, nat_lt, nat_le, List, [], ◌∷◌, ◌++◌, take, drop, length, get_or, Option, Some, None, IsSome, unwrap_or, refl, sym, ap, subst, arith, append_assoc, length-append}
+use Rattle.std.proofs.Common.{◌≡◌, ◌∙◌, ℕ, ◌+◌, ◌-◌, ◌*◌, ◌<◌, ◌≤◌, Bool, true, false, cond, ◌&&◌, ◌||◌, ◌==◌, nat_lt, nat_le, List, [], ◌∷◌, ◌++◌, length, get_or, Option, Some, None, IsSome, unwrap_or, refl, sym, ap, subst, arith, append_assoc, length-append}
 use Rattle.std.proofs.Math.Seq.{take-append_seam, drop-append_seam}
 use Rattle.std.proofs.lemmas.Bool.{and_parts, eqb-true, leb-true, ltb-true}
 use Rattle.std.proofs.lemmas.List.{append-nil}
 use Rattle.std.proofs.lemmas.Str.{IsUtf8-append, IsUtf8-encode, IsUtf8-take, IsUtf8-drop, IsCharBoundary-before_ascii, IsCharBoundary-after_ascii}
 use Rattle.std.specs.List.{AllByRecursion, flat_map}
 use Rattle.std.specs.Str.{IsUtf8}
-use Rattle.std.specs.Char.{IsScalar, digit_value, is_digit, encode_utf8}
+use Rattle.std.specs.Char.{IsScalar, digit_value, encode_utf8}
 use Rattle.exact_json.specs.Strings.{Char, unescaped, short, unit, char_bytes, short_escape, IsHex, AreHex, IsChar, unit_of, is_high, is_low, is_pair, character_of, alone, chars_text, IsText}
 
 at_seam : (a : List ℕ) (x : ℕ) (b : List ℕ) → get_or (a ++ x ∷ b) (length a) 0 ≡ x

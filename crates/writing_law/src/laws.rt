@@ -1,6 +1,6 @@
 //! What is read of a folder that was written in its fixed form.
 
-ghost use Rattle.std.specs.Prelude.{◌≡◌, ◌≢◌, List, Option, Some, Bool, not, IsTrue, IfSome, All, codes};
+ghost use Rattle.std.specs.Prelude.{◌≡◌, ◌≢◌, length, List, Option, Some, Bool, not, IsTrue, IfSome, All, codes};
 ghost use Rattle.exact_json.specs.Json.{text};
 ghost use Rattle.geo_shapes.specs.Geometry.{HasPoint, HasLine, HasShape};
 ghost use Rattle.venue_types.specs.declared.feature_id.FeatureId.{FeatureId};
@@ -21,6 +21,7 @@ ghost use Rattle.venue_types.specs.declared.features.UnitRow.{UnitRow};
 ghost use Rattle.venue_types.specs.declared.features.VenueRow.{VenueRow};
 ghost use Rattle.venue_types.specs.declared.features.Ref.{Ref};
 ghost use Rattle.venue_types.specs.declared.folder_file.File.{File};
+ghost use Rattle.venue_types.specs.declared.files.Files.{Files};
 ghost use Rattle.venue_types.specs.declared.kind.Kind.{Kind};
 ghost use Rattle.venue_types.specs.declared.kind.Kind.TheVariants as kind;
 ghost use Rattle.venue_types.specs.declared.point.Line.{Line};
@@ -32,6 +33,7 @@ ghost use Rattle.imdf_rows.specs.Rows.{IsPlainRow, IsAmenityRow, IsAnchorRow, Is
 ghost use Rattle.imdf_read.specs.Ordinals.{IsInRange};
 ghost use Rattle.feature_rows.specs.Sound.{IsOnEarth};
 ghost use Rattle.imdf_write.specs.Values.{list_value, or_null, if_so, id_value, ordinal_value, point_value, line_value, shape_value, name_value, word_list, door_of, passage_word, direction_word, reference_value};
+ghost use Rattle.imdf_write.specs.Folder.{canonical};
 ghost use Rattle.imdf_write.specs.Rows.{plain_feature, amenity_feature, anchor_feature, building_feature, detail_feature, fixture_feature, footprint_feature, kiosk_feature, level_feature, occupant_feature, opening_feature, relationship_feature, unit_feature, venue_feature};
 ghost use Rattle.imdf_rows.specs.Folder.{AreFeatures};
 ghost use Rattle.writing_law.specs.Written.{FitsFeatures, written, IsWithinLimit, FindsNothing};
@@ -40,6 +42,8 @@ ghost use Rattle.writing_law.specs.Fit.{FitsId, FitsRef, FitsName, FitsLine, Fit
 
 use exact_json::laws::one_json_law;
 use geo_shapes::{one_point_law, same_numbers_law};
+use imdf_read::{one_reading_law, ordinals_law, sound_reading_law};
+use imdf_rows::{doors_law, passages_law};
 use json_text::compact_law;
 
 /// Each field of a row is what is read of the value by which the fixed form writes it.
@@ -100,4 +104,36 @@ pub fn rule_law()
     one_json_law();
     one_point_law();
     same_numbers_law();
+}
+
+/// The rows of a folder in which the first phase finds nothing keep what they are to keep.
+pub fn fit_law()
+    ensures { (files : Files) (features : Features) → length files.slots ≡ 17 → AreFeatures files features → FindsNothing files → FitsFeatures features }
+{
+    sound_reading_law();
+    ordinals_law();
+    doors_law();
+    passages_law();
+}
+
+/// The law of the fixed form. Where the first phase finds nothing in a folder, and no file of the fixed form of its rows has
+/// more bytes than are read, it finds nothing in the fixed form, whose rows are the same.
+pub fn writer_law()
+    ensures nothing { (files : Files) (features : Features) → length files.slots ≡ 17 → AreFeatures files features → FindsNothing files → IsWithinLimit features
+        → FindsNothing (written features) }
+    ensures same { (files : Files) (features : Features) → length files.slots ≡ 17 → AreFeatures files features → FindsNothing files → IsWithinLimit features
+        → AreFeatures (written features) features }
+{
+    fit_law();
+    file_law();
+    rule_law();
+}
+
+/// The fixed form of what is read of the fixed form is the same files.
+pub fn canon_again()
+    ensures { (files : Files) (features again : Features) → length files.slots ≡ 17 → AreFeatures files features → FindsNothing files → IsWithinLimit features
+        → AreFeatures (written features) again → canonical again ≡ canonical features }
+{
+    writer_law();
+    one_reading_law();
 }

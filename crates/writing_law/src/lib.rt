@@ -3,4 +3,4 @@
 
 mod laws;
 
-pub use laws::{field_law, file_law, row_law, rule_law};
+pub use laws::{canon_again, field_law, file_law, fit_law, row_law, rule_law, writer_law};
