@@ -1,5 +1,6 @@
 -- What no stop stops is written.
-use Rattle.std.proofs.Common.{◌≡◌, ◌∙◌, ℕ, List, [], ◌∷◌, Some, None, refl, sym, ap, subst, inl, inr, codes}
+use Rattle.std.proofs.Common.{◌≡◌, ◌∙◌, ℕ, List, [], ◌∷◌, Some, None, refl, sym, ap, subst, inl, inr, codes, Bool, true, false}
+use Rattle.std.specs.Str.{bytes_eq}
 use Rattle.std.proofs.lemmas.Option.{same_Some}
 use Rattle.venue_types.specs.declared.folder_file.File.{File}
 use Rattle.venue_types.specs.declared.folder_file.File.TheVariants as file
@@ -57,12 +58,44 @@ not_session : (base base' folder folder' : List ℕ) (f : File) → words_of (Ca
 not_session base base' folder folder' f same = cc
 
 -- words that are told twice have one first word
-first_word : List (List ℕ) → List ℕ
+abbrev first_word : List (List ℕ) → List ℕ
 first_word [] = []
 first_word (word ∷ words) = word
 
 first_words : (words : List (List ℕ)) (first other : List ℕ) (rest others : List (List ℕ)) → words ≡ first ∷ rest → words ≡ other ∷ others → first ≡ other
 first_words words first other rest others is is' = ap first_word (sym is ∙ is')
+
+-- whether a word is the command's
+abbrev is_canon : List ℕ → Bool
+is_canon word = bytes_eq word (codes "canon")
+
+never : false ≡ true → ⊥
+never same = cc
+
+-- the other commands have other names
+no_price : codes "price" ≡ codes "canon" → ⊥
+no_price same = never (ap is_canon same)
+
+no_verify : codes "verify" ≡ codes "canon" → ⊥
+no_verify same = never (ap is_canon same)
+
+no_check : codes "check" ≡ codes "canon" → ⊥
+no_check same = never (ap is_canon same)
+
+no_links : codes "links" ≡ codes "canon" → ⊥
+no_links same = never (ap is_canon same)
+
+no_route : codes "route" ≡ codes "canon" → ⊥
+no_route same = never (ap is_canon same)
+
+no_session : codes "session" ≡ codes "canon" → ⊥
+no_session same = never (ap is_canon same)
+
+no_serve : codes "serve" ≡ codes "canon" → ⊥
+no_serve same = never (ap is_canon same)
+
+no_gen : codes "gen" ≡ codes "canon" → ⊥
+no_gen same = never (ap is_canon same)
 
 -- what is printed is this file, with status 0
 abbrev IsFile : Venue → File → List ℕ → Status → Type 0
@@ -78,11 +111,11 @@ file_of : NotBoth → OneVenue → (words : List (List ℕ)) (files : List Store
     → words ≡ words_of (Canon base folder f) → HasVenue files base folder venue → Output words files text status → IsFile venue f text status
 file_of both one words files base folder f text status venue form is has (other_words none) = absurd (none (Canon base folder f) form is)
 file_of both one words files base folder f text status venue form is has (answers_price base' form' is' output) =
-    let same : codes "price" ≡ codes "canon" = first_words words _ _ _ _ is' is in absurd cc
+    absurd (no_price (first_words words _ _ _ _ is' is))
 file_of both one words files base folder f text status venue form is has (answers_verify base' form' is' output) =
-    let same : codes "verify" ≡ codes "canon" = first_words words _ _ _ _ is' is in absurd cc
+    absurd (no_verify (first_words words _ _ _ _ is' is))
 file_of both one words files base folder f text status venue form is has (answers_check base' folder' form' is' output) =
-    let same : codes "check" ≡ codes "canon" = first_words words _ _ _ _ is' is in absurd cc
+    absurd (no_check (first_words words _ _ _ _ is' is))
 file_of both one words files base folder f text status venue form is has (answers_canon base' folder' g form' is' output) =
     let same = sym is' ∙ is in
     let here : CanonOutput files base folder f text status =
@@ -91,15 +124,15 @@ file_of both one words files base folder f text status venue form is has (answer
     (subst (λ (h : File). CanonOutput files base' folder' h text status) (one_name g f (same_name base' base folder' folder g f same)) output)) in
     file_printed both one files base folder f text status venue has here
 file_of both one words files base folder f text status venue form is has (answers_links base' folder' profile form' is' output) =
-    let same : codes "links" ≡ codes "canon" = first_words words _ _ _ _ is' is in absurd cc
+    absurd (no_links (first_words words _ _ _ _ is' is))
 file_of both one words files base folder f text status venue form is has (answers_route base' folder' profile from to a b form' is' from-is to-is output) =
-    let same : codes "route" ≡ codes "canon" = first_words words _ _ _ _ is' is in absurd cc
+    absurd (no_route (first_words words _ _ _ _ is' is))
 file_of both one words files base folder f text status venue form is has (stops_session base' folder' form' is' output) =
-    let same : codes "session" ≡ codes "canon" = first_words words _ _ _ _ is' is in absurd cc
+    absurd (no_session (first_words words _ _ _ _ is' is))
 file_of both one words files base folder f text status venue form is has (stops_serve base' folder' address workers connections form' is' output) =
-    let same : codes "serve" ≡ codes "canon" = first_words words _ _ _ _ is' is in absurd cc
+    absurd (no_serve (first_words words _ _ _ _ is' is))
 file_of both one words files base folder f text status venue form is has (answers_gen levels form' is' output) =
-    let same : codes "gen" ≡ codes "canon" = first_words words _ _ _ _ is' is in absurd cc
+    absurd (no_gen (first_words words _ _ _ _ is' is))
 
 printed_out : NotBoth → OneVenue → (words : List (List ℕ)) (files : List StoredFile) (base folder : List ℕ) (f : File) (venue : Venue) (run : Run) (status : Status) → IsAsked (Canon base folder f)
     → words ≡ words_of (Canon base folder f) → HasVenue files base folder venue → Printed words (Some files) run status → IsWrittenOut venue f run status
