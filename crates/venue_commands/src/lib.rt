@@ -42,4 +42,5 @@ pub use route_law::route_is_proved;
 pub use settings::settings_of;
 pub use start::Start;
 pub use status::Status;
+pub use version_board::{Alone, Built, Hall, Unopened, Venue, build};
 pub use words::read_command;

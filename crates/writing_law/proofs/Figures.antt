@@ -19,7 +19,7 @@ use Rattle.venue_types.specs.declared.point.Ring.{Ring}
 use Rattle.venue_types.specs.declared.point.Part.{Part}
 use Rattle.venue_types.specs.declared.point.Shape.{Shape}
 use Rattle.plane_exact.specs.Figure.{rings_of, ring_points}
-use Rattle.feature_rows.specs.Sound.{IsOnEarth, IsSoundRing}
+use Rattle.imdf_read.specs.Sound.{IsOnEarth, IsSoundRing}
 use Rattle.imdf_rows.specs.Fields.{IsDisplay}
 use Rattle.imdf_write.specs.Values.{list_value, or_null, angle_value, position_value, ring_value, part_value, point_value, line_value, parts_value, shape_value}
 use Rattle.writing_law.specs.Fit.{FitsLine, FitsShape}

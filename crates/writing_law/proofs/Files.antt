@@ -6,7 +6,7 @@ use Rattle.std.proofs.lemmas.List.Elements.{All-nil, All-map, All-weaker}
 use Rattle.exact_json.specs.Json.{Json, null, text, items, no_pairs, pair, AllNumbers, HasTexts}
 use Rattle.exact_json.specs.Number.{IsNumber}
 use Rattle.exact_json.specs.Grammar.{IsJson}
-use Rattle.json_text.specs.Compact.{compact}
+use Rattle.imdf_write.specs.Compact.{compact}
 use Rattle.geo_shapes.specs.Numbers.{SameNumbers}
 use Rattle.venue_types.specs.declared.features.Features.{Features}
 use Rattle.venue_types.specs.declared.files.Slot.{Slot}

@@ -17,7 +17,7 @@ use Rattle.imdf_schema.specs.Values.{is_id, is_text}
 use Rattle.imdf_schema.specs.Forms.{type_of, is_reference, Fits, items_of, item_fits}
 use Rattle.imdf_write.specs.Values.{list_value, or_null, if_so, id_value, point_value, label_pairs, name_value, word_list, door_of, type_numbered, reference_value}
 use Rattle.imdf_write.specs.Values.{items_of as written_items}
-use Rattle.feature_rows.specs.Sound.{IsOnEarth}
+use Rattle.imdf_read.specs.Sound.{IsOnEarth}
 use Rattle.writing_law.specs.Fit.{FitsId, FitsRef}
 use Rattle.writing_law.proofs.Lists.{items_back}
 use Rattle.writing_law.proofs.Ids.{id_back}

@@ -41,7 +41,7 @@ use Rattle.imdf_read.specs.declared.rules.ReadingRule.{ReadingRule}
 use Rattle.imdf_read.specs.declared.rules.ReadingRule.TheVariants.{F1, F2, F3, F4, M1, M2, M3, C1, C2, C3, C4, C5, C6, V1, L1, Q1, S1, S2, S3, S4, G1, G2}
 use Rattle.imdf_read.specs.Counts.{places_of, longest_ring, one_unless_null, elements}
 use Rattle.imdf_read.specs.Broken.{IsMisformed, BreaksForm, ItemBreaks}
-use Rattle.feature_rows.specs.Sound.{IsOnEarth, element_count}
+use Rattle.imdf_read.specs.Sound.{IsOnEarth, element_count}
 use Rattle.imdf_write.specs.Values.{list_value, or_null, id_value, point_value, line_value, shape_value, parts_value, direction_word, reference_value}
 use Rattle.imdf_write.specs.Rows.{plain_feature, amenity_feature, anchor_feature, building_feature, detail_feature, fixture_feature, footprint_feature, kiosk_feature, level_feature, occupant_feature, opening_feature, relationship_feature, unit_feature, venue_feature}
 use Rattle.imdf_write.specs.Folder.{features_of}

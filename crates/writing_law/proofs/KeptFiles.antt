@@ -4,7 +4,7 @@ use Rattle.std.specs.Prelude.{All}
 use Rattle.std.proofs.lemmas.List.{length-map}
 use Rattle.exact_json.specs.Json.{Json, member, depth}
 use Rattle.exact_json.specs.Grammar.{IsJson}
-use Rattle.json_text.specs.Compact.{compact}
+use Rattle.imdf_write.specs.Compact.{compact}
 use Rattle.geo_shapes.specs.Numbers.{SameNumbers}
 use Rattle.venue_types.specs.declared.features.Features.{Features}
 use Rattle.venue_types.specs.declared.files.Slot.{Slot}

@@ -28,8 +28,8 @@ use Rattle.imdf_schema.specs.Items.{geometry}
 use Rattle.imdf_schema.specs.Contents.{IsContent}
 use Rattle.imdf_read.specs.Counts.{places_of, is_judged, item_positions, collected, file_positions, total_positions, AreContents}
 use Rattle.plane_exact.specs.Figure.{vertices}
-use Rattle.feature_rows.specs.Rows.{ids_of, feature_count}
-use Rattle.feature_rows.specs.Figures.{positions_of, positions}
+use Rattle.imdf_read.specs.Rows.{ids_of, feature_count}
+use Rattle.imdf_read.specs.Figures.{positions_of, positions}
 use Rattle.imdf_write.specs.Values.{shape_value}
 use Rattle.imdf_write.specs.Rows.{plain_feature, amenity_feature, anchor_feature, building_feature, detail_feature, fixture_feature, footprint_feature, kiosk_feature, level_feature, occupant_feature, opening_feature, relationship_feature, unit_feature, venue_feature}
 use Rattle.imdf_write.specs.Folder.{features_of, canonical_file, canonical}

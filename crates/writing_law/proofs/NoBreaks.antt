@@ -16,7 +16,7 @@ use Rattle.geo_shapes.specs.Position.{IsPosition, IsNoPosition, BreaksPositions}
 use Rattle.geo_shapes.specs.Figure.{IsRing, IsPolygon, BreaksLine, BreaksRing, BreaksPolygon}
 use Rattle.geo_shapes.specs.Geometry.{coordinates, is_multi, point_places, line_places, polygon_places, ring_places, shape_places, longest_of, HasPoint, HasLine, HasShape, BreaksLineForm, BreaksShapeForm}
 use Rattle.plane_exact.specs.Figure.{rings_of, rings, vertices}
-use Rattle.feature_rows.specs.Sound.{IsSoundRing}
+use Rattle.imdf_read.specs.Sound.{IsSoundRing}
 use Rattle.imdf_write.specs.Values.{geometry_value}
 use Rattle.writing_law.proofs.Zipped.{zip_flat, none_of, twin_at}
 

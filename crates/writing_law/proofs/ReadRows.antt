@@ -55,7 +55,7 @@ use Rattle.imdf_read.specs.declared.rules.ReadingRule.TheVariants.{C2, C6}
 use Rattle.imdf_read.specs.Rules.{rule_of}
 use Rattle.imdf_read.specs.Ordinals.{IsInRange}
 use Rattle.plane_exact.specs.Figure.{vertices}
-use Rattle.feature_rows.specs.Sound.{IsOnEarth, IsSoundShape, AreSound}
+use Rattle.imdf_read.specs.Sound.{IsOnEarth, IsSoundShape, AreSound}
 use Rattle.writing_law.specs.Fit.{FitsId, FitsRef, FitsName, FitsLine, FitsShape, FitsPlain, FitsAmenity, FitsAnchor, FitsBuilding, FitsDetail, FitsFixture, FitsFootprint, FitsKiosk, FitsLevel, FitsOccupant, FitsOpening, FitsRelationship, FitsUnit, FitsVenue}
 use Rattle.writing_law.specs.Written.{FitsFeatures, FindsNothing}
 use Rattle.writing_law.proofs.NoBreaks.{shape_positions}

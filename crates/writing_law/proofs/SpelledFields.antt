@@ -28,7 +28,7 @@ use Rattle.venue_types.specs.Identifier.{identifier_text}
 use Rattle.venue_types.specs.FolderFiles.{file_number, type_name}
 use Rattle.venue_types.proofs.IdentifierLemmas.{identifier_text-ascii}
 use Rattle.plane_exact.specs.Figure.{rings_of, ring_points}
-use Rattle.feature_rows.specs.Sound.{IsOnEarth}
+use Rattle.imdf_read.specs.Sound.{IsOnEarth}
 use Rattle.imdf_write.specs.Values.{list_value, or_null, id_value, ordinal_value, angle_value, position_value, positions_value, ring_value, part_value, geometry_value, point_value, line_value, parts_value, shape_value, label_pairs, name_value, word_list, door_value, door_of, type_numbered, reference_value, passage_word, direction_word}
 use Rattle.writing_law.specs.Fit.{FitsRef, FitsLabel, FitsLine, FitsShape}
 use Rattle.writing_law.specs.Spelled.{IsSpelled, HasSpelled}

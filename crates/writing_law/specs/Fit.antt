@@ -24,7 +24,7 @@ use Rattle.venue_types.specs.declared.point.Line.{Line}
 use Rattle.venue_types.specs.declared.point.Shape.{Shape}
 use Rattle.venue_types.specs.FolderFiles.{file_number}
 use Rattle.plane_exact.specs.Figure.{vertices}
-use Rattle.feature_rows.specs.Sound.{IsOnEarth, IsSoundShape}
+use Rattle.imdf_read.specs.Sound.{IsOnEarth, IsSoundShape}
 use Rattle.imdf_rows.specs.Laws.{TagsAscend, IsOneDoor, IsPassageOrNone}
 use Rattle.imdf_read.specs.Ordinals.{IsInRange}
 

@@ -4,7 +4,7 @@ use Rattle.exact_json.specs.Json.{Json}
 use Rattle.venue_types.specs.declared.features.Features.{Features}
 use Rattle.venue_types.specs.declared.files.Files.{Files}
 use Rattle.venue_types.specs.declared.finding.Finding.{Finding}
-use Rattle.feature_rows.specs.Sound.{AreSound}
+use Rattle.imdf_read.specs.Sound.{AreSound}
 use Rattle.imdf_schema.specs.Contents.{IsLarge}
 use Rattle.imdf_write.specs.Folder.{collection, canonical}
 use Rattle.imdf_read.specs.Broken.{IsBroken}

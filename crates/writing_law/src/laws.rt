@@ -31,7 +31,7 @@ ghost use Rattle.imdf_schema.specs.Values.{id_of, is_null, is_word};
 ghost use Rattle.imdf_rows.specs.Fields.{ids_field, labels_field, lists_word, door_is, passage_field, ref_of, refs_field, IsDisplay, IsOrdinal};
 ghost use Rattle.imdf_rows.specs.Rows.{IsPlainRow, IsAmenityRow, IsAnchorRow, IsBuildingRow, IsDetailRow, IsFixtureRow, IsFootprintRow, IsKioskRow, IsLevelRow, IsOccupantRow, IsOpeningRow, IsRelationshipRow, IsUnitRow, IsVenueRow};
 ghost use Rattle.imdf_read.specs.Ordinals.{IsInRange};
-ghost use Rattle.feature_rows.specs.Sound.{IsOnEarth};
+ghost use Rattle.imdf_read.specs.Sound.{IsOnEarth};
 ghost use Rattle.imdf_write.specs.Values.{list_value, or_null, if_so, id_value, ordinal_value, point_value, line_value, shape_value, name_value, word_list, door_of, passage_word, direction_word, reference_value};
 ghost use Rattle.imdf_write.specs.Folder.{canonical};
 ghost use Rattle.imdf_write.specs.Rows.{plain_feature, amenity_feature, anchor_feature, building_feature, detail_feature, fixture_feature, footprint_feature, kiosk_feature, level_feature, occupant_feature, opening_feature, relationship_feature, unit_feature, venue_feature};
@@ -44,7 +44,7 @@ use exact_json::laws::one_json_law;
 use geo_shapes::{one_point_law, same_numbers_law};
 use imdf_read::{one_reading_law, ordinals_law, sound_reading_law};
 use imdf_rows::{doors_law, passages_law};
-use json_text::compact_law;
+use imdf_write::compact_law;
 
 /// Each field of a row is what is read of the value by which the fixed form writes it.
 pub fn field_law()

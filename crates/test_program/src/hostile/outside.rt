@@ -14,9 +14,8 @@ use venue_ports::{
     Disks, Doors, Folders, MemoryDisks, MemoryDoors, MemoryFile, MemoryFolders, MemoryStream,
     Stream,
 };
-use venue_program::{Outcome, run};
+use venue_program::{Built, Outcome, Venue, build, run};
 use venue_types::{Settings, Text};
-use version_board::{Built, Venue, build};
 
 /// How the program ended, what it printed, and how often its folders and its doors failed.
 #[derive(Drop)]
