@@ -1,0 +1,3 @@
+mod Twins
+mod Notes
+mod Venues
