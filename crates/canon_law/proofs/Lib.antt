@@ -1,3 +1,1 @@
-mod Twins
-mod Notes
 mod Venues

@@ -1,17 +1,15 @@
 -- The venue of a written folder.
-use Rattle.std.proofs.Common.{◌≡◌, ◌≢◌, ◌∙◌, List, Bool, true, false, not, ◌==◌, IsTrue, refl, sym, inl, inr, arith}
+use Rattle.std.proofs.Common.{◌≡◌, ◌≢◌, ◌∙◌, Bool, true, false, not, ◌==◌, IsTrue, refl, sym, inl, inr, arith}
+use Rattle.std.specs.Prelude.{◌↔◌}
 use Rattle.std.proofs.lemmas.Bool.{not-true, eqb-true, eqb-false}
 use Rattle.std.proofs.lemmas.List.Kept.{IsStrictlySortedBy-filter}
-use Rattle.exact_json.specs.Json.{Json}
 use Rattle.venue_types.specs.declared.files.Files.{Files}
 use Rattle.venue_types.specs.declared.finding.Note.{Note}
-use Rattle.venue_types.specs.declared.folder_file.File.TheVariants as file
 use Rattle.venue_types.specs.declared.settings.Settings.{Settings}
 use Rattle.rule_reports.specs.Order.{note_cmp}
 use Rattle.imdf_schema.specs.Rules.{note_number}
-use Rattle.imdf_schema.specs.Contents.{HasContent, content_items}
-use Rattle.imdf_rows.specs.Folder.{AreFeatures}
-use Rattle.imdf_write.specs.Folder.{features_of}
+use Rattle.imdf_read.specs.Folder.{AreFeatures}
+use Rattle.imdf_read.specs.Noted.{IsNoted}
 use Rattle.venue_nodes.specs.declared.notes.PlaceNote.{PlaceNote}
 use Rattle.venue_nodes.specs.declared.notes.PlaceNote.TheVariants.{N3, N4}
 use Rattle.venue_nodes.specs.Unplaced.{note_of}
@@ -19,10 +17,8 @@ use Rattle.link_graph.proofs.Items.{from_filter, to_filter}
 use Rattle.venue_build.specs.Report.{IsVenueNoted}
 use Rattle.venue_build.specs.Venues.{SeenVenue as Venue}
 use Rattle.venue_build.specs.Built.{IsVenueOf}
-use Rattle.writing_law.specs.Written.{written, content_of, FindsNothing}
+use Rattle.writing_law.specs.Written.{written, FindsNothing}
 use Rattle.canon_law.specs.Rewritten.{is_kept, rewritten}
-use Rattle.canon_law.proofs.Twins.{HasOneJson}
-use Rattle.canon_law.proofs.Notes.{noted_again, none_on_restrictions}
 
 -- a note is kept where it is another
 other_of : (x : Note) → IsTrue (is_kept x) → x.note ≢ 5
@@ -40,24 +36,18 @@ place_number : (note : PlaceNote) → note_number (note_of note) ≢ 5
 place_number N3 e = omega arith
 place_number N4 e = omega arith
 
-module _ (one : HasOneJson) (files : Files) (settings : Settings) (venue : Venue) (is : IsVenueOf files settings venue) (none : FindsNothing (written venue.features))
-    (back : AreFeatures (written venue.features) venue.features) (held : HasContent (written venue.features) file.Unit (content_of (features_of file.Unit venue.features)))
-    (items : (vs : List Json) → content_items (content_of vs) ≡ vs) where
+module _ (files : Files) (settings : Settings) (venue : Venue) (is : IsVenueOf files settings venue) (none : FindsNothing (written venue.features)) (back : AreFeatures (written venue.features) venue.features)
+    (same : (x : Note) → IsNoted (written venue.features) x ↔ (IsNoted files x × (x.note ≢ 5))) where
   -- what is noted of the written folder was noted before
   before : (x : Note) → IsVenueNoted (written venue.features) venue.features settings x → IsVenueNoted files venue.features settings x × (x.note ≢ 5)
   before x noted = elim noted [
-    | inl read ↦
-        let other = none_on_restrictions one venue.features held items x read in
-        (inl (noted_again one (written venue.features) files venue.features back is.rows is.first x other read), other)
+    | inl read ↦ let old = (same x).0 read in (inl old.0, old.1)
     | inr placed ↦ (inr placed, (λ e. place_number placed.note (sym placed.number ∙ e)))
   ]
 
   -- and what was noted before, if it is another note than that on a restriction, is noted again
   after : (x : Note) → x.note ≢ 5 → IsVenueNoted files venue.features settings x → IsVenueNoted (written venue.features) venue.features settings x
-  after x other noted = elim noted [
-    | inl read ↦ inl (noted_again one files (written venue.features) venue.features is.rows back none x other read)
-    | inr placed ↦ inr placed
-  ]
+  after x other noted = elim noted [ inl read ↦ inl ((same x).1 (read, other)) | inr placed ↦ inr placed ]
 
   pub written_venue : IsVenueOf (written venue.features) settings (rewritten venue)
   written_venue = record {

@@ -9,9 +9,8 @@ ghost use Rattle.venue_build.specs.Built.{IsRejected, IsVenueOf};
 ghost use Rattle.writing_law.specs.Written.{written, IsWithinLimit};
 ghost use Rattle.canon_law.specs.Rewritten.{rewritten};
 
-use exact_json::laws::one_json_law;
 use venue_build::one_outcome;
-use writing_law::{content_law, fit_law, writer_law};
+use writing_law::{notes_law, writer_law};
 
 /// A folder that makes a venue makes one of the same rows when it is written in its fixed form, if no file of that has more
 /// bytes than are read: under the same settings, and with the same notes, less those on the text of a restriction. It makes
@@ -25,8 +24,6 @@ pub fn canon_checked()
         → IsVenueOf files settings venue → IsWithinLimit venue.features → ¬ IsRejected (written venue.features) settings report }
 {
     writer_law();
-    fit_law();
-    content_law();
-    one_json_law();
+    notes_law();
     one_outcome();
 }

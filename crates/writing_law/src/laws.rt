@@ -1,7 +1,7 @@
 //! What is read of a folder that was written in its fixed form.
 
-ghost use Rattle.std.specs.Prelude.{◌≡◌, ◌≢◌, length, List, Option, Some, Bool, not, IsTrue, IfSome, All, codes};
-ghost use Rattle.exact_json.specs.Json.{Json, text};
+ghost use Rattle.std.specs.Prelude.{◌≡◌, ◌≢◌, ◌↔◌, length, List, Option, Some, Bool, not, IsTrue, IfSome, All, codes};
+ghost use Rattle.exact_json.specs.Json.{text};
 ghost use Rattle.geo_shapes.specs.Geometry.{HasPoint, HasLine, HasShape};
 ghost use Rattle.venue_types.specs.declared.feature_id.FeatureId.{FeatureId};
 ghost use Rattle.venue_types.specs.declared.features.Label.{Label};
@@ -20,25 +20,27 @@ ghost use Rattle.venue_types.specs.declared.features.RelationshipRow.{Relationsh
 ghost use Rattle.venue_types.specs.declared.features.UnitRow.{UnitRow};
 ghost use Rattle.venue_types.specs.declared.features.VenueRow.{VenueRow};
 ghost use Rattle.venue_types.specs.declared.features.Ref.{Ref};
+ghost use Rattle.venue_types.specs.declared.finding.Note.{Note};
 ghost use Rattle.venue_types.specs.declared.folder_file.File.{File};
-ghost use Rattle.venue_types.specs.declared.folder_file.File.TheVariants as file;
 ghost use Rattle.venue_types.specs.declared.files.Files.{Files};
 ghost use Rattle.venue_types.specs.declared.kind.Kind.{Kind};
 ghost use Rattle.venue_types.specs.declared.kind.Kind.TheVariants as kind;
 ghost use Rattle.venue_types.specs.declared.point.Line.{Line};
 ghost use Rattle.venue_types.specs.declared.point.Point.{Point};
 ghost use Rattle.venue_types.specs.declared.point.Shape.{Shape};
-ghost use Rattle.imdf_schema.specs.Contents.{HasContent, content_items};
+ghost use Rattle.imdf_schema.specs.declared.rules.NoteKind.TheVariants as noted;
+ghost use Rattle.imdf_schema.specs.Rules.{note_number};
 ghost use Rattle.imdf_schema.specs.Values.{id_of, is_null, is_word};
 ghost use Rattle.imdf_rows.specs.Fields.{ids_field, labels_field, lists_word, door_is, passage_field, ref_of, refs_field, IsDisplay, IsOrdinal};
 ghost use Rattle.imdf_rows.specs.Rows.{IsPlainRow, IsAmenityRow, IsAnchorRow, IsBuildingRow, IsDetailRow, IsFixtureRow, IsFootprintRow, IsKioskRow, IsLevelRow, IsOccupantRow, IsOpeningRow, IsRelationshipRow, IsUnitRow, IsVenueRow};
+ghost use Rattle.imdf_read.specs.Noted.{IsNoted};
 ghost use Rattle.imdf_read.specs.Ordinals.{IsInRange};
 ghost use Rattle.feature_rows.specs.Sound.{IsOnEarth};
 ghost use Rattle.imdf_write.specs.Values.{list_value, or_null, if_so, id_value, ordinal_value, point_value, line_value, shape_value, name_value, word_list, door_of, passage_word, direction_word, reference_value};
-ghost use Rattle.imdf_write.specs.Folder.{canonical, features_of};
+ghost use Rattle.imdf_write.specs.Folder.{canonical};
 ghost use Rattle.imdf_write.specs.Rows.{plain_feature, amenity_feature, anchor_feature, building_feature, detail_feature, fixture_feature, footprint_feature, kiosk_feature, level_feature, occupant_feature, opening_feature, relationship_feature, unit_feature, venue_feature};
 ghost use Rattle.imdf_rows.specs.Folder.{AreFeatures};
-ghost use Rattle.writing_law.specs.Written.{FitsFeatures, written, IsWithinLimit, content_of, FindsNothing};
+ghost use Rattle.writing_law.specs.Written.{FitsFeatures, written, IsWithinLimit, FindsNothing};
 ghost use Rattle.venue_types.specs.declared.features.Features.{Features};
 ghost use Rattle.writing_law.specs.Fit.{FitsId, FitsRef, FitsName, FitsLine, FitsShape, FitsPlain, FitsAmenity, FitsAnchor, FitsBuilding, FitsDetail, FitsFixture, FitsFootprint, FitsKiosk, FitsLevel, FitsOccupant, FitsOpening, FitsRelationship, FitsUnit, FitsVenue};
 
@@ -88,17 +90,6 @@ pub fn row_law()
     ensures venue { (f : File) (row : VenueRow) → FitsVenue row → IsVenueRow (venue_feature f row) row }
 {}
 
-/// Each file of features that was written has the content that it is to have, and the items of that are the features of the
-/// rows, in order: where the rows keep what they are to keep, and no file of the fixed form has more bytes than are read.
-pub fn content_law()
-    ensures held { (features : Features) (f : File) → FitsFeatures features → IsWithinLimit features → f ≢ file.Manifest
-        → HasContent (written features) f (content_of (features_of f features)) }
-    ensures features { (vs : List Json) → content_items (content_of vs) ≡ vs }
-{
-    compact_law();
-    same_numbers_law();
-}
-
 /// What was written is read back: where the rows keep what they are to keep, and no file of the fixed form has more bytes
 /// than are read, its rows are theirs.
 pub fn file_law()
@@ -140,6 +131,20 @@ pub fn writer_law()
     fit_law();
     file_law();
     rule_law();
+}
+
+/// The same is noted of the fixed form as of a folder in which the first phase finds nothing, each note at its place, if no
+/// file of the fixed form has more bytes than are read; but nothing is noted of the text of a restriction, which rows don't
+/// keep.
+pub fn notes_law()
+    ensures { (files : Files) (features : Features) (x : Note) → length files.slots ≡ 17 → AreFeatures files features → FindsNothing files
+        → IsWithinLimit features → (IsNoted (written features) x ↔ (IsNoted files x × (x.note ≢ note_number noted.N5))) }
+{
+    compact_law();
+    one_json_law();
+    same_numbers_law();
+    fit_law();
+    writer_law();
 }
 
 /// The fixed form of what is read of the fixed form is the same files.

@@ -4,5 +4,5 @@
 mod laws;
 
 pub use laws::{
-    canon_again, content_law, field_law, file_law, fit_law, row_law, rule_law, writer_law,
+    canon_again, field_law, file_law, fit_law, notes_law, row_law, rule_law, writer_law,
 };

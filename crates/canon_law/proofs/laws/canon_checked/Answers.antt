@@ -1,5 +1,4 @@
 use Rattle.std.proofs.Common.{refl}
-use Rattle.venue_types.specs.declared.folder_file.File.TheVariants as file
 use Rattle.writing_law.specs.Written.{written}
 use Rattle.canon_law.specs.Rewritten.{rewritten}
 use Rattle.canon_law.proofs.Venues.{written_venue}
@@ -7,9 +6,9 @@ use Rattle.canon_law.proofs.laws.canon_checked.Goals as goal
 
 pub returns-clause-venue : goal.returns-clause-venue
 returns-clause-venue c files settings venue seventeen is limit =
-    written_venue c.one_json_law.ensures files settings venue is (c.writer_law.ensures.nothing files venue.features seventeen is.rows is.first limit)
+    written_venue files settings venue is (c.writer_law.ensures.nothing files venue.features seventeen is.rows is.first limit)
     (c.writer_law.ensures.same files venue.features seventeen is.rows is.first limit)
-    (c.content_law.ensures.held venue.features file.Unit (c.fit_law.ensures files venue.features seventeen is.rows is.first) limit (λ e. cc)) c.content_law.ensures.features
+    (λ x. c.notes_law.ensures files venue.features x seventeen is.rows is.first limit)
 
 pub returns-clause-only : goal.returns-clause-only
 returns-clause-only c files settings venue again seventeen is limit made =

@@ -1,12 +1,9 @@
 -- Two folders of the same rows, in which the first phase finds nothing: an item of one and its twin in the other.
-use Rattle.std.proofs.Common.{◌≡◌, ◌≢◌, ℕ, zero, suc, List, [], ◌∷◌, Option, Some, None, unwrap_or, is_some, Bool, true, false, refl, ap, subst, inl, inr, arith}
+use Rattle.std.proofs.Common.{◌≡◌, ℕ, zero, suc, List, [], ◌∷◌, Option, Some, None, unwrap_or, is_some, Bool, true, false, refl, ap, subst, inl, arith}
 use Rattle.std.specs.Prelude.{Contains, slice_get}
 use Rattle.std.specs.List.{AllZip}
 use Rattle.exact_json.specs.Json.{Json, text_bytes}
-use Rattle.exact_json.specs.Grammar.{IsJson}
 use Rattle.venue_types.specs.declared.files.Files.{Files}
-use Rattle.venue_types.specs.declared.files.Slot.{Slot}
-use Rattle.venue_types.specs.declared.files.Slot.TheVariants.{Absent, Held}
 use Rattle.venue_types.specs.declared.folder_file.File.{File}
 use Rattle.venue_types.specs.declared.folder_file.File.TheVariants as file
 use Rattle.imdf_schema.specs.declared.forms.Form.{Form}
@@ -19,46 +16,17 @@ use Rattle.imdf_schema.specs.Forms.{Fits}
 use Rattle.imdf_schema.specs.Properties.{properties, property_number}
 use Rattle.imdf_schema.specs.Items as item
 use Rattle.imdf_schema.specs.Items.{is_feature}
-use Rattle.imdf_schema.specs.Contents.{IsContent, HasContent, content_items}
-use Rattle.imdf_schema.specs.Places.{finding_at}
+use Rattle.imdf_schema.specs.Contents.{HasContent, content_items}
 use Rattle.imdf_rows.specs.Fields.{text_field}
 use Rattle.imdf_rows.specs.Folder.{AreRows}
-use Rattle.imdf_read.specs.declared.rules.ReadingRule.{ReadingRule}
 use Rattle.imdf_read.specs.declared.rules.ReadingRule.TheVariants.{C2, C6}
-use Rattle.imdf_read.specs.Rules.{rule_of}
-use Rattle.imdf_read.specs.Broken.{ItemBreaks}
-use Rattle.writing_law.specs.Written.{FindsNothing}
-
--- ---- one content
-
--- a text has at most one value
-abbrev pub HasOneJson : Type 0
-HasOneJson = (b : List ℕ) (j k : Json) → IsJson b j → IsJson b k → j ≡ k
-
-same_content : HasOneJson → (slot : Slot) (a b : Option Json) → IsContent slot a → IsContent slot b → a ≡ b
-same_content one slot None None x y = refl
-same_content one slot None (Some w) x y = absurd (x w y)
-same_content one slot (Some v) None x y = absurd (y v x)
-same_content one Absent (Some v) (Some w) x y = absurd x
-same_content one (Held bytes) (Some v) (Some w) x y = ap Some (one bytes v w x.1 y.1)
-
-same_slot : (a b : Slot) (o : Option Slot) → o ≡ Some a → o ≡ Some b → a ≡ b
-same_slot a b o p q = cc
-
--- a file has one content
-pub one_content : HasOneJson → (files : Files) (f : File) (a b : Option Json) → HasContent files f a → HasContent files f b → a ≡ b
-one_content one files f a b x y =
-    let same = same_slot x.slot y.slot _ x.at y.at in
-    same_content one y.slot a b (subst (λ (s : Slot). IsContent s a) same x.is) y.is
+use Rattle.writing_law.proofs.Zipped.{twin_at}
+use Rattle.writing_law.proofs.Keeps.{BreaksNone}
+use Rattle.writing_law.proofs.KeptFiles.{HasOneJson}
+use Rattle.writing_law.proofs.KeptFolder.{one_content}
+use Rattle.writing_law.proofs.ReadRows.{true_of}
 
 -- ---- items and rows
-
--- the row of the item at a place
-row_at : {A B : Type 0} (R : A → B → Type 0) (xs : List A) (ys : List B) (k : ℕ) (x : A) → AllZip R xs ys → slice_get xs k ≡ Some x → (y : B) × (slice_get ys k ≡ Some y) × R x y
-row_at R [] ys k x zip at = absurd (let no : None ≡ Some x = at in cc)
-row_at R (a ∷ xs) [] k x zip at = absurd zip
-row_at R (a ∷ xs) (b ∷ ys) zero x zip at = let same : a ≡ x = cc in (b, refl, subst (λ z. R z b) same zip.0)
-row_at R (a ∷ xs) (b ∷ ys) (suc k) x zip at = row_at R xs ys k x zip.1 at
 
 -- the item of the row at a place
 item_at : {A B : Type 0} (R : A → B → Type 0) (xs : List A) (ys : List B) (k : ℕ) (y : B) → AllZip R xs ys → slice_get ys k ≡ Some y → (x : A) × (slice_get xs k ≡ Some x) × R x y
@@ -82,29 +50,14 @@ pub twin_of : HasOneJson → {Row : Type 0} (IsRow : Json → Row → Type 0) (f
 twin_of one {Row} IsRow files again f rows are other content k v held there =
     let same : content ≡ are.content = one_content one files f content are.content held are.held in
     let at : slice_get (content_items are.content) k ≡ Some v = subst (λ (c : Option Json). slice_get (content_items c) k ≡ Some v) same there in
-    let row = row_at IsRow (content_items are.content) rows k v are.each at in
+    let row = twin_at IsRow (content_items are.content) rows k v are.each at in
     let twin = item_at IsRow (content_items other.content) rows k row.0 other.each row.1 in
     record { row = row.0; is = row.2; content = other.content; held = other.held; twin = twin.0; there = twin.1; is_again = twin.2 }
 
 -- ---- items that break no rule
 
-true_of : (b : Bool) → ¬ (b ≡ false) → b ≡ true
-true_of true h = refl
-true_of false h = absurd (h refl)
-
 not_both : (b : Bool) → b ≡ true → b ≡ false → ⊥
 not_both b p q = cc
-
--- the item of this file breaks no rule
-abbrev pub BreaksNone : File → Json → Type 0
-BreaksNone f v = (r : ReadingRule) (place : ℕ) → ¬ ItemBreaks r f v place
-
-pub item_keeps : (files : Files) → FindsNothing files → (f : File) (c : Option Json) → f ≢ file.Manifest → HasContent files f c → (k : ℕ) (v : Json) → slice_get (content_items c) k ≡ Some v → BreaksNone f v
-item_keeps files none f c not_manifest held k v there r place b = none (finding_at (rule_of r) f k place) (record {
-  rule = r;
-  number = refl;
-  breaks = inr (inr (record { source = f; features = not_manifest; content = c; held = held; item = v; there = there; breaks = b; in_file = refl }));
-})
 
 pub is_one : (f : File) (v : Json) → BreaksNone f v → is_feature v ≡ true
 is_one f v keeps = true_of (is_feature v) (λ e. keeps C2 0 (e, refl))

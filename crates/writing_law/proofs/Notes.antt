@@ -25,7 +25,11 @@ use Rattle.imdf_read.specs.declared.rules.ReadingNote.TheVariants.{N1, N2, N5}
 use Rattle.imdf_read.specs.Rules.{note_of}
 use Rattle.imdf_read.specs.Noted.{ItemNotes, IsNoted}
 use Rattle.writing_law.specs.Written.{written, content_of, FindsNothing}
-use Rattle.canon_law.proofs.Twins.{HasOneJson, one_content, twin_of, item_keeps, is_one, unit_text, relationship_text, field_is}
+use Rattle.writing_law.proofs.Files.{items_there}
+use Rattle.writing_law.proofs.KeptFiles.{HasOneJson}
+use Rattle.writing_law.proofs.KeptFolder.{one_content}
+use Rattle.writing_law.proofs.ReadRows.{item_keeps}
+use Rattle.writing_law.proofs.Twins.{twin_of, is_one, unit_text, relationship_text, field_is}
 
 -- a note on an item of the one folder is due to its twin in the other
 module _ (one : HasOneJson) (files again : Files) (features : Features) (are : AreFeatures files features) (others : AreFeatures again features) (none : FindsNothing again) where
@@ -34,7 +38,7 @@ module _ (one : HasOneJson) (files again : Files) (features : Features) (are : A
   of_kind N1 kept x number source content v held there notes at_file at_member =
       let unit : HasContent files file.Unit content = subst (λ (f : File). HasContent files f content) notes.0 held in
       let twin = twin_of one IsUnitRow files again file.Unit features.units are.units others.units content x.index v unit there in
-      let keeps = item_keeps again none file.Unit twin.content (λ e. cc) twin.held x.index twin.twin twin.there in
+      let keeps = item_keeps again features none file.Unit twin.content (λ e. cc) twin.held x.index twin.twin twin.there in
       let found = unit_text twin.twin keeps in
       let old : twin.row.category ≡ notes.1.0 = twin.is.category ∙ field_is (item.property v property.Category) notes.1.0 notes.1.1 in
       let new : twin.row.category ≡ found.0 = twin.is_again.category ∙ field_is (item.property twin.twin property.Category) found.0 found.1 in
@@ -55,7 +59,7 @@ module _ (one : HasOneJson) (files again : Files) (features : Features) (are : A
   of_kind N2 kept x number source content v held there notes at_file at_member =
       let relationship : HasContent files file.Relationship content = subst (λ (f : File). HasContent files f content) notes.0 held in
       let twin = twin_of one IsRelationshipRow files again file.Relationship features.relationships are.relationships others.relationships content x.index v relationship there in
-      let keeps = item_keeps again none file.Relationship twin.content (λ e. cc) twin.held x.index twin.twin twin.there in
+      let keeps = item_keeps again features none file.Relationship twin.content (λ e. cc) twin.held x.index twin.twin twin.there in
       let found = relationship_text twin.twin keeps in
       let old : twin.row.kind ≡ passage_of notes.1.0 = twin.is.kind ∙ ap passage_of (field_is (item.property v property.Category) notes.1.0 notes.1.1) in
       let new : twin.row.kind ≡ passage_of found.0 = twin.is_again.kind ∙ ap passage_of (field_is (item.property twin.twin property.Category) found.0 found.1) in
@@ -91,8 +95,7 @@ restricted_text false bytes e = absurd (let no : None ≡ Some bytes = e in cc)
 unit_plain : (row : UnitRow) → ¬ ItemNotes N5 file.Unit (unit_feature file.Unit row)
 unit_plain row notes = notes.1.3 (restricted_text row.restricted notes.1.0 notes.1.1)
 
-module _ (one : HasOneJson) (features : Features) (held : HasContent (written features) file.Unit (content_of (features_of file.Unit features)))
-    (back : (vs : List Json) → content_items (content_of vs) ≡ vs) where
+module _ (one : HasOneJson) (features : Features) (held : HasContent (written features) file.Unit (content_of (features_of file.Unit features))) where
   none_of_kind : (note : ReadingNote) (source : File) (content : Option Json) (k : ℕ) (v : Json) → HasContent (written features) source content → slice_get (content_items content) k ≡ Some v
       → ItemNotes note source v → note_number (note_of note) ≢ 5
   none_of_kind N1 source content k v is there notes e = omega arith
@@ -101,7 +104,7 @@ module _ (one : HasOneJson) (features : Features) (held : HasContent (written fe
       let unit : HasContent (written features) file.Unit content = subst (λ (f : File). HasContent (written features) f content) notes.0 is in
       let same : content ≡ content_of (features_of file.Unit features) = one_content one (written features) file.Unit content (content_of (features_of file.Unit features)) unit held in
       let at : slice_get (content_items (content_of (features_of file.Unit features))) k ≡ Some v = subst (λ (c : Option Json). slice_get (content_items c) k ≡ Some v) same there in
-      let row = from_map (unit_feature file.Unit) features.units k v (subst (λ (vs : List Json). slice_get vs k ≡ Some v) (back (features_of file.Unit features)) at) in
+      let row = from_map (unit_feature file.Unit) features.units k v (subst (λ (vs : List Json). slice_get vs k ≡ Some v) (items_there (features_of file.Unit features)) at) in
       unit_plain row.0 (subst (λ (w : Json). ItemNotes N5 file.Unit w) (sym row.2) (refl, notes.1))
 
   pub none_on_restrictions : (x : Note) → IsNoted (written features) x → x.note ≢ 5
