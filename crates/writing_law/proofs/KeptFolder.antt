@@ -16,6 +16,7 @@ use Rattle.venue_types.specs.declared.features.Features.{Features}
 use Rattle.venue_types.specs.declared.features.AmenityRow.{AmenityRow}
 use Rattle.venue_types.specs.declared.features.AnchorRow.{AnchorRow}
 use Rattle.venue_types.specs.declared.features.OpeningRow.{OpeningRow}
+use Rattle.venue_types.specs.declared.files.Files.{Files}
 use Rattle.venue_types.specs.declared.files.Slot.{Slot}
 use Rattle.venue_types.specs.declared.files.Slot.TheVariants.{Absent, Held}
 use Rattle.venue_types.specs.declared.folder_file.File.{File}
@@ -25,7 +26,7 @@ use Rattle.venue_types.specs.declared.point.Shape.{Shape}
 use Rattle.venue_types.specs.FolderFiles.{geometry_of, feature_files}
 use Rattle.venue_types.proofs.Zips.{zip_one}
 use Rattle.imdf_schema.specs.Items.{geometry}
-use Rattle.imdf_schema.specs.Contents.{IsContent}
+use Rattle.imdf_schema.specs.Contents.{IsContent, HasContent}
 use Rattle.imdf_read.specs.Counts.{places_of, is_judged, item_positions, collected, file_positions, total_positions, AreContents}
 use Rattle.plane_exact.specs.Figure.{vertices}
 use Rattle.imdf_read.specs.Rows.{ids_of, feature_count}
@@ -43,12 +44,19 @@ use Rattle.writing_law.proofs.KeptFiles.{HasOneJson}
 
 -- ---- one content
 
-pub same_content : HasOneJson → (slot : Slot) (a b : Option Json) → IsContent slot a → IsContent slot b → a ≡ b
+same_content : HasOneJson → (slot : Slot) (a b : Option Json) → IsContent slot a → IsContent slot b → a ≡ b
 same_content one slot None None x y = refl
 same_content one slot None (Some w) x y = absurd (x w y)
 same_content one slot (Some v) None x y = absurd (y v x)
 same_content one Absent (Some v) (Some w) x y = absurd x
 same_content one (Held bytes) (Some v) (Some w) x y = ap Some (one bytes v w x.1 y.1)
+
+same_slot : (a b : Slot) (o : Option Slot) → o ≡ Some a → o ≡ Some b → a ≡ b
+same_slot a b o p q = cc
+
+-- a file has one content
+pub one_content : HasOneJson → (files : Files) (f : File) (a b : Option Json) → HasContent files f a → HasContent files f b → a ≡ b
+one_content one files f a b x y = same_content one y.slot a b (subst (λ (s : Slot). IsContent s a) (same_slot x.slot y.slot _ x.at y.at) x.is) y.is
 
 zip_maps : {A B C : Type 0} (R : B → C → Type 0) (g : A → B) (h : A → C) (xs : List A) → AllByRecursion (λ x. R (g x) (h x)) xs → AllZip R (map g xs) (map h xs)
 zip_maps R g h [] all = tt

@@ -23,3 +23,5 @@ mod Strings
 mod Texts
 mod ReadFields
 mod ReadRows
+mod Twins
+mod Notes

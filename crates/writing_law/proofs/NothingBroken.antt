@@ -6,10 +6,9 @@ use Rattle.exact_json.specs.Json.{Json}
 use Rattle.geo_shapes.specs.Laws.{HasOnePoint}
 use Rattle.geo_shapes.specs.Numbers.{SameNumbers}
 use Rattle.venue_types.specs.declared.features.Features.{Features}
-use Rattle.venue_types.specs.declared.files.Slot.{Slot}
 use Rattle.venue_types.specs.declared.finding.Finding.{Finding}
 use Rattle.venue_types.proofs.Items.{member_at}
-use Rattle.imdf_schema.specs.Contents.{IsContent, content_items}
+use Rattle.imdf_schema.specs.Contents.{content_items}
 use Rattle.imdf_read.specs.declared.rules.ReadingRule.{ReadingRule}
 use Rattle.imdf_read.specs.declared.rules.ReadingRule.TheVariants.{F1, F2, F3, F4, M1, M2, M3, C1, C2, C3, C4, C5, C6, V1, L1, Q1, S1, S2, S3, S4, G1, G2}
 use Rattle.imdf_read.specs.Broken.{FolderBreaks, BreaksInFile, BreaksInItem}
@@ -18,10 +17,7 @@ use Rattle.writing_law.specs.Written.{FitsFeatures, written, IsWithinLimit, cont
 use Rattle.writing_law.proofs.Files.{SpellsItself, content_held, items_there}
 use Rattle.writing_law.proofs.Keeps.{BreaksNone, features_keep}
 use Rattle.writing_law.proofs.KeptFiles.{HasOneJson, file_keeps}
-use Rattle.writing_law.proofs.KeptFolder.{same_content, few_features, few_positions}
-
-same_slot : (a b : Slot) (o : Option Slot) → o ≡ Some a → o ≡ Some b → a ≡ b
-same_slot a b o p q = cc
+use Rattle.writing_law.proofs.KeptFolder.{one_content, few_features, few_positions}
 
 module _ (spells : SpellsItself) (one : HasOneJson) (point : HasOnePoint) (same : SameNumbers) (features : Features) (fits : FitsFeatures features) (limit : IsWithinLimit features) where
   folder_keeps : (r : ReadingRule) → ¬ FolderBreaks r (written features)
@@ -55,9 +51,7 @@ module _ (spells : SpellsItself) (one : HasOneJson) (point : HasOnePoint) (same 
   in_item : (r : ReadingRule) (x : Finding) → ¬ BreaksInItem (written features) r x
   in_item r x b =
       let ours = content_held spells same features fits limit b.source b.features in
-      let slot : b.held.slot ≡ ours.slot = same_slot b.held.slot ours.slot _ b.held.at ours.at in
-      let content : b.content ≡ content_of (features_of b.source features) =
-      same_content one ours.slot b.content (content_of (features_of b.source features)) (subst (λ (s : Slot). IsContent s b.content) slot b.held.is) ours.is in
+      let content : b.content ≡ content_of (features_of b.source features) = one_content one (written features) b.source b.content (content_of (features_of b.source features)) b.held ours in
       let held : slice_get (content_items (content_of (features_of b.source features))) x.index ≡ Some b.item = subst (λ (c : Option Json). slice_get (content_items c) x.index ≡ Some b.item) content b.there in
       let there : slice_get (features_of b.source features) x.index ≡ Some b.item = subst (λ (vs : List Json). slice_get vs x.index ≡ Some b.item) (items_there (features_of b.source features)) held in
       All-contains (BreaksNone b.source) (features_of b.source features) b.item (features_keep point features b.source fits) (member_at (features_of b.source features) x.index b.item there) r x.member b.breaks

@@ -194,7 +194,7 @@ venue_fits v row is sound = record {
 
 -- ---- an amenity has a unit
 
-true_of : (b : Bool) → ¬ (b ≡ false) → b ≡ true
+pub true_of : (b : Bool) → ¬ (b ≡ false) → b ≡ true
 true_of true h = refl
 true_of false h = absurd (h refl)
 
@@ -260,7 +260,7 @@ unmapped P g [] all = All-nil (λ x. P (g x))
 unmapped P g (x ∷ xs) all = All-cons (λ x. P (g x)) x xs (All-head P (g x) (map g xs) all) (unmapped P g xs (All-tail P (g x) (map g xs) all))
 
 module _ (files : Files) (features : Features) (none : FindsNothing files) where
-  item_keeps : (f : File) (c : Option Json) → f ≢ file.Manifest → HasContent files f c → (k : ℕ) (v : Json) → slice_get (content_items c) k ≡ Some v → BreaksNone f v
+  pub item_keeps : (f : File) (c : Option Json) → f ≢ file.Manifest → HasContent files f c → (k : ℕ) (v : Json) → slice_get (content_items c) k ≡ Some v → BreaksNone f v
   item_keeps f c not_manifest held k v there r place b = none (finding_at (rule_of r) f k place) (record {
     rule = r;
     number = refl;

@@ -1,6 +1,6 @@
 //! What is read of a folder that was written in its fixed form.
 
-ghost use Rattle.std.specs.Prelude.{◌≡◌, ◌≢◌, length, List, Option, Some, Bool, not, IsTrue, IfSome, All, codes};
+ghost use Rattle.std.specs.Prelude.{◌≡◌, ◌≢◌, ◌↔◌, length, List, Option, Some, Bool, not, IsTrue, IfSome, All, codes};
 ghost use Rattle.exact_json.specs.Json.{text};
 ghost use Rattle.geo_shapes.specs.Geometry.{HasPoint, HasLine, HasShape};
 ghost use Rattle.venue_types.specs.declared.feature_id.FeatureId.{FeatureId};
@@ -20,6 +20,7 @@ ghost use Rattle.venue_types.specs.declared.features.RelationshipRow.{Relationsh
 ghost use Rattle.venue_types.specs.declared.features.UnitRow.{UnitRow};
 ghost use Rattle.venue_types.specs.declared.features.VenueRow.{VenueRow};
 ghost use Rattle.venue_types.specs.declared.features.Ref.{Ref};
+ghost use Rattle.venue_types.specs.declared.finding.Note.{Note};
 ghost use Rattle.venue_types.specs.declared.folder_file.File.{File};
 ghost use Rattle.venue_types.specs.declared.files.Files.{Files};
 ghost use Rattle.venue_types.specs.declared.kind.Kind.{Kind};
@@ -27,9 +28,12 @@ ghost use Rattle.venue_types.specs.declared.kind.Kind.TheVariants as kind;
 ghost use Rattle.venue_types.specs.declared.point.Line.{Line};
 ghost use Rattle.venue_types.specs.declared.point.Point.{Point};
 ghost use Rattle.venue_types.specs.declared.point.Shape.{Shape};
+ghost use Rattle.imdf_schema.specs.declared.rules.NoteKind.TheVariants as noted;
+ghost use Rattle.imdf_schema.specs.Rules.{note_number};
 ghost use Rattle.imdf_schema.specs.Values.{id_of, is_null, is_word};
 ghost use Rattle.imdf_rows.specs.Fields.{ids_field, labels_field, lists_word, door_is, passage_field, ref_of, refs_field, IsDisplay, IsOrdinal};
 ghost use Rattle.imdf_rows.specs.Rows.{IsPlainRow, IsAmenityRow, IsAnchorRow, IsBuildingRow, IsDetailRow, IsFixtureRow, IsFootprintRow, IsKioskRow, IsLevelRow, IsOccupantRow, IsOpeningRow, IsRelationshipRow, IsUnitRow, IsVenueRow};
+ghost use Rattle.imdf_read.specs.Noted.{IsNoted};
 ghost use Rattle.imdf_read.specs.Ordinals.{IsInRange};
 ghost use Rattle.imdf_read.specs.Sound.{IsOnEarth};
 ghost use Rattle.imdf_write.specs.Values.{list_value, or_null, if_so, id_value, ordinal_value, point_value, line_value, shape_value, name_value, word_list, door_of, passage_word, direction_word, reference_value};
@@ -127,6 +131,20 @@ pub fn writer_law()
     fit_law();
     file_law();
     rule_law();
+}
+
+/// The same is noted of the fixed form as of a folder in which the first phase finds nothing, each note at its place, if no
+/// file of the fixed form has more bytes than are read; but nothing is noted of the text of a restriction, which rows don't
+/// keep.
+pub fn notes_law()
+    ensures { (files : Files) (features : Features) (x : Note) → length files.slots ≡ 17 → AreFeatures files features → FindsNothing files
+        → IsWithinLimit features → (IsNoted (written features) x ↔ (IsNoted files x × (x.note ≢ note_number noted.N5))) }
+{
+    compact_law();
+    one_json_law();
+    same_numbers_law();
+    fit_law();
+    writer_law();
 }
 
 /// The fixed form of what is read of the fixed form is the same files.

@@ -3,4 +3,6 @@
 
 mod laws;
 
-pub use laws::{canon_again, field_law, file_law, fit_law, row_law, rule_law, writer_law};
+pub use laws::{
+    canon_again, field_law, file_law, fit_law, notes_law, row_law, rule_law, writer_law,
+};
