@@ -12,7 +12,7 @@ pub use board_copies::{first_law, following_law};
 pub use copies::Copies;
 pub use name::HallName;
 pub use office::{
-    Closed, LoggedOffice, Office, OfficeOf, Opened, OpenedOf, Pass, PassOf, UnopenedOf, close_hall,
+    Closed, LoggedOffice, Office, OfficeOf, Opened, OpenedOf, Pass, PassOf, Unjudged, UnopenedOf, close_hall,
     open_hall, open_kept,
 };
 pub use seat::{LoggedSeat, Seat, SeatIn};
