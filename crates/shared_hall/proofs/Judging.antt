@@ -1,5 +1,7 @@
 -- Histories that go on while files are judged, and what their seat tells then.
-use Rattle.std.proofs.Common.{◌≡◌, ◌∙◌, ℕ, ◌≤◌, List, [], ◌∷◌, ◌++◌, Option, Some, refl, sym, subst, ap, arith, Global}
+use Rattle.std.proofs.Common.{◌≡◌, ◌∙◌, ℕ, ◌≤◌, List, [], ◌∷◌, ◌++◌, Option, Some, refl, sym, subst, arith, Global}
+use Rattle.std.proofs.lemmas.Option.{same_Some}
+use Rattle.std.specs.Prelude.{Result, Ok, Err, IfErr}
 use Rattle.std.specs.Arc.{arc_value}
 use Rattle.std.specs.declared.sync.Arc.{Arc}
 use mathlib.Core.List.{IsPrefix}
@@ -16,13 +18,13 @@ use Rattle.venue_hall.specs.Built.{IsVenueOf}
 use Rattle.venue_hall.specs.Changes.{AreRead, Changes}
 use Rattle.venue_hall.specs.Closed.{Version}
 use Rattle.venue_hall.specs.Entry.{Entry}
-use Rattle.venue_hall.specs.Facts.{Facts, IsChanged, IsSameHall}
-use Rattle.venue_hall.specs.Histories.{IsLegal, IsPublished, Replays, replay_from}
+use Rattle.venue_hall.specs.Facts.{Facts, IsChanged}
+use Rattle.venue_hall.specs.Histories.{IsPublished, Replays, replay_from}
 use Rattle.venue_hall.specs.Replies.{told, IsOutsideFault}
 use Rattle.venue_hall.specs.Shelves.{Shelf}
 use Rattle.venue_hall.specs.Venues.{SeenVenue as Venue}
 use Rattle.board_copies.proofs.Entering.{stays}
-use Rattle.board_copies.proofs.Fronts.{prefix_self, prefix_trans}
+use Rattle.board_copies.proofs.Fronts.{prefix_trans}
 use Rattle.board_copies.specs.Making.{IsUnmade, IsUnread, Leaves}
 use Rattle.shared_hall.specs.Judging.{AreSettingsOf, HasLooked, IsJudgedAt}
 
@@ -53,6 +55,15 @@ judged_later law h k v files venue begins stands judged w later =
 -- what was judged by the settings of a history is judged at it
 pub judged_at : (h : List Entry) (settings : Settings) (files : Files) (venue : Arc Venue Global) → AreSettingsOf h settings → IsVenueOf files settings (arc_value venue) → IsJudgedAt h files venue
 judged_at h settings files venue are of v stands = subst (λ (s : Settings). IsVenueOf files s (arc_value venue)) (sym (are v stands)) of
+
+-- a history leads to one version
+pub one_version : (h : List Entry) (v w : Version) → Replays h v → Replays h w → v ≡ w
+one_version h v w one other = same_Some v w (sym one.leads ∙ other.leads)
+
+-- what follows from an error follows from each result that may be one
+pub err_maps : {X E : Type 0} (P Q : E → Type 0) (found : Result X E) → ((e : E) → P e → Q e) → IfErr found P → IfErr found Q
+err_maps P Q (Ok x) maps given = tt
+err_maps P Q (Err e) maps given = maps e given
 
 -- a folder that wasn't read leaves the history
 unread_leaves : (shelf : Option Shelf) (v : Version) (folder : List ℕ) (before now : ℕ) (r : Reply) → IsUnread before now r → Leaves shelf v (Publish folder) r
@@ -101,16 +112,16 @@ changed_since old mid new asked r looked changed =
 -- the same of two looks
 pub looked_twice : (old mid new : Facts) → HasLooked old mid → HasLooked mid new → HasLooked old new
 looked_twice old mid new first second = record {
-    grows = prefix_trans old.seen mid.seen new.seen first.grows second.grows;
-    legal = second.legal;
-    faults = omega (arith, first.faults, second.faults);
-    looks = omega (arith, first.looks, second.looks);
-    same = record {
-      worker = second.same.worker ∙ first.same.worker;
-      parts = second.same.parts ∙ first.same.parts;
-      files = second.same.files ∙ first.same.files;
-    };
-  }
+  grows = prefix_trans old.seen mid.seen new.seen first.grows second.grows;
+  legal = second.legal;
+  faults = omega (arith, first.faults, second.faults);
+  looks = omega (arith, first.looks, second.looks);
+  same = record {
+    worker = second.same.worker ∙ first.same.worker;
+    parts = second.same.parts ∙ first.same.parts;
+    files = second.same.files ∙ first.same.files;
+  };
+}
 
 -- a count that rose later rose since the first look
 pub rose_since : (old mid new : ℕ) → old ≤ mid → Rose mid new → Rose old new

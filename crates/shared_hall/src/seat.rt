@@ -7,6 +7,7 @@ ghost use Rattle.venue_types.specs.declared.query.Change.TheVariants.{Publish};
 ghost use Rattle.venue_ports.specs.Causes.{Rose};
 ghost use Rattle.venue_hall.specs.Changes.{AreRead};
 ghost use Rattle.venue_hall.specs.Facts.{IsChanged};
+ghost use Rattle.venue_hall.specs.Histories.{IsLegal};
 ghost use Rattle.venue_hall.specs.Replies.{told, IsOutsideFault};
 ghost use Rattle.shared_hall.specs.Judging.{AreSettingsOf, HasLooked, IsJudgedAt};
 
@@ -135,6 +136,7 @@ impl<N: HallName, F: Folders, J: Log, R: Wait> SeatIn<'_, N, F, SideReader, Keep
     // Publishes what was judged while the lock was free, at the version that stands now.
     fn publish_judged(&mut self, files: Files, venue: Arc<Venue>) -> Reply
         requires seventeen { length files.slots ≡ 17 }
+        requires legal { IsLegal self.old.seen }
         requires judged { IsJudgedAt self.old.seen files venue }
         ensures reply { (folder : AList ℕ) → AreRead self.old.files folder files → IsChanged self.old self.new (Publish folder) result }
         ensures looked { HasLooked self.old self.new }
