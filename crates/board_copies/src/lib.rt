@@ -32,7 +32,8 @@ pub use rule::{Law, Notes, Publishing, Seeing, SideReader, SideWriter};
 pub use seen::Seen;
 pub use stamp::Stamp;
 pub use venue_state::{
-    BaseFolders, NextBoard, Outcome, Unready, first_law, following_law, ready_change,
+    BaseFolders, NextBoard, Outcome, Unready, first_law, following_law, judge_files, read_folder,
+    ready_change, ready_venue,
 };
 pub use view::View;
 pub use writer_side::{fall_back, publish, queue, settle, show};

@@ -3,3 +3,4 @@ pub mod Passes
 pub mod FirstEntries
 pub mod Telling
 pub mod Keeping
+pub mod Judging

@@ -1,6 +1,7 @@
 pub mod Names
 pub mod Offices
 pub mod Keeping
+pub mod Judging
 pub mod Copied
 pub use Rattle.venue_hall.specs.Facts
 pub use Rattle.venue_hall.specs.Histories

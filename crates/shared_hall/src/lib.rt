@@ -12,8 +12,8 @@ pub use board_copies::{first_law, following_law};
 pub use copies::Copies;
 pub use name::HallName;
 pub use office::{
-    Closed, LoggedOffice, Office, OfficeOf, Opened, OpenedOf, Pass, PassOf, UnopenedOf, close_hall,
-    open_hall, open_kept,
+    Closed, LoggedOffice, Office, OfficeOf, Opened, OpenedOf, Pass, PassOf, Unjudged, UnopenedOf,
+    close_hall, open_hall, open_kept,
 };
 pub use seat::{LoggedSeat, Seat, SeatIn};
 pub use venue_hall::{Log, NoLog, Unopened, opening_entries};

@@ -16,6 +16,7 @@ ghost use Rattle.shared_hall.specs.Keeping.{ComesOf, IsUnkept};
 ghost use Rattle.shared_hall.specs.Offices.{faulted, IsRecorded};
 
 mod close;
+mod judged;
 mod publication;
 mod start;
 mod unlogged;
@@ -26,6 +27,7 @@ use board_copies::{
     ready_change, wait_for_ever,
 };
 pub use close::{Closed, close_hall};
+pub use judged::Unjudged;
 use publication::{fall_back_in, keep, queue_next, record_of, show_in};
 pub use start::{OpenedOf, UnopenedOf, open_kept};
 use std::alloc::Global;

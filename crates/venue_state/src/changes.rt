@@ -155,8 +155,8 @@ fn ready_closure(
     }
 }
 
-// The files of a folder, or the reply that tells why not.
-fn fetched<F: Folders>(
+/// The seventeen files of a folder, or the reply that tells why not. Its faults are counted.
+pub fn read_folder<F: Folders>(
     alloc: Global,
     reader: &mut BaseFolders<F>,
     folder: &Text,
@@ -178,8 +178,8 @@ fn fetched<F: Folders>(
     }
 }
 
-// The venue of files, or the reply that tells why not.
-fn venue_of(alloc: Global, files: &Files, settings: &Settings) -> Result<Arc<Venue>, Reply>
+/// The venue that files make under these settings, or the reply that tells why not. It asks no board, so any may be published meanwhile.
+pub fn judge_files(alloc: Global, files: &Files, settings: &Settings) -> Result<Arc<Venue>, Reply>
     requires { length files.now.slots ≡ 17 }
     ensures venue { IfOk result (λ venue. IsVenueOf files.now settings.now (arc_value venue)) }
     ensures unmade { IfErr result (IsUnmade files.now settings.now) }
@@ -202,8 +202,8 @@ fn copied(alloc: Global, ids: &List<FeatureId>) -> Result<List<FeatureId>, OutOf
     Ok(List::from_vec(copy))
 }
 
-// The venue of files published.
-fn ready_venue(
+/// Makes the publication of a venue ready at a board, or tells why not. The files of which it was made go along.
+pub fn ready_venue(
     alloc: Global,
     board: &Board,
     settings: &Settings,
@@ -250,7 +250,7 @@ fn ready_files(
     ensures outcome { (shelf : AnOption Shelf) (folder : AList ℕ) → AreRead shelf folder files → IsOutcome shelf board.now worker (Publish folder) result }
     ensures counts { (n : ℕ) → CountsOutcome n n result }
 {
-    match venue_of(alloc, &files, settings) {
+    match judge_files(alloc, &files, settings) {
         Ok(venue) => ready_venue(alloc, board, settings, worker, files, venue),
         Err(reply) => Outcome::Stays(reply),
     }
@@ -273,7 +273,7 @@ fn ready_folder<F: Folders>(
     ensures same { F.files reader.new.folders ≡ F.files reader.old.folders }
     ensures base { reader.new.base ≡ reader.old.base }
 {
-    match fetched(alloc, reader, folder) {
+    match read_folder(alloc, reader, folder) {
         Ok(files) => ready_files(alloc, board, settings, worker, files),
         Err(reply) => Outcome::Stays(reply),
     }

@@ -28,7 +28,7 @@ mod unready;
 
 pub use base_folders::BaseFolders;
 pub use board::Board;
-pub use changes::{Outcome, ready_change};
+pub use changes::{Outcome, judge_files, read_folder, ready_change, ready_venue};
 pub use entry_laws::{first_law, following_law};
 pub use outgoing::Outgoing;
 pub use prepared::{NextBoard, Prepared};
