@@ -1,0 +1,4 @@
+pub mod Joined
+pub mod Tables
+pub mod Rooms
+pub mod Words

@@ -1,0 +1,2 @@
+//! Which places of a room are joined: found once, and kept in bits.
+#![tactic(auto)]
