@@ -78,6 +78,7 @@ done <<TEXT
 price 0 cost examples/table
 verify 0 proved examples/table
 check 0 accepted examples station
+canon 0 {"created" examples station manifest.json
 links 0 imdf-links examples station walk
 route 0 imdf-answer examples station walk $bakery $tickets
 session 0 - examples station

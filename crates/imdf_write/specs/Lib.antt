@@ -1,3 +1,4 @@
 pub mod Values
 pub mod Rows
 pub mod Folder
+pub use Rattle.json_text.specs.Compact

@@ -12,3 +12,4 @@ mod words;
 
 pub use file::write_file;
 pub use folder::write_folder;
+pub use json_text::compact_law;

@@ -1,15 +1,11 @@
 -- Steps of loops whose result the items ahead decide.
-use Rattle.std.proofs.Common.{◌≡◌, ℕ, zero, suc, ◌+◌, ◌-◌, ◌<◌, ◌≤◌, List, [], ◌∷◌, ◌++◌, length, take, drop, get_or, append_assoc, Any, Contains, ◌↔◌, ◌⊎◌, flat_map, inl, inr, refl, sym, subst, ap, ◌∙◌, arith}
+use Rattle.std.proofs.Common.{◌≡◌, ℕ, zero, suc, ◌+◌, ◌-◌, ◌<◌, ◌≤◌, List, [], ◌∷◌, ◌++◌, length, take, drop, get_or, append_assoc, Any, ◌↔◌, ◌⊎◌, flat_map, inl, inr, refl, sym, subst, ap, ◌∙◌, arith}
 use Rattle.std.proofs.lemmas.List.Concat.{flat_map-append}
 use Rattle.std.proofs.lemmas.List.{at_drop_more, take_all}
 
 -- what is ahead begins with the item at hand
 pub drop_at : {X : Type 0} (xs : List X) (i : ℕ) (x d : X) → i < length xs → get_or xs i d ≡ x → drop i xs ≡ x ∷ drop (i + 1) xs
 drop_at {X} xs i x d h e = rw (← e) (at_drop_more (λ (ys : List X). ys) xs i d h)
-
--- a list with one more in front has what it had
-pub contains_later : {X : Type 0} (x first : X) (xs : List X) → Contains xs x → Contains (first ∷ xs) x
-contains_later x first xs (k, within, at) = (suc k, omega arith, at)
 
 -- ---- some item has a property
 

@@ -1,5 +1,5 @@
 -- Steps along the turns of a ring, and which of them are corners.
-use Rattle.std.proofs.Common.{◌≡◌, ℕ, ◌+◌, ◌<◌, ◌≤◌, ℤ, Bool, true, false, cond, List, [], ◌∷◌, ◌++◌, map, filter, length, get_or, drop, Contains, refl, ap, sym, ◌∙◌, subst, append_assoc, append-nil, arith}
+use Rattle.std.proofs.Common.{◌≡◌, ℕ, ◌+◌, ◌<◌, ◌≤◌, ℤ, Bool, true, false, cond, List, [], ◌∷◌, ◌++◌, map, filter, length, get_or, drop, refl, ap, sym, ◌∙◌, subst, append_assoc, append-nil, arith}
 use Rattle.std.specs.List.{dedup}
 use Rattle.std.proofs.lemmas.List.{drop_all}
 use Rattle.std.proofs.lemmas.List.Kept.{Contains-from_dedup}
@@ -8,7 +8,7 @@ use Rattle.plane_exact.specs.Plane.{IsNearby}
 use Rattle.plane_exact.specs.Figure.{AllNearby}
 use Rattle.plane_exact.specs.Corners.{Turn, is_corner, is_same, turns_from, turns_round, last_but_one}
 use Rattle.plane_exact.proofs.ListLemmas.{drop_at}
-use Rattle.plane_exact.proofs.NearbyLemmas.{AllNearby-fewer, AllNearby-origin, Contains-later}
+use Rattle.plane_exact.proofs.NearbyLemmas.{AllNearby-fewer, Contains-later}
 
 -- the corners among turns
 abbrev pub found : ℤ → List Turn → List Point
@@ -52,21 +52,13 @@ last_but_one-at : (a b d : Point) (rest : List Point) → last_but_one a b rest 
 last_but_one-at a b d [] = refl
 last_but_one-at a b d (c ∷ rest) = last_but_one-at b c d rest
 
--- one comes to the first of two points from the first itself, and of more from the last but one
-pub round_short : (first : Point) (rest : List Point) → length rest < 2 → turns_from first first rest ≡ turns_round (first ∷ rest)
-round_short first [] short = refl
-round_short first (b ∷ []) short = refl
-round_short first (b ∷ c ∷ rest) short = absurd (omega (arith, short))
-
+-- one comes to the first of three points or more from the last but one
 pub round_long : (first d : Point) (rest : List Point) (k : ℕ) → k + 2 ≡ length rest → turns_from (get_or rest k d) first rest ≡ turns_round (first ∷ rest)
 round_long first d [] k e = absurd (omega (arith, e))
 round_long first d (b ∷ []) k e = absurd (omega (arith, e))
 round_long first d (b ∷ c ∷ rest) k e =
     let at : k ≡ length rest = omega (arith, e) in
     ap (λ p. turns_from p first (b ∷ c ∷ rest)) (ap (λ n. get_or (b ∷ c ∷ rest) n d) at ∙ sym (last_but_one-at b c d rest))
-
-pub with_before : (before first : Point) (rest : List Point) → Contains (first ∷ rest) before → AllNearby (first ∷ rest) → AllNearby (before ∷ first ∷ rest)
-with_before before first rest has h = AllNearby-origin before (first ∷ rest) has h
 
 pub distinct_near : (points : List Point) → AllNearby points → AllNearby (dedup is_same points)
 distinct_near points h = AllNearby-fewer (dedup is_same points) points (Contains-from_dedup is_same points) h

@@ -4,7 +4,7 @@ use std::alloc::{AllocError, Global};
 use std::process::Abort;
 use std::test::Fail;
 use venue_types::{
-    Bytes, Extras, FeatureId, Label, List, Profile, ProfileSet, Settings, Text, profile_set_law,
+    Bytes, Extras, FeatureId, Inside, Label, List, Profile, ProfileSet, Settings, Text, profile_set_law,
     push_reserved, reserve,
 };
 

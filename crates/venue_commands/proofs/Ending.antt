@@ -1,6 +1,7 @@
 -- From the answer and what was written to how the run ends.
 use Rattle.std.proofs.Common.{◌≡◌, ℕ, ◌≤◌, List, [], ◌++◌, Option, Some, None, Result, Ok, Err, refl, sym, subst, ◌∙◌, inl, inr, codes, append-nil, true, false}
 use Rattle.std.specs.Prelude.{IfSome, IfOk, IfErr, IsErrOf, OnOk, OnErr}
+use Rattle.venue_types.specs.declared.folder_file.File.{File}
 use Rattle.venue_ports.specs.Files.{StoredFile, HasReadCause}
 use Rattle.venue_ports.specs.Causes.{Rose}
 use Rattle.venue_ports.specs.declared.folders.ReadFault.{ReadFault}
@@ -13,10 +14,11 @@ use Rattle.venue_commands.specs.declared.status.Status.TheVariants.{Done, Negati
 use Rattle.venue_commands.specs.Steps.{IsPrinted, IsUnknown, IsAnswer}
 use Rattle.venue_commands.specs.declared.command.RouteOf.{RouteOf}
 use Rattle.venue_commands.specs.ReadCommands.{AskWay}
-use Rattle.venue_commands.specs.Commands.{Asked, Price, Verify, Check, Links, Route, Session, Serve, Gen, IsBase, IsFolder, IsIdentifier, IsAsked, Asks, AskForNothing, AskNoJournal, words_of}
-use Rattle.venue_commands.specs.Output.{PriceOutput, Output, other_words, answers_price, answers_verify, answers_check, answers_links, answers_route, answers_gen}
+use Rattle.venue_commands.specs.Commands.{Asked, Price, Verify, Check, Canon, Links, Route, Session, Serve, Gen, IsBase, IsFolder, IsIdentifier, IsAsked, Asks, AskForNothing, AskNoJournal, words_of}
+use Rattle.venue_commands.specs.Output.{PriceOutput, Output, other_words, answers_price, answers_verify, answers_check, answers_canon, answers_links, answers_route, answers_gen}
 use Rattle.venue_commands.specs.Verified.{VerifyOutput}
 use Rattle.venue_commands.specs.Checked.{CheckOutput}
+use Rattle.venue_commands.specs.Written.{CanonOutput}
 use Rattle.venue_commands.specs.Linked.{LinksOutput}
 use Rattle.venue_commands.specs.Routed.{RouteOutput}
 use Rattle.venue_commands.specs.Generated.{GenOutput}
@@ -43,6 +45,12 @@ check_told words files base folder (Err e) is-base is-folder is told = tt
 check_told words None base folder (Ok a) is-base is-folder is told = tt
 check_told words (Some fs) base folder (Ok a) is-base is-folder is told = answers_check base folder (is-base, is-folder) is told
 
+pub canon_told : (words : List (List ℕ)) (files : Option (List StoredFile)) (base folder : List ℕ) (file : File) (r : Result Printout ReadFault) → IsBase base → IsFolder folder
+    → words ≡ words_of (Canon base folder file) → IfOk r (λ a. IfSome files (λ fs. CanonOutput fs base folder file a.text a.status)) → IfOk r (λ a. IfSome files (λ fs. Output words fs a.text a.status))
+canon_told words files base folder file (Err e) is-base is-folder is told = tt
+canon_told words None base folder file (Ok a) is-base is-folder is told = tt
+canon_told words (Some fs) base folder file (Ok a) is-base is-folder is told = answers_canon base folder file (is-base, is-folder) is told
+
 pub links_told : (words : List (List ℕ)) (files : Option (List StoredFile)) (base folder profile : List ℕ) (r : Result Printout ReadFault) → IsBase base → IsFolder folder
     → words ≡ words_of (Links base folder profile)
     → IfOk r (λ a. IfSome files (λ fs. LinksOutput fs base folder profile a.text a.status)) → IfOk r (λ a. IfSome files (λ fs. Output words fs a.text a.status))
@@ -68,23 +76,25 @@ gen_told words (Some fs) levels (Ok a) some few is told = answers_gen levels (so
 pub asks_nothing : (words : List (List ℕ)) → ((base : List ℕ) → IsBase base → words ≡ words_of (Price base) → ⊥) → ((base : List ℕ) → IsBase base → words ≡ words_of (Verify base) → ⊥)
     → ((base folder : List ℕ) → IsBase base → IsFolder folder → words ≡ words_of (Check base folder) → ⊥)
     → ((base folder : List ℕ) → IsBase base → IsFolder folder → words ≡ words_of (Session base folder None) → ⊥)
+    → ((base folder : List ℕ) (file : File) → IsBase base → IsFolder folder → words ≡ words_of (Canon base folder file) → ⊥)
     → ((base folder profile : List ℕ) → IsBase base → IsFolder folder → words ≡ words_of (Links base folder profile) → ⊥)
     → ((base folder profile from to : List ℕ) → IsBase base → IsFolder folder → IsIdentifier from → IsIdentifier to → words ≡ words_of (Route base folder profile from to) → ⊥)
     → ((levels : ℕ) → 1 ≤ levels → levels ≤ 200 → words ≡ words_of (Gen levels) → ⊥)
     → ((base folder address : List ℕ) (workers connections : ℕ) → IsAsked (Serve base folder address workers connections None) → words ≡ words_of (Serve base folder address workers connections None) → ⊥)
     → AskNoJournal words → AskForNothing words
-asks_nothing words no_price no_verify no_check no_session no_links no_route no_gen no_service no_journal (Price base) form is = no_price base form is
-asks_nothing words no_price no_verify no_check no_session no_links no_route no_gen no_service no_journal (Verify base) form is = no_verify base form is
-asks_nothing words no_price no_verify no_check no_session no_links no_route no_gen no_service no_journal (Check base folder) form is = no_check base folder form.0 form.1 is
-asks_nothing words no_price no_verify no_check no_session no_links no_route no_gen no_service no_journal (Links base folder profile) form is = no_links base folder profile form.0 form.1 is
-asks_nothing words no_price no_verify no_check no_session no_links no_route no_gen no_service no_journal (Route base folder profile from to) form is = no_route base folder profile from to form.0 form.1 form.2 form.3 is
-asks_nothing words no_price no_verify no_check no_session no_links no_route no_gen no_service no_journal (Session base folder None) form is = no_session base folder form.0 form.1 is
-asks_nothing words no_price no_verify no_check no_session no_links no_route no_gen no_service no_journal (Session base folder (Some journal)) form is =
+asks_nothing words no_price no_verify no_check no_session no_canon no_links no_route no_gen no_service no_journal (Price base) form is = no_price base form is
+asks_nothing words no_price no_verify no_check no_session no_canon no_links no_route no_gen no_service no_journal (Verify base) form is = no_verify base form is
+asks_nothing words no_price no_verify no_check no_session no_canon no_links no_route no_gen no_service no_journal (Check base folder) form is = no_check base folder form.0 form.1 is
+asks_nothing words no_price no_verify no_check no_session no_canon no_links no_route no_gen no_service no_journal (Canon base folder file) form is = no_canon base folder file form.0 form.1 is
+asks_nothing words no_price no_verify no_check no_session no_canon no_links no_route no_gen no_service no_journal (Links base folder profile) form is = no_links base folder profile form.0 form.1 is
+asks_nothing words no_price no_verify no_check no_session no_canon no_links no_route no_gen no_service no_journal (Route base folder profile from to) form is = no_route base folder profile from to form.0 form.1 form.2 form.3 is
+asks_nothing words no_price no_verify no_check no_session no_canon no_links no_route no_gen no_service no_journal (Session base folder None) form is = no_session base folder form.0 form.1 is
+asks_nothing words no_price no_verify no_check no_session no_canon no_links no_route no_gen no_service no_journal (Session base folder (Some journal)) form is =
     let same : true ≡ false = no_journal (Session base folder (Some journal)) (record { form = form; spelled = is }) in absurd cc
-asks_nothing words no_price no_verify no_check no_session no_links no_route no_gen no_service no_journal (Serve base folder address workers connections None) form is = no_service base folder address workers connections form is
-asks_nothing words no_price no_verify no_check no_session no_links no_route no_gen no_service no_journal (Serve base folder address workers connections (Some journal)) form is =
+asks_nothing words no_price no_verify no_check no_session no_canon no_links no_route no_gen no_service no_journal (Serve base folder address workers connections None) form is = no_service base folder address workers connections form is
+asks_nothing words no_price no_verify no_check no_session no_canon no_links no_route no_gen no_service no_journal (Serve base folder address workers connections (Some journal)) form is =
     let same : true ≡ false = no_journal (Serve base folder address workers connections (Some journal)) (record { form = form; spelled = is }) in absurd cc
-asks_nothing words no_price no_verify no_check no_session no_links no_route no_gen no_service no_journal (Gen levels) form is = no_gen levels form.0 form.1 is
+asks_nothing words no_price no_verify no_check no_session no_canon no_links no_route no_gen no_service no_journal (Gen levels) form is = no_gen levels form.0 form.1 is
 
 pub unknown_told : (words : List (List ℕ)) (files : Option (List StoredFile)) (r : Result Printout ReadFault) → AskForNothing words → IfOk r IsUnknown
     → IfOk r (λ a. IfSome files (λ fs. Output words fs a.text a.status))

@@ -16,7 +16,7 @@ use Rattle.venue_commands.specs.Checked.{NoVenue, HasVenue}
 use Rattle.venue_commands.specs.Commands.{Check, Session, IsAsked, words_of}
 use Rattle.venue_commands.specs.Ends.{Printed, Ends}
 use Rattle.venue_commands.specs.Headlines.{Answered, SaysHeadline}
-use Rattle.venue_commands.specs.Output.{Output, other_words, answers_price, answers_verify, answers_check, answers_links, answers_route, stops_session, stops_serve, answers_gen}
+use Rattle.venue_commands.specs.Output.{Output, other_words, answers_price, answers_verify, answers_check, answers_canon, answers_links, answers_route, stops_session, stops_serve, answers_gen}
 use Rattle.venue_commands.specs.Runs.{Run, Wrote}
 use Rattle.venue_commands.specs.Served.{end_status, console_of, Served}
 
@@ -38,6 +38,7 @@ stops_of words files base folder text status form is (other_words none) = absurd
 stops_of words files base folder text status form is (answers_price base' form' is' output) = absurd cc
 stops_of words files base folder text status form is (answers_verify base' form' is' output) = absurd cc
 stops_of words files base folder text status form is (answers_check base' folder' form' is' output) = absurd (not_check base' base folder' folder (sym is' ∙ is))
+stops_of words files base folder text status form is (answers_canon base' folder' file form' is' output) = absurd cc
 stops_of words files base folder text status form is (answers_links base' folder' profile form' is' output) = absurd cc
 stops_of words files base folder text status form is (answers_route base' folder' profile from to a b form' is' from-is to-is output) = absurd cc
 stops_of words files base folder text status form is (stops_session base' folder' form' is' output) =

@@ -2,7 +2,7 @@
 use Rattle.std.proofs.Common.{◌≡◌, ℕ, ◌+◌, List, [], ◌∷◌, ◌++◌, Option, Some, None, length, length-append, refl, sym, ap, ◌∙◌, codes, arith, false}
 use Rattle.std.specs.Prelude.{IfNone}
 use Rattle.std.specs.Fmt.{decimal}
-use Rattle.venue_commands.specs.Commands.{Asked, Price, Verify, Check, Links, Route, Session, Serve, Gen, IsBase, IsFolder, IsAsked, Asks, AskNoJournal, words_of}
+use Rattle.venue_commands.specs.Commands.{Asked, Price, Verify, Check, Canon, Links, Route, Session, Serve, Gen, IsBase, IsFolder, IsAsked, Asks, AskNoJournal, words_of}
 
 -- lists of which one more each are the same are the same
 fronts : {X : Type 0} (xs ys : List X) (a b : X) → xs ++ a ∷ [] ≡ ys ++ b ∷ [] → xs ≡ ys
@@ -21,6 +21,7 @@ pub no_journal_at : (words : List (List ℕ)) → ((front : List (List ℕ)) (jo
 no_journal_at words none (Price base) asks = refl
 no_journal_at words none (Verify base) asks = refl
 no_journal_at words none (Check base folder) asks = refl
+no_journal_at words none (Canon base folder file) asks = refl
 no_journal_at words none (Links base folder profile) asks = refl
 no_journal_at words none (Route base folder profile from to) asks = refl
 no_journal_at words none (Session base folder None) asks = refl
@@ -38,6 +39,7 @@ pub no_journal_behind : (words front : List (List ℕ)) (last : List ℕ) → wo
 no_journal_behind words front last is no_session no_service (Price base) asks = refl
 no_journal_behind words front last is no_session no_service (Verify base) asks = refl
 no_journal_behind words front last is no_session no_service (Check base folder) asks = refl
+no_journal_behind words front last is no_session no_service (Canon base folder file) asks = refl
 no_journal_behind words front last is no_session no_service (Links base folder profile) asks = refl
 no_journal_behind words front last is no_session no_service (Route base folder profile from to) asks = refl
 no_journal_behind words front last is no_session no_service (Session base folder None) asks = refl

@@ -4,6 +4,7 @@ pub mod VerifyJudging
 pub mod Settling
 pub mod VenueMaking
 pub mod CheckJudging
+pub mod CanonJudging
 pub mod RouteJudging
 pub mod OneText
 pub mod RouteProving
@@ -13,7 +14,9 @@ pub mod Openings
 pub mod Serving
 pub mod Headlining
 pub mod Completing
+pub mod CanonCompleting
 pub mod Spelling
+pub mod FileNaming
 pub mod Journals
 pub mod Seeing
 pub mod Costing

@@ -5,10 +5,14 @@ use Rattle.std.proofs.Common.{◌≡◌, ◌<◌, ◌≤◌, ℕ, List, length, 
 use Rattle.std.proofs.lemmas.List.{length-map}
 use Rattle.std.proofs.lemmas.Option.{same_Some}
 use Rattle.std.specs.Prelude.{pos, MatchOption}
-use Rattle.venue_settings.specs.Data.{Data, Members, integer, get_member}
+use Rattle.std.specs.Option.{option_and_then}
+use Rattle.venue_settings.specs.Data.{Data, Members, integer, get_member, as_str}
+use Rattle.venue_settings.specs.Values.{inside_of}
 use Rattle.venue_types.specs.declared.files.Files.{Files}
 use Rattle.venue_types.specs.declared.finding.Report.{Report}
 use Rattle.venue_types.specs.declared.settings.Extras.{Extras}
+use Rattle.venue_types.specs.declared.settings.Inside.{Inside}
+use Rattle.venue_types.specs.declared.settings.Inside.TheVariants.{Straight}
 use Rattle.venue_types.specs.declared.settings.Settings.{Settings}
 use Rattle.venue_settings.specs.declared.fault.SettingsFault.{SettingsFault}
 use Rattle.venue_settings.specs.declared.fault.SettingsFault.TheVariants as fault
@@ -35,6 +39,11 @@ one_number (Some value) default a b p q = let same : integer (pos a) ≡ integer
 
 one_needed : (found : Option Data) (a b : ℕ) → found ≡ Some (integer (pos a)) → found ≡ Some (integer (pos b)) → a ≡ b
 one_needed found a b p q = let same : ◌≡◌ {A = Option Data} (Some (integer (pos a))) (Some (integer (pos b))) = sym p ∙ q in cc
+
+one_inside : (found : Option Data) (a b : Inside) → MatchOption found (a ≡ Straight) (λ value. option_and_then inside_of (as_str value) ≡ Some a)
+    → MatchOption found (b ≡ Straight) (λ value. option_and_then inside_of (as_str value) ≡ Some b) → a ≡ b
+one_inside None a b p q = p ∙ sym q
+one_inside (Some value) a b p q = same_Some a b (sym p ∙ q)
 
 one_extras : (table : Members) (a b : Extras) → HasExtras table a → HasExtras table b → a ≡ b
 one_extras table a b p q =

@@ -3,6 +3,8 @@ use Rattle.std.specs.Prelude.{◌≡◌, ℕ, ◌<◌, ◌≤◌, Bool, true, fa
 use Rattle.std.specs.Fmt.{decimal}
 use Rattle.std.specs.List.{Contains, list_all}
 use Rattle.venue_types.specs.declared.feature_id.FeatureId.{FeatureId}
+use Rattle.venue_types.specs.declared.folder_file.File.{File}
+use Rattle.venue_types.specs.FolderFiles.{file_name}
 use Rattle.venue_types.specs.Identifier.{identifier_read}
 
 -- a session or a service may name a journal of the base, which keeps its changes
@@ -10,6 +12,7 @@ pub data Asked : Type 0 where
   Price : List ℕ → Asked
   Verify : List ℕ → Asked
   Check : List ℕ → List ℕ → Asked
+  Canon : List ℕ → List ℕ → File → Asked
   Links : List ℕ → List ℕ → List ℕ → Asked
   Route : List ℕ → List ℕ → List ℕ → List ℕ → List ℕ → Asked
   Session : List ℕ → List ℕ → Option (List ℕ) → Asked
@@ -51,17 +54,19 @@ abbrev pub words_of : Asked → List (List ℕ)
 words_of (Price base) = codes "price" ∷ base ∷ []
 words_of (Verify base) = codes "verify" ∷ base ∷ []
 words_of (Check base folder) = codes "check" ∷ base ∷ folder ∷ []
+words_of (Canon base folder file) = codes "canon" ∷ base ∷ folder ∷ file_name file ∷ []
 words_of (Links base folder profile) = codes "links" ∷ base ∷ folder ∷ profile ∷ []
 words_of (Route base folder profile from to) = codes "route" ∷ base ∷ folder ∷ profile ∷ from ∷ to ∷ []
 words_of (Session base folder journal) = codes "session" ∷ base ∷ folder ∷ operand journal
 words_of (Serve base folder address workers connections journal) = codes "serve" ∷ base ∷ folder ∷ address ∷ decimal workers ∷ decimal connections ∷ operand journal
 words_of (Gen levels) = codes "gen" ∷ decimal levels ∷ []
 
--- its words are of their form; any word may be a profile's name, and a journal has the form of a folder
+-- its words are of their form; any word may be a profile's name, a file is one of the seventeen of a folder, and a journal has the form of a folder
 abbrev pub IsAsked : Asked → Type 0
 IsAsked (Price base) = IsBase base
 IsAsked (Verify base) = IsBase base
 IsAsked (Check base folder) = IsBase base × IsFolder folder
+IsAsked (Canon base folder file) = IsBase base × IsFolder folder
 IsAsked (Links base folder profile) = IsBase base × IsFolder folder
 IsAsked (Route base folder profile from to) = IsBase base × IsFolder folder × IsIdentifier from × IsIdentifier to
 IsAsked (Session base folder journal) = IsBase base × IsFolder folder × IfSome journal IsFolder

@@ -10,7 +10,7 @@ use Rattle.venue_folder.specs.Shelves.{folder_path}
 use Rattle.route_certificate.specs.declared.table.Table.{Table}
 use Rattle.route_certificate.specs.Forms.{IsTable}
 use Rattle.venue_commands.specs.Checked.{SettingsForm, settings_limit, settings_name}
-use Rattle.venue_commands.specs.Commands.{Asked, Price, Verify, Check, Links, Route, Session, Serve, Gen}
+use Rattle.venue_commands.specs.Commands.{Asked, Price, Verify, Check, Canon, Links, Route, Session, Serve, Gen}
 use Rattle.venue_commands.specs.Files.{Reads, links_limit, links_name, walk_name, answer_name}
 
 -- a read of a file of the base
@@ -43,6 +43,7 @@ abbrev pub FailsAt : Option (List StoredFile) → Option (List AskedFile) → Op
 FailsAt files before now (Price base) = FailsOverTable files before now base walk_name
 FailsAt files before now (Verify base) = FailsOverTable files before now base answer_name
 FailsAt files before now (Check base folder) = FailsInFolder files before now base folder
+FailsAt files before now (Canon base folder file) = FailsInFolder files before now base folder
 FailsAt files before now (Links base folder profile) = FailsInFolder files before now base folder
 FailsAt files before now (Route base folder profile from to) = FailsInFolder files before now base folder
 FailsAt files before now (Session base folder journal) = FailsInFolder files before now base folder

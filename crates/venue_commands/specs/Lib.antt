@@ -6,6 +6,7 @@ pub mod Commands
 pub mod ReadCommands
 pub mod Verified
 pub mod Checked
+pub mod Written
 pub mod Linked
 pub mod Routed
 pub mod Kept

@@ -2,6 +2,7 @@
 use Rattle.std.specs.Prelude.{◌≡◌, ℕ, List, ◌++◌, Some, None, codes}
 use Rattle.std.specs.Fmt.{decimal}
 use Rattle.venue_types.specs.declared.feature_id.FeatureId.{FeatureId}
+use Rattle.venue_types.specs.declared.folder_file.File.{File}
 use Rattle.venue_types.specs.Identifier.{identifier_read}
 use Rattle.venue_ports.specs.Files.{StoredFile, file_at}
 use Rattle.line_forms.specs.Lines.{line}
@@ -13,10 +14,11 @@ use Rattle.route_certificate.specs.Forms.{IsTable, IsWalkText}
 use Rattle.route_certificate.specs.Prices.{IsPriced}
 use Rattle.venue_commands.specs.declared.status.Status.{Status}
 use Rattle.venue_commands.specs.declared.status.Status.TheVariants.{Done, Negative, Wrong}
-use Rattle.venue_commands.specs.Commands.{Asked, Price, Verify, Check, Links, Route, Session, Serve, Gen, IsAsked, words_of}
+use Rattle.venue_commands.specs.Commands.{Asked, Price, Verify, Check, Canon, Links, Route, Session, Serve, Gen, IsAsked, words_of}
 use Rattle.venue_commands.specs.Files.{Reads, Stops, links_limit, links_name, walk_limit, walk_name}
 use Rattle.venue_commands.specs.Verified.{VerifyOutput}
 use Rattle.venue_commands.specs.Checked.{NoVenue, CheckOutput}
+use Rattle.venue_commands.specs.Written.{CanonOutput}
 use Rattle.venue_commands.specs.Linked.{LinksOutput}
 use Rattle.venue_commands.specs.Routed.{RouteOutput}
 use Rattle.venue_commands.specs.Generated.{GenOutput}
@@ -51,6 +53,8 @@ pub data Output (words : List (List ℕ)) (files : List StoredFile) : List ℕ �
       → Output words files text status
   answers_check : {text : List ℕ} {status : Status} (base folder : List ℕ) → IsAsked (Check base folder) → words ≡ words_of (Check base folder) → CheckOutput files base folder text status
       → Output words files text status
+  answers_canon : {text : List ℕ} {status : Status} (base folder : List ℕ) (file : File) → IsAsked (Canon base folder file) → words ≡ words_of (Canon base folder file)
+      → CanonOutput files base folder file text status → Output words files text status
   answers_links : {text : List ℕ} {status : Status} (base folder profile : List ℕ) → IsAsked (Links base folder profile) → words ≡ words_of (Links base folder profile)
       → LinksOutput files base folder profile text status → Output words files text status
   answers_route : {text : List ℕ} {status : Status} (base folder profile from to : List ℕ) (a b : FeatureId) → IsAsked (Route base folder profile from to)

@@ -1,5 +1,8 @@
 -- What words were read as.
-use Rattle.std.specs.Prelude.{◌≡◌, ℕ, List, Some, None}
+use Rattle.std.specs.Prelude.{◌≡◌, ℕ, List, [], ◌∷◌, Option, Some, None, if◌then◌else◌}
+use Rattle.std.specs.Str.{bytes_eq}
+use Rattle.venue_types.specs.declared.folder_file.File.{File}
+use Rattle.venue_types.specs.FolderFiles.{file_name}
 use Rattle.venue_types.specs.Identifier.{identifier_read}
 use Rattle.venue_commands.specs.declared.command.Command.{Command}
 use Rattle.venue_commands.specs.declared.command.Command.TheVariants as command
@@ -9,7 +12,12 @@ use Rattle.venue_commands.specs.declared.command.RouteOf.{RouteOf}
 use Rattle.venue_commands.specs.declared.command.ServiceOf.{ServiceOf}
 use Rattle.venue_commands.specs.declared.command.JournalOf.{JournalOf}
 use Rattle.venue_commands.specs.declared.command.KeptServiceOf.{KeptServiceOf}
-use Rattle.venue_commands.specs.Commands.{Asked, Price, Verify, Check, Links, Route, Session, Serve, Gen, Asks, AskForNothing}
+use Rattle.venue_commands.specs.Commands.{Asked, Price, Verify, Check, Canon, Links, Route, Session, Serve, Gen, Asks, AskForNothing}
+
+-- the first of some files that has this name
+abbrev pub named_among : List File → List ℕ → Option File
+named_among [] name = None
+named_among (f ∷ fs) name = if bytes_eq (file_name f) name then Some f else named_among fs name
 
 -- the words ask for this way, and spell its two places
 pub record AskWay (words : List (List ℕ)) (route : RouteOf) : Type 0 where
@@ -35,6 +43,7 @@ abbrev pub IsLocal : List (List ℕ) → LocalCommand → Type 0
 IsLocal words (local.Price base) = Asks words (Price base.name.now)
 IsLocal words (local.Verify base) = Asks words (Verify base.name.now)
 IsLocal words (local.Check of) = Asks words (Check of.base.now of.folder.now)
+IsLocal words (local.Canon canon) = Asks words (Canon canon.of.base.now canon.of.folder.now canon.file)
 IsLocal words (local.Links links) = Asks words (Links links.of.base.now links.of.folder.now links.profile.now)
 IsLocal words (local.Route route) = AskWay words route
 IsLocal words (local.Gen levels) = Asks words (Gen levels.count)

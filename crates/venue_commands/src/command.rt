@@ -3,7 +3,7 @@
 ghost use Rattle.std.specs.Prelude.{◌≤◌, length};
 ghost use Rattle.venue_commands.specs.Commands.{IsBase, IsFolder, IsAddress};
 
-use venue_types::FeatureId;
+use venue_types::{FeatureId, File};
 
 /// The name of a base.
 #[derive(Clone, Copy)]
@@ -19,6 +19,13 @@ pub struct FolderOf<'w> {
     pub folder: &'w str,
     pub ghost base_form: { IsBase base.now },
     pub ghost folder_form: { IsFolder folder.now },
+}
+
+/// A file of a folder, in the fixed form.
+#[derive(Clone, Copy)]
+pub struct CanonOf<'w> {
+    pub of: FolderOf<'w>,
+    pub file: File,
 }
 
 /// The links of a folder for a profile, by its name.
@@ -84,6 +91,8 @@ pub enum LocalCommand<'w> {
     Verify(Base<'w>),
     /// Whether a folder makes a venue.
     Check(FolderOf<'w>),
+    /// A file of a folder that makes a venue, in the fixed form.
+    Canon(CanonOf<'w>),
     /// The links of a venue that a profile may use.
     Links(LinksOf<'w>),
     /// A cheapest way through a venue, with its certificate.

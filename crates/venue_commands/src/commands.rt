@@ -8,6 +8,7 @@ ghost use Rattle.venue_commands.specs.ReadCommands.{IsLocal};
 ghost use Rattle.venue_commands.specs.Runs.{folders_between, run_between};
 ghost use Rattle.venue_commands.specs.Steps.{IsUnknown};
 
+use crate::canon_command::canon_answer;
 use crate::check_command::check_answer;
 use crate::command::LocalCommand;
 use crate::gen_command::building_answer;
@@ -55,6 +56,9 @@ fn answer<F: Folders, C: Stream>(
         }
         LocalCommand::Check(of) => {
             print_answer(console, check_answer(alloc, of, &mut folders), folders)
+        }
+        LocalCommand::Canon(canon) => {
+            print_answer(console, canon_answer(alloc, canon, &mut folders), folders)
         }
         LocalCommand::Links(links) => {
             print_answer(console, links_answer(alloc, links, &mut folders), folders)

@@ -4,10 +4,12 @@
 mod base;
 mod base_venue;
 mod building;
+mod canon_command;
 mod check_command;
 mod command;
 mod commands;
 mod console_text;
+mod file_word;
 mod gen_command;
 mod laws;
 mod links_command;
@@ -27,8 +29,8 @@ mod words;
 
 pub use building::{Told, tell_building};
 pub use command::{
-    Base, Command, FolderOf, JournalOf, KeptServiceOf, Levels, LinksOf, LocalCommand, RouteOf,
-    ServiceOf,
+    Base, CanonOf, Command, FolderOf, JournalOf, KeptServiceOf, Levels, LinksOf, LocalCommand,
+    RouteOf, ServiceOf,
 };
 pub use commands::run_alone;
 pub use console_text::write_all;
@@ -40,4 +42,5 @@ pub use route_law::route_is_proved;
 pub use settings::settings_of;
 pub use start::Start;
 pub use status::Status;
+pub use version_board::{Alone, Built, Hall, Unopened, Venue, build};
 pub use words::read_command;

@@ -5,9 +5,8 @@ ghost use Rattle.std.specs.Arc.{arc_value};
 
 use std::alloc::Global;
 use std::sync::Arc;
-use venue_session::Venue;
+use venue_session::{Front, Venue};
 use venue_types::{Files, OutOfMemory, Settings, Text};
-use venue_wire::Front;
 
 /// A venue of a base with its settings and the seventeen files that it was made of, and what judges the messages of its sessions.
 /// The files are kept until a hall is open.

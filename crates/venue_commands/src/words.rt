@@ -4,13 +4,16 @@ ghost use Rattle.std.specs.Prelude.{◌≡◌, ◌≤◌, ℕ, List, [], ◌∷�
 ghost use Rattle.std.specs.Bool.{OnTrue, OnFalse};
 ghost use Rattle.std.specs.Fmt.{decimal};
 ghost use Rattle.std.specs.List.{list_all};
-ghost use Rattle.venue_commands.specs.Commands.{Links, Serve, IsBase, IsFolder, IsAddress, IsIdentifier, IsAsked, Asks, AskNoJournal, words_of, is_folder_byte};
+ghost use Rattle.venue_types.specs.declared.folder_file.File.{File as AFile};
+ghost use Rattle.venue_types.specs.FolderFiles.{file_name};
+ghost use Rattle.venue_commands.specs.Commands.{Canon, Links, Serve, IsBase, IsFolder, IsAddress, IsIdentifier, IsAsked, Asks, AskNoJournal, words_of, is_folder_byte};
 ghost use Rattle.venue_commands.specs.ReadCommands.{AskWay, IsLocal, IsCommand, service_asked};
 
 use crate::command::{
-    Base, Command, FolderOf, JournalOf, KeptServiceOf, Levels, LinksOf, LocalCommand, RouteOf,
-    ServiceOf,
+    Base, CanonOf, Command, FolderOf, JournalOf, KeptServiceOf, Levels, LinksOf, LocalCommand,
+    RouteOf, ServiceOf,
 };
+use crate::file_word::file_named;
 use line_forms::number;
 use venue_types::FeatureId;
 
@@ -100,6 +103,22 @@ fn four_words(words: &[String]) -> Option<(&str, &str, &str, &str)>
             ))
         }
         _ => None,
+    }
+}
+
+// The folder and a file of it, where the words ask for a file in the fixed form.
+fn canon_of(words: &[String]) -> Option<CanonOf<'_>>
+    ensures found { IfSome result (λ canon. Asks (map string_bytes words.now) (Canon canon.of.base.now canon.of.folder.now canon.file)) }
+    ensures none { IfNone result ((base folder : List ℕ) (file : AFile) → IsBase base → IsFolder folder
+        → map string_bytes words.now ≡ codes "canon" ∷ base ∷ folder ∷ file_name file ∷ [] → ⊥) }
+{
+    let (command, base, folder, name) = four_words(words)?;
+    let file = file_named(name)?;
+    if command == "canon" && is_base(base) && is_folder(folder) {
+        let of = FolderOf { base, folder };
+        Some(CanonOf { of, file })
+    } else {
+        None
     }
 }
 
@@ -289,6 +308,9 @@ fn local_command(words: &[String]) -> LocalCommand<'_>
     }
     if let Some(of) = folder_of(words, "session") {
         return LocalCommand::Session(of);
+    }
+    if let Some(canon) = canon_of(words) {
+        return LocalCommand::Canon(canon);
     }
     if let Some(links) = links_of(words) {
         return LocalCommand::Links(links);

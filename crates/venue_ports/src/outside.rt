@@ -5,10 +5,9 @@ ghost use Rattle.venue_ports.specs.Causes.{one_more, HasExactCause};
 ghost use Rattle.venue_ports.specs.Files.{HasReadCause};
 
 use crate::folders::{Folders, ReadFault};
-use crate::reports::{file_path, read_count, read_fault, write_count};
+use crate::reports::{file_path, read_count, read_fault, regular_len, write_count};
 use crate::stream::{Failed, Stream};
 use std::alloc::Global;
-use std::fs::OpenFile;
 use std::io::{Read, Write};
 use std::rt::Files;
 use std::{fs, io};
@@ -29,23 +28,15 @@ impl<R> DirFolders<R> {
     }
 }
 
-// How many bytes a file seems to have, at most so many.
-fn expected<F: OpenFile>(file: &F, most: u64) -> u64
-    ensures { result ≤ most }
-{
-    match file.metadata() {
-        Ok(metadata) => metadata.len().min(most),
-        Err(_) => 0,
-    }
-}
-
-// The bytes of a file, cut after most + 1. Room for them is taken at once, so that they are never copied.
+// The bytes of a regular file, cut after most + 1, where a link may lead to it. Anything else is a failure and isn't opened: a pipe would wait for who
+// writes it, and a device may have no end. Room for the bytes is taken at once, so that they are never copied.
 fn read_cut<R: Files>(rt: &R, alloc: Global, path: &str, most: u64) -> io::Result<Vec<u8>>
     requires { most < 2 ^ 32 }
 {
+    let expected = regular_len(&fs::metadata(rt, path)?)?.min(most);
     let file = fs::open(rt, path)?;
     let mut bytes = Vec::new(alloc);
-    bytes.reserve_exact(expected(&file, most) as usize + 1)?;
+    bytes.reserve_exact(expected as usize + 1)?;
     file.take(most + 1).read_to_end(&mut bytes)?;
     Ok(bytes)
 }

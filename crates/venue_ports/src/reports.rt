@@ -1,11 +1,13 @@
 //! What is made of what the system reports.
 
-ghost use Rattle.std.specs.Prelude.{◌≡◌, ◌<◌, ◌↔◌, IfOk, IsErr, IsNone, OnErr, Ok, Some, string_bytes};
+ghost use Rattle.std.specs.Prelude.{◌≡◌, ◌<◌, ◌↔◌, IfErr, IfOk, IsErr, IsNone, IsOk, OnErr, Ok, Some, string_bytes};
+ghost use Rattle.std.specs.Fs.{IsFile, file_type, metadata_len};
 ghost use Rattle.venue_ports.specs.Reports.{file_path};
 
 use crate::folders::ReadFault;
 use crate::stream::Failed;
 use std::alloc::{AllocError, Global};
+use std::fs::Metadata;
 use std::io;
 use std::io::ErrorKind;
 
@@ -25,6 +27,19 @@ pub(crate) fn read_fault(kind: ErrorKind) -> Option<ReadFault>
         ErrorKind::NotFound => None,
         ErrorKind::OutOfMemory => Some(ReadFault::OutOfMemory),
         _ => Some(ReadFault::Failed),
+    }
+}
+
+/// How many bytes a regular file has. Anything else is a failure, and not a file that isn't there.
+pub(crate) fn regular_len(metadata: &Metadata) -> Result<u64, ErrorKind>
+    ensures regular { IsOk result ↔ IsFile (file_type metadata.now) }
+    ensures len { IfOk result (λ len. len ≡ metadata_len metadata.now) }
+    ensures kind { IfErr result (λ kind. kind ≡ ErrorKind.InvalidInput) }
+{
+    if metadata.is_file() {
+        Ok(metadata.len())
+    } else {
+        Err(ErrorKind::InvalidInput)
     }
 }
 

@@ -6,7 +6,7 @@ use Rattle.venue_ports.specs.Files.{StoredFile}
 use Rattle.venue_commands.specs.declared.status.Status.{Status}
 use Rattle.venue_commands.specs.declared.status.Status.TheVariants.{Memory}
 use Rattle.venue_commands.specs.Codes.{status_code}
-use Rattle.venue_commands.specs.Commands.{Asked, Price, Verify, Check, Links, Route, Session, Serve, Gen, Asks, AskNoConsole, AskNoDoors, words_of}
+use Rattle.venue_commands.specs.Commands.{Asked, Price, Verify, Check, Canon, Links, Route, Session, Serve, Gen, Asks, AskNoConsole, AskNoDoors, words_of}
 use Rattle.venue_commands.specs.Ends.{NothingDone}
 use Rattle.venue_commands.specs.Runs.{Run}
 use Rattle.venue_program.specs.declared.exit.WordsFault.{WordsFault}
@@ -27,6 +27,7 @@ nothing_spelled : (asked : Asked) → [] ≡ words_of asked → ⊥
 nothing_spelled (Price base) is = cc
 nothing_spelled (Verify base) is = cc
 nothing_spelled (Check base folder) is = cc
+nothing_spelled (Canon base folder file) is = cc
 nothing_spelled (Links base folder profile) is = cc
 nothing_spelled (Route base folder profile from to) is = cc
 nothing_spelled (Session base folder journal) is = cc

@@ -7,3 +7,4 @@ pub mod Ends
 pub mod Exits
 pub mod Complete
 pub use Rattle.venue_service.specs.Copied
+pub use Rattle.venue_service.specs.Making

@@ -19,5 +19,5 @@ pub use laws::{complete_run_law, kept_headline_law};
 pub use outcome::Outcome;
 pub use program::run;
 pub use shared_hall::{HallName, Opened, Seat, close_hall, open_hall};
-pub use venue_commands::tell_building;
+pub use venue_commands::{Alone, Built, Hall, Unopened, Venue, build, tell_building};
 pub use venue_service::{Copies, opening_entries};

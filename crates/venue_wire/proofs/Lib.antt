@@ -1,4 +1,5 @@
 pub mod BodyLemmas
+pub mod KeyLemmas
 pub mod MessageLemmas
 pub mod PathLemmas
 pub mod RouteLemmas

@@ -1,6 +1,6 @@
 //! The routes and the staff keys.
 
-ghost use Rattle.std.specs.Prelude.{◌≡◌, ℕ, List, IfOk, bytes_eq};
+ghost use Rattle.std.specs.Prelude.{◌≡◌, ℕ, List, IfOk, bytes_eq, slice_index_or};
 ghost use Rattle.std.specs.List.{list_any};
 ghost use Rattle.venue_wire.specs.Messages.{call_at, call_of, is_one_key};
 ghost use Rattle.venue_wire.specs.Paths.{path_in, route_of, routes};
@@ -59,6 +59,26 @@ fn copy_keys(alloc: Global, keys: &[Text]) -> Result<List<Text>, OutOfMemory>
     Ok(copies)
 }
 
+// The byte that stands there, or 0 past the end.
+fn byte_at(value: &[u8], place: usize) -> u8
+    ensures { result ≡ slice_index_or value.now place 0 }
+{
+    value.get(place).copied().unwrap_or(0)
+}
+
+// Whether a value is this key. Every byte of the key is looked at, and none is branched on, so that the time that it takes tells nobody how far a guess
+// is right. A clause can't say so.
+fn are_equal(key: &[u8], value: &[u8]) -> bool
+    ensures { result ≡ bytes_eq key.now value.now }
+{
+    let mut differences = 0;
+    for (place, byte) in key.iter().enumerate() {
+        differences |= *byte ^ byte_at(value, place);
+    }
+    let is_as_long = key.len() == value.len();
+    (differences == 0) & is_as_long
+}
+
 impl Front {
     /// A front with these staff keys.
     pub fn new(alloc: Global, keys: &List<Text>) -> Result<Front, OutOfMemory>
@@ -81,13 +101,15 @@ impl Front {
         }
     }
 
+    // Every key is compared, also behind one that is equal.
     fn has_key(&self, value: &[u8]) -> bool
         ensures { result ≡ list_any (λ key. bytes_eq key value.now) self.now }
     {
-        self.keys
-            .as_slice()
-            .iter()
-            .any(|key| key.as_str().as_bytes() == value)
+        let mut found = false;
+        for key in self.keys.as_slice() {
+            found |= are_equal(key.as_str().as_bytes(), value);
+        }
+        found
     }
 
     fn is_staff(&self, named: &Named<'_>) -> bool

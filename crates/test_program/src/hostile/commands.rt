@@ -14,6 +14,12 @@ use venue_ports::MemoryFile;
 
 const CHECK: [&str; 3] = ["check", "base", "station"];
 
+const CANON: [&str; 4] = ["canon", "base", "station", "address.geojson"];
+
+// The station's one address in the fixed form.
+const ADDRESS: &str =
+    "{\"features\":[{\"feature_type\":\"address\",\"geometry\":null,\"id\":\"00000000-0000-4000-8000-000000000001\",\"properties\":{},\"type\":\"Feature\"}],\"type\":\"FeatureCollection\"}";
+
 const LINKS: [&str; 4] = ["links", "base", "station", "walk"];
 
 // There is no such profile.
@@ -82,7 +88,7 @@ type Row = (
     u8,
 );
 
-static COMMANDS: [Row; 24] = [
+static COMMANDS: [Row; 29] = [
     (&PRICE, &[], 1, 0, ROOM, FAULT, 3),
     (&PRICE, &[], 1, 1, ROOM, "", 3),
     (&PRICE, &[], 2, 0, ROOM, FAULT, 3),
@@ -111,6 +117,11 @@ static COMMANDS: [Row; 24] = [
     (&CHECK, BROKEN, 18, 0, ROOM, FAULT, 3),
     (&CHECK, ZERO_KX, 2, 0, ROOM, KX, 2),
     (&CHECK, NO_SETTINGS, 2, 0, ROOM, MISSING, 2),
+    (&CANON, NO_SETTINGS, 2, 0, ROOM, MISSING, 2),
+    (&CANON, ZERO_KX, 2, 0, ROOM, KX, 2),
+    (&CANON, &[], 3, 0, ROOM, FAULT, 3),
+    (&CANON, &[], 19, 0, ROOM, ADDRESS, 0),
+    (&CANON, &[], 0, 0, 10, "{\"features", 3),
     (&LINKS, NO_SETTINGS, 2, 0, ROOM, MISSING, 2),
     (&LINKS, &[], 1, 0, ROOM, FAULT, 3),
     (&LINKS_BY, &[], 18, 0, ROOM, FAULT, 3),

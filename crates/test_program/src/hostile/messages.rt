@@ -10,12 +10,10 @@ use std::process::Abort;
 use std::sync::Arc;
 use std::test::Fail;
 use test_station::station_settings;
-use venue_build::Venue;
 use venue_ports::{MemoryFolders, MemoryStream};
-use venue_program::{End, serve_session};
+use venue_program::{Alone, End, Unopened, Venue, serve_session};
 use venue_types::Settings;
 use venue_wire::Front;
-use version_board::{Alone, Unopened};
 
 // A closure but for its last byte: a head of 84 bytes, and 63.
 const CUT_CLOSURE: &str =

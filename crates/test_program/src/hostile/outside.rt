@@ -10,12 +10,11 @@ use std::sync::{Arc, Wait};
 use std::test::Fail;
 use std::thread::Threads;
 use test_station::{Change, slots_of};
-use venue_build::{Built, Venue, build};
 use venue_ports::{
     Disks, Doors, Folders, MemoryDisks, MemoryDoors, MemoryFile, MemoryFolders, MemoryStream,
     Stream,
 };
-use venue_program::{Outcome, run};
+use venue_program::{Built, Outcome, Venue, build, run};
 use venue_types::{Settings, Text};
 
 /// How the program ended, what it printed, and how often its folders and its doors failed.

@@ -2,7 +2,7 @@
 
 ghost use Rattle.std.specs.Prelude.{◌≡◌, ◌≤◌, None, length};
 ghost use Rattle.venue_ports.specs.InMemory.{stream_left, stream_written, stream_starts, stream_faults};
-ghost use Rattle.venue_state.specs.Making.{shelf_of};
+ghost use Rattle.venue_program.specs.Making.{shelf_of};
 ghost use Rattle.venue_program.specs.Copied.{entries_in, book_in};
 
 use super::outside::{base, folders, joined, stream, venue_of};
@@ -17,12 +17,9 @@ use std::sync::{Arc, Wait};
 use std::test::Fail;
 use test_station::{Change as Edits, folder_files, station_settings};
 use venue_ports::{Failed, Folders, MemoryStream, Stream};
-use venue_program::{
-    Copies, End, HallName, Opened, Seat, close_hall, open_hall, opening_entries, serve_session,
-};
+use venue_program::{Copies, End, Hall, HallName, Opened, Seat, close_hall, open_hall, opening_entries, serve_session};
 use venue_types::{Change, Text};
 use venue_wire::Front;
-use version_board::Hall;
 
 // Whose seat it is.
 #[derive(Clone, Copy)]

@@ -1,6 +1,6 @@
 use Rattle.std.proofs.Common.{refl}
-use Rattle.venue_commands.specs.Commands.{Price, Verify, Check, Links, Route, Gen}
-use Rattle.venue_commands.proofs.Ending.{price_told, verify_told, check_told, links_told, route_told, gen_told, unknown_told, unknown_plain, is_answer, is_answer_alone}
+use Rattle.venue_commands.specs.Commands.{Price, Verify, Check, Canon, Links, Route, Gen}
+use Rattle.venue_commands.proofs.Ending.{price_told, verify_told, check_told, canon_told, links_told, route_told, gen_told, unknown_told, unknown_plain, is_answer, is_answer_alone}
 use Rattle.venue_commands.proofs.Serving.{asks_console}
 use Rattle.venue_commands.proofs.commands.answer.Goals as goal
 
@@ -24,6 +24,13 @@ returns-in-Check-clause-ends g c words is =
     let files = g.F.Folders.files c.args.folders in
     let told = check_told words files c.in-Check.of.base.now c.in-Check.of.folder.now c.check_answer.result asks.form.0 asks.form.1 asks.spelled c.check_answer.ensures.told in
     c.print_answer-in-Check.ensures.ends words files c.args.folders (is_answer words files _ (Check c.in-Check.of.base.now c.in-Check.of.folder.now) c.check_answer.result c.check_answer.ensures.plain told asks c.check_answer.ensures.failed c.check_answer.ensures.cause)
+
+pub returns-in-Canon-clause-ends : goal.returns-in-Canon-clause-ends
+returns-in-Canon-clause-ends g c words is =
+    let asks = rw c.in-Canon.is at is in
+    let files = g.F.Folders.files c.args.folders in
+    let told = canon_told words files c.in-Canon.canon.of.base.now c.in-Canon.canon.of.folder.now c.in-Canon.canon.file c.canon_answer.result asks.form.0 asks.form.1 asks.spelled c.canon_answer.ensures.told in
+    c.print_answer-in-Canon.ensures.ends words files c.args.folders (is_answer words files _ (Canon c.in-Canon.canon.of.base.now c.in-Canon.canon.of.folder.now c.in-Canon.canon.file) c.canon_answer.result c.canon_answer.ensures.plain told asks c.canon_answer.ensures.failed c.canon_answer.ensures.cause)
 
 pub returns-in-Links-clause-ends : goal.returns-in-Links-clause-ends
 returns-in-Links-clause-ends g c words is =

@@ -1,5 +1,5 @@
 use Rattle.std.proofs.Common.{[], None}
-use Rattle.venue_state.specs.Making.{shelf_of}
+use Rattle.venue_program.specs.Making.{shelf_of}
 use Rattle.venue_program.specs.Copied.{entries_in, book_in}
 use Rattle.test_program.proofs.hostile.seats.judge_at.Given as goal
 

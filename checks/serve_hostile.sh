@@ -1,0 +1,47 @@
+#!/bin/bash
+# Serves a base with folders whose `unit.geojson` is no regular file, a pipe that nobody writes, a folder, and a device without end behind a link, and
+# publishes each: that it can't be read is answered within two seconds, and a closing beside it goes through as soon. Then a whole folder is published,
+# and one whose file is a link to a regular file outside of the base.
+#
+# usage: serve_hostile.sh [PROGRAM]   (without PROGRAM the launcher ./venue, which builds the program if need be)
+# It prints a line for each difference and one at the end, and ends with status 1 at a difference.
+program=${1-$(dirname "$0")/../venue}
+. "$(dirname "$0")/serving.sh"
+need curl mkfifo
+
+base=$work/base
+mkdir "$base" && cp -R "$here/examples/venue.toml" "$here/examples/station" "$base" || exit 1
+for folder in pipe folder device linked; do
+    cp -R "$here/examples/station" "$base/$folder" && rm "$base/$folder/unit.geojson" || exit 1
+done
+mkfifo "$base/pipe/unit.geojson" || exit 1
+mkdir "$base/folder/unit.geojson" || exit 1
+ln -s /dev/zero "$base/device/unit.geojson" || exit 1
+ln -s "$here/examples/station/unit.geojson" "$base/linked/unit.geojson" || exit 1
+
+# What staff are answered, and the status.
+change() { # seconds, path, body
+    curl -s --max-time "$1" -w ' %{http_code}' -H "$key" -d "$3" "http://127.0.0.1:$port/v1/$2"
+}
+
+serve 2 9
+version=1
+closed=true
+for folder in pipe folder device; do
+    change 2 publish '{"folder":"'$folder'"}' >"$work/published" &
+    publication=$!
+    version=$((version + 1))
+    compare "a change beside $folder" "$(change 2 closures '{"feature":"'$lift'","closed":'$closed'}')" \
+        '{"changed":true,"closed":'$closed',"feature":"'$lift'","version":'$version'} 200'
+    wait $publication
+    compare "the publication of $folder" "$(cat "$work/published")" '{"error":"folder_fault"} 502'
+    [ $closed = true ] && closed=false || closed=true
+done
+compare 'a whole folder' "$(change 20 publish '{"folder":"station"}')" '{"dropped":\[\],"version":5} 200'
+compare 'a link out of the base' "$(change 20 publish '{"folder":"linked"}')" '{"dropped":\[\],"version":6} 200'
+compare 'the version' "$(curl -s --max-time 20 "http://127.0.0.1:$port/v1/version")" '{"closed":1,"places":33,"version":6}'
+wait $server
+compare 'the status' $? 0
+compare 'what was printed' "$(cat "$work/printed")" "listening 127.0.0.1:$port
+workers 2 sessions 9 versions 6 changes 5"
+finish
