@@ -1,2 +1,5 @@
 pub mod TableLemmas
 pub mod WordLemmas
+pub mod Counts
+pub mod Ones
+pub mod Fronts

@@ -1,16 +1,16 @@
 -- The words of a table: where a bit stands, and what stands there when one is set.
-use Rattle.std.proofs.Common.{◌≡◌, ◌≢◌, ℕ, zero, ◌+◌, ◌*◌, ◌/◌, ◌%◌, ◌^◌, ◌<◌, ◌≤◌, Bool, false, ◌&&◌, ◌||◌, ◌==◌, List, length, get_or, set, replicate, sym, ap, ◌∙◌, arith, inl, inr}
+use Rattle.std.proofs.Common.{◌≡◌, ◌≢◌, ℕ, zero, ◌+◌, ◌*◌, ◌/◌, ◌%◌, ◌^◌, ◌<◌, ◌≤◌, Bool, false, ◌&&◌, ◌||◌, ◌==◌, List, length, get_or, set, replicate, sym, ap, ◌∙◌, arith, inl, inr, map, []}
 use Rattle.std.specs.Int.{bit_at}
 use Rattle.std.proofs.lemmas.Bool.{cases_eq, cases_lt, eq-eqb, ne_eqb, and_left, and_right}
-use Rattle.std.proofs.lemmas.List.{get_or-set_same, get_or-set_other, get_or_past, get_or-replicate, length-replicate, length-set, set_past}
+use Rattle.std.proofs.lemmas.List.{get_or-set_same, get_or-set_other, get_or_past, get_or-replicate, length-map, length-replicate, length-set, set_past}
 use Rattle.std.proofs.Math.Bool.{or-false, or-true, or_assoc}
 use Rattle.std.proofs.lemmas.Grind.{get_or_default_zero}
 use Rattle.std.proofs.lemmas.List.Elements.{All-set, All-from_get_or}
 use Rattle.std.proofs.lemmas.Nat.Bits.{bit_at-zero}
 use Rattle.std.proofs.lemmas.Nat.{div-mul-add, mul-add-lt}
-use Rattle.unit_sight.specs.Words.{words_in, word_at, bit_in, bits_of, AreBits}
-use Rattle.unit_sight.specs.Tables.{joins, table_of}
-use Rattle.unit_sight.proofs.TableLemmas.{length_table, joins_table, table_same}
+use Rattle.unit_sight.specs.Words.{bits_in, words_in, word_at, bit_in, bits_of, AreBits}
+use Rattle.unit_sight.specs.Tables.{joins, places, table_of}
+use Rattle.unit_sight.proofs.TableLemmas.{get_or_row, length_places, length_table, joins_table, table_same}
 
 position_same : (w a b i j : ℕ) → b < w → j < w → a * w + b ≡ i * w + j → (a ≡ i) × (b ≡ j)
 position_same w a b i j first second same =
@@ -168,3 +168,47 @@ put_twice table middle last i j first second =
     (λ a b row column.
     ap (λ t. t || ((a == j) && (b == i))) (ap (λ t. joins t a b) first ∙ joins_table (length table) (λ c d. joins table c d || ((c == i) && (d == j))) a b row column)
     ∙ or_assoc (joins table a b) ((a == i) && (b == j)) ((a == j) && (b == i))))
+
+pub row_past : (n : ℕ) (test : ℕ → ℕ → Bool) (i j : ℕ) → i < n → n ≤ j → joins (table_of n test) i j ≡ false
+row_past n test i j row past =
+    ap (λ values. get_or values j false) (get_or_row (λ a. map (test a) (places n)) n i [] row)
+    ∙ get_or_past (map (test i) (places n)) j false (let size = length-map (places n) (test i) in let all = length_places n in omega arith)
+
+bit_of_word : (size : ℕ) (words : List ℕ) (i w k : ℕ) → AreBits size words → i < size → w < words_in size → k < 64
+  → joins (bits_of size words) i (64 * w + k) ≡ bits_in (get_or words (i * words_in size + w) 0) k
+bit_of_word size words i w k are row within low =
+    let word_same : (64 * w + k) / 64 ≡ w = omega arith in
+    let bit_same : (64 * w + k) % 64 ≡ k = omega arith in
+    let bit_is : bit_at (word_at size words i (64 * w + k)) ((64 * w + k) % 64) ≡ bit_at (get_or words (i * words_in size + w) 0) k =
+      ap (λ b. bit_at (word_at size words i (64 * w + k)) b) bit_same ∙ ap (λ n. bit_at (get_or words (i * words_in size + n) 0) k) word_same in
+    elim (cases_lt (64 * w + k) size) [
+      | inl column ↦ joins_table size (bit_in size words) i (64 * w + k) row column ∙ ap (λ bit. bit == 1) bit_is
+      | inr past ↦
+          row_past size (bit_in size words) i (64 * w + k) row past
+          ∙ ap (λ bit. bit == 1) (sym (are.nothing_behind i (64 * w + k) row past (omega arith)) ∙ bit_is)
+    ]
+
+-- a word of a row that was read
+pub seen_word : (size : ℕ) (words : List ℕ) (table : List (List Bool)) (i w place x : ℕ) → bits_of size words ≡ table → AreBits size words
+  → i < length table → w < words_in (length table) → place ≡ i * words_in size + w → place < length words → x ≡ get_or words place x
+  → (k : ℕ) → k < 64 → joins table i (64 * w + k) ≡ bits_in x k
+seen_word size words table i w place x seen are row within is inside read k low =
+    let same = seen_size size words table seen in
+    let x_is : get_or words (i * words_in size + w) 0 ≡ x = sym (read ∙ (get_or_default_zero words place x inside ∙ ap (λ n. get_or words n 0) is)) in
+    ap (λ t. joins t i (64 * w + k)) (sym seen)
+    ∙ (bit_of_word size words i w k are (omega arith) (omega arith) low ∙ ap (λ word. bits_in word k) x_is)
+
+pub word_inside : (size : ℕ) (words : List ℕ) (table : List (List Bool)) (i w : ℕ) → bits_of size words ≡ table → AreBits size words
+  → i < length table → w < words_in (length table) → i * words_in size + w < length words
+word_inside size words table i w seen are row within =
+    let same = seen_size size words table seen in
+    let count = are.count in
+    let inside = mul-add-lt i (words_in size) w size (omega arith) (omega arith) in
+    omega arith
+
+-- a table that is seen is as wide as it is high
+pub seen_square : (size : ℕ) (words : List ℕ) (table : List (List Bool)) → bits_of size words ≡ table → table ≡ table_of (length table) (joins table)
+seen_square size words table seen =
+    sym seen
+    ∙ (table_same size (bit_in size words) (joins (bits_of size words)) (λ i j row column. sym (joins_table size (bit_in size words) i j row column))
+    ∙ (ap (λ n. table_of n (joins (bits_of size words))) (sym (length_table size (bit_in size words))) ∙ ap (λ t. table_of (length t) (joins t)) seen))

@@ -1,7 +1,7 @@
 -- How the code keeps a table: in words of 64 bits. Named by no public clause.
-use Rattle.std.specs.Prelude.{◌≡◌, ℕ, ◌+◌, ◌*◌, ◌/◌, ◌%◌, ◌<◌, ◌≤◌, ◌^◌, Bool, ◌==◌, List, All, length, get_or}
+use Rattle.std.specs.Prelude.{◌≡◌, filter, ℕ, ◌+◌, ◌*◌, ◌/◌, ◌%◌, ◌<◌, ◌≤◌, ◌^◌, Bool, ◌==◌, ◌&&◌, nat_le, Option, List, All, length, get_or}
 use Rattle.std.specs.Int.{bit_at}
-use Rattle.unit_sight.specs.Tables.{table_of}
+use Rattle.unit_sight.specs.Tables.{is_new, joins, places, table_of}
 
 -- how many words a row has
 abbrev pub words_in : ℕ → ℕ
@@ -25,3 +25,21 @@ pub record AreBits (size : ℕ) (words : List ℕ) : Type 0 where
   pub count : length words ≡ size * words_in size
   pub fits : All (λ (word : ℕ). word < 2 ^ 64) words
   pub nothing_behind : (i j : ℕ) → i < size → size ≤ j → j < 64 * words_in size → bit_at (word_at size words i j) (j % 64) ≡ 0
+
+-- how many numbers below n pass a test
+abbrev pub count_to : (ℕ → Bool) → ℕ → ℕ
+count_to test n = length (filter test (places n))
+
+-- the bits of a word
+abbrev pub bits_in : ℕ → ℕ → Bool
+bits_in word k = bit_at word k == 1
+
+-- beside each of the first m words of a table stands how many places of its row in front of it are joined
+pub record AreFronts (table : List (List Bool)) (fronts : List ℕ) (m : ℕ) : Type 0 where
+  pub count : length fronts ≡ length table * words_in (length table)
+  pub counts : (i w : ℕ) → i < length table → w < words_in (length table) → i * words_in (length table) + w < m
+    → get_or fronts (i * words_in (length table) + w) 0 ≡ count_to (joins table i) (64 * w)
+
+-- a neighbour of i at `from` or behind that is new
+abbrev pub is_next : List (List Bool) → ℕ → Option ℕ → ℕ → ℕ → Bool
+is_next table i known from j = joins table i j && (nat_le from j && is_new table known j)

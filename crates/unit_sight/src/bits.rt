@@ -3,7 +3,7 @@
 ghost use Rattle.std.specs.Prelude.{◌≡◌, ◌≢◌, ℕ, ◌+◌, ◌*◌, ◌/◌, ◌<◌, ◌≤◌, ◌&&◌, ◌||◌, ◌==◌, false, length, IfOk};
 ghost use Rattle.std.specs.Int.{bit_at};
 ghost use Rattle.unit_sight.specs.Tables.{joins, table_of};
-ghost use Rattle.unit_sight.specs.Words.{words_in};
+ghost use Rattle.unit_sight.specs.Words.{bits_in, words_in};
 
 use std::alloc::Global;
 use std::marker::Model;
@@ -37,12 +37,22 @@ impl Bits {
         Ok(Bits { size, words })
     }
 
-    /// How many rows it has.
+    /// How many rows it has, which are as wide.
     pub(crate) fn size(&self) -> u32
         ensures size { result ≡ length self.now }
         ensures range { result ≤ 4096 }
+        ensures square { self.now ≡ table_of (length self.now) (joins self.now) }
     {
         self.size
+    }
+
+    /// A word of row i: of 64 places one after the other, which are joined to i.
+    pub(crate) fn word(&self, i: u32, w: u32) -> u64
+        requires row { i < length self.now }
+        requires within { w < words_in (length self.now) }
+        ensures { (k : ℕ) → k < 64 → joins self.now i (64 * w + k) ≡ bits_in result k }
+    {
+        self.words[i as usize * row_words(self.size) as usize + w as usize]
     }
 
     /// Whether i and j are joined.
@@ -76,8 +86,8 @@ impl Bits {
     }
 }
 
-// How many words a row has.
-fn row_words(size: u32) -> u32
+/// How many words a row has.
+pub(crate) fn row_words(size: u32) -> u32
     requires { size ≤ 4096 }
     ensures is { result ≡ words_in size }
     ensures few { result ≤ 64 }
@@ -85,8 +95,8 @@ fn row_words(size: u32) -> u32
     (size + 63) / 64
 }
 
-// How many words a table has.
-fn table_words(size: u32) -> usize
+/// How many words a table has.
+pub(crate) fn table_words(size: u32) -> usize
     requires { size ≤ 4096 }
     ensures { result ≡ size * words_in size }
 {

@@ -2,3 +2,5 @@
 #![tactic(auto)]
 
 mod bits;
+mod ranked;
+mod words;
