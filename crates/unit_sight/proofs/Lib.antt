@@ -3,3 +3,4 @@ pub mod WordLemmas
 pub mod Counts
 pub mod Ones
 pub mod Fronts
+pub mod Wholes

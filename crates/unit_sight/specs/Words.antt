@@ -1,7 +1,7 @@
 -- How the code keeps a table: in words of 64 bits. Named by no public clause.
-use Rattle.std.specs.Prelude.{◌≡◌, filter, ℕ, ◌+◌, ◌*◌, ◌/◌, ◌%◌, ◌<◌, ◌≤◌, ◌^◌, Bool, ◌==◌, ◌&&◌, nat_le, Option, List, All, length, get_or}
+use Rattle.std.specs.Prelude.{◌≡◌, filter, ℕ, ◌+◌, ◌*◌, ◌/◌, ◌%◌, ◌<◌, ◌≤◌, ◌^◌, Bool, ◌==◌, ◌&&◌, nat_le, not, Option, Some, None, IfSome, List, All, length, get_or}
 use Rattle.std.specs.Int.{bit_at}
-use Rattle.unit_sight.specs.Tables.{is_new, joins, places, table_of}
+use Rattle.unit_sight.specs.Tables.{IsWhole, is_new, joins, places, table_of}
 
 -- how many words a row has
 abbrev pub words_in : ℕ → ℕ
@@ -43,3 +43,18 @@ pub record AreFronts (table : List (List Bool)) (fronts : List ℕ) (m : ℕ) : 
 -- a neighbour of i at `from` or behind that is new
 abbrev pub is_next : List (List Bool) → ℕ → Option ℕ → ℕ → ℕ → Bool
 is_next table i known from j = joins table i j && (nat_le from j && is_new table known j)
+
+-- any two places are joined
+abbrev pub whole_of : ℕ → List (List Bool)
+whole_of n = table_of n (λ i j. not (i == j))
+
+-- the table of a room, which is whole where nothing is kept
+abbrev pub table_or : ℕ → Option (List (List Bool)) → List (List Bool)
+table_or n None = whole_of n
+table_or n (Some table) = table
+
+-- a table that is kept has so many rows, and isn't whole
+pub record AreSights (n : ℕ) (rows : Option (List (List Bool))) : Type 0 where
+  pub range : n ≤ 4096
+  pub size : IfSome rows (λ (table : List (List Bool)). length table ≡ n)
+  pub parts : IfSome rows (λ (table : List (List Bool)). IsWhole table → ⊥)

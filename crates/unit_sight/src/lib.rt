@@ -3,4 +3,8 @@
 
 mod bits;
 mod ranked;
+mod sights;
+mod whole;
 mod words;
+
+pub use sights::Sights;

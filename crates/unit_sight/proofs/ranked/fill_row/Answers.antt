@@ -17,5 +17,5 @@ overflow_add-front c =
 
 pub loop-w-preserved : goal.loop-w-preserved
 loop-w-preserved c =
-    fill_step c.args.bits.now c.loop-w.fronts c.args.i c.loop-w.w c.row_words-words.result c.loop-w.front c.word-front.result c.ones_of-front.result
-      c.loop-w.invariant.fronts c.requires.row (omega arith) (let size = c.size.ensures.size in let words = c.row_words-words.ensures.is in omega arith) c.loop-w.invariant.front c.word-front.ensures c.ones_of-front.ensures.is
+    fill_step c.args.bits.now c.loop-w.fronts c.args.i c.loop-w.w c.row_words-words.result c.loop-w.front c.word.result c.ones_of-front.result
+      c.loop-w.invariant.fronts c.requires.row (omega arith) (let size = c.size.ensures.size in let words = c.row_words-words.ensures.is in omega arith) c.loop-w.invariant.front c.word.ensures c.ones_of-front.ensures.is
