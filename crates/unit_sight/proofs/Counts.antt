@@ -1,7 +1,7 @@
 -- How many numbers pass a test, and which is the k-th of them.
-use Rattle.std.proofs.Common.{◌≡◌, ℕ, zero, suc, ◌+◌, ◌-◌, ◌<◌, ◌≤◌, Bool, true, false, cond, ◌&&◌, nat_lt, List, [], ◌∷◌, ◌++◌, length, refl, sym, ap, ◌∙◌, arith, inl, inr, length-append, Option, Some, None, slice_get}
+use Rattle.std.proofs.Common.{◌≡◌, ℕ, zero, suc, ◌+◌, ◌-◌, ◌<◌, ◌≤◌, Bool, true, false, cond, ◌&&◌, nat_lt, List, [], ◌∷◌, ◌++◌, length, refl, sym, ap, ◌∙◌, arith, inl, inr, length-append, Some, slice_get}
 use Rattle.std.specs.List.{filter}
-use Rattle.std.proofs.lemmas.Bool.{cases_eq, cases_lt, cases_Bool, lt-ltb, le-ltb}
+use Rattle.std.proofs.lemmas.Bool.{cases_lt, lt-ltb, le-ltb}
 use Rattle.std.proofs.lemmas.List.{append-nil}
 use Rattle.std.proofs.lemmas.List.Elements.{filter-append}
 use Rattle.std.proofs.Math.Bool.{and-true, and-false}
@@ -76,7 +76,7 @@ count_stays test a b low none =
 
 -- what passes two tests
 filter_cond : (p q : ℕ → Bool) (b c : Bool) (x : ℕ) (xs : List ℕ) → q x ≡ b → p x ≡ c
-  → filter p (cond (q x) (x ∷ filter q xs) (filter q xs)) ≡ cond (q x && p x) (x ∷ filter p (filter q xs)) (filter p (filter q xs))
+    → filter p (cond (q x) (x ∷ filter q xs) (filter q xs)) ≡ cond (q x && p x) (x ∷ filter p (filter q xs)) (filter p (filter q xs))
 filter_cond p q true true x xs first second = rw first (rw second refl)
 filter_cond p q true false x xs first second = rw first (rw second refl)
 filter_cond p q false c x xs first second = rw first refl

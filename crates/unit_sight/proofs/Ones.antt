@@ -1,5 +1,5 @@
 -- The bits of a word, counted and looked for.
-use Rattle.std.proofs.Common.{◌≡◌, ◌≢◌, ℕ, zero, suc, ◌+◌, ◌-◌, ◌*◌, ◌/◌, ◌%◌, ◌^◌, ◌<◌, ◌≤◌, Bool, true, false, cond, not, ◌&&◌, ◌==◌, refl, sym, ap, ◌∙◌, arith, inl, inr, min, bit_and, count_ones, w64}
+use Rattle.std.proofs.Common.{◌≡◌, ℕ, zero, suc, ◌+◌, ◌-◌, ◌*◌, ◌/◌, ◌%◌, ◌^◌, ◌<◌, ◌≤◌, false, cond, not, ◌&&◌, ◌==◌, refl, sym, ap, ◌∙◌, arith, inl, inr, min, bit_and, count_ones, w64}
 use mir.Val.{bits}
 use Rattle.std.specs.Int.Count.{ones, ones_in}
 use Rattle.std.specs.Int.{bit_at, bit_not, trailing_zeros}
@@ -110,7 +110,7 @@ stays : (word low at : ℕ) → low ≤ at → ((m : ℕ) → low ≤ m → m < 
 stays word low at rising none = count_stays (bits_in word) low at rising (λ m above below. no_bit word m (none m above below))
 
 pub nth_first : (word low at k : ℕ) → k < count_to (bits_in word) 64 → count_to (bits_in word) low ≡ k → low ≤ at → at ≤ 64
-  → (at < 64 → bit_at word at ≡ 1) → ((m : ℕ) → low ≤ m → m < at → bit_at word m ≡ 0) → IsNth word at k
+    → (at < 64 → bit_at word at ≡ 1) → ((m : ℕ) → low ≤ m → m < at → bit_at word m ≡ 0) → IsNth word at k
 nth_first word low at k more counted rising range bit none =
     let same = stays word low at rising none in
     elim (cases_lt at 64) [

@@ -175,12 +175,12 @@ row_past n test i j row past =
     ∙ get_or_past (map (test i) (places n)) j false (let size = length-map (places n) (test i) in let all = length_places n in omega arith)
 
 bit_of_word : (size : ℕ) (words : List ℕ) (i w k : ℕ) → AreBits size words → i < size → w < words_in size → k < 64
-  → joins (bits_of size words) i (64 * w + k) ≡ bits_in (get_or words (i * words_in size + w) 0) k
+    → joins (bits_of size words) i (64 * w + k) ≡ bits_in (get_or words (i * words_in size + w) 0) k
 bit_of_word size words i w k are row within low =
     let word_same : (64 * w + k) / 64 ≡ w = omega arith in
     let bit_same : (64 * w + k) % 64 ≡ k = omega arith in
     let bit_is : bit_at (word_at size words i (64 * w + k)) ((64 * w + k) % 64) ≡ bit_at (get_or words (i * words_in size + w) 0) k =
-      ap (λ b. bit_at (word_at size words i (64 * w + k)) b) bit_same ∙ ap (λ n. bit_at (get_or words (i * words_in size + n) 0) k) word_same in
+    ap (λ b. bit_at (word_at size words i (64 * w + k)) b) bit_same ∙ ap (λ n. bit_at (get_or words (i * words_in size + n) 0) k) word_same in
     elim (cases_lt (64 * w + k) size) [
       | inl column ↦ joins_table size (bit_in size words) i (64 * w + k) row column ∙ ap (λ bit. bit == 1) bit_is
       | inr past ↦
@@ -190,8 +190,8 @@ bit_of_word size words i w k are row within low =
 
 -- a word of a row that was read
 pub seen_word : (size : ℕ) (words : List ℕ) (table : List (List Bool)) (i w place x : ℕ) → bits_of size words ≡ table → AreBits size words
-  → i < length table → w < words_in (length table) → place ≡ i * words_in size + w → place < length words → x ≡ get_or words place x
-  → (k : ℕ) → k < 64 → joins table i (64 * w + k) ≡ bits_in x k
+    → i < length table → w < words_in (length table) → place ≡ i * words_in size + w → place < length words → x ≡ get_or words place x
+    → (k : ℕ) → k < 64 → joins table i (64 * w + k) ≡ bits_in x k
 seen_word size words table i w place x seen are row within is inside read k low =
     let same = seen_size size words table seen in
     let x_is : get_or words (i * words_in size + w) 0 ≡ x = sym (read ∙ (get_or_default_zero words place x inside ∙ ap (λ n. get_or words n 0) is)) in
@@ -199,7 +199,7 @@ seen_word size words table i w place x seen are row within is inside read k low 
     ∙ (bit_of_word size words i w k are (omega arith) (omega arith) low ∙ ap (λ word. bits_in word k) x_is)
 
 pub word_inside : (size : ℕ) (words : List ℕ) (table : List (List Bool)) (i w : ℕ) → bits_of size words ≡ table → AreBits size words
-  → i < length table → w < words_in (length table) → i * words_in size + w < length words
+    → i < length table → w < words_in (length table) → i * words_in size + w < length words
 word_inside size words table i w seen are row within =
     let same = seen_size size words table seen in
     let count = are.count in

@@ -38,7 +38,7 @@ bits_in word k = bit_at word k == 1
 pub record AreFronts (table : List (List Bool)) (fronts : List ℕ) (m : ℕ) : Type 0 where
   pub count : length fronts ≡ length table * words_in (length table)
   pub counts : (i w : ℕ) → i < length table → w < words_in (length table) → i * words_in (length table) + w < m
-    → get_or fronts (i * words_in (length table) + w) 0 ≡ count_to (joins table i) (64 * w)
+      → get_or fronts (i * words_in (length table) + w) 0 ≡ count_to (joins table i) (64 * w)
 
 -- a neighbour of i at `from` or behind that is new
 abbrev pub is_next : List (List Bool) → ℕ → Option ℕ → ℕ → ℕ → Bool

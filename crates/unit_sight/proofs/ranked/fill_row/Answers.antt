@@ -1,4 +1,4 @@
-use Rattle.std.proofs.Common.{◌≡◌, ◌≤◌, ◌*◌, ◌<◌, arith}
+use Rattle.std.proofs.Common.{arith}
 use Rattle.unit_sight.proofs.Fronts.{fill_step, front_few}
 use Rattle.unit_sight.proofs.ranked.fill_row.Goals as goal
 
@@ -18,4 +18,4 @@ overflow_add-front c =
 pub loop-w-preserved : goal.loop-w-preserved
 loop-w-preserved c =
     fill_step c.args.bits.now c.loop-w.fronts c.args.i c.loop-w.w c.row_words-words.result c.loop-w.front c.word.result c.ones_of-front.result
-      c.loop-w.invariant.fronts c.requires.row (omega arith) (let size = c.size.ensures.size in let words = c.row_words-words.ensures.is in omega arith) c.loop-w.invariant.front c.word.ensures c.ones_of-front.ensures.is
+    c.loop-w.invariant.fronts c.requires.row (omega arith) (let size = c.size.ensures.size in let words = c.row_words-words.ensures.is in omega arith) c.loop-w.invariant.front c.word.ensures c.ones_of-front.ensures.is

@@ -1,4 +1,4 @@
-use Rattle.std.proofs.Common.{◌<◌, ◌/◌, ◌^◌, arith}
+use Rattle.std.proofs.Common.{arith}
 use Rattle.unit_sight.proofs.Ones.{first_has, first_none, first_within, none_behind}
 use Rattle.unit_sight.proofs.words.first_bit.Goals as goal
 

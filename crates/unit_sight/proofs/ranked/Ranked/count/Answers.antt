@@ -1,6 +1,4 @@
-use Rattle.std.proofs.Common.{◌≡◌, ◌+◌, ◌-◌, ◌*◌, ◌<◌, ◌≤◌, arith, ap, ◌∙◌, length}
-use Rattle.unit_sight.specs.Tables.{joins}
-use Rattle.unit_sight.specs.Words.{count_to, bits_in}
+use Rattle.std.proofs.Common.{◌+◌, ◌-◌, ◌*◌, arith}
 use Rattle.unit_sight.proofs.Fronts.{count_all, word_count}
 use Rattle.unit_sight.proofs.ranked.Ranked.count.Goals as goal
 

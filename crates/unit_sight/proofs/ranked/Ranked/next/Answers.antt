@@ -1,4 +1,4 @@
-use Rattle.std.proofs.Common.{◌≡◌, ◌+◌, ◌*◌, ◌<◌, ◌≤◌, arith, sym}
+use Rattle.std.proofs.Common.{arith, sym}
 use Rattle.unit_sight.proofs.Fronts.{found_next, next_bit, none_further, none_next}
 use Rattle.unit_sight.proofs.ranked.Ranked.next.Goals as goal
 
@@ -10,8 +10,8 @@ returns-then-at-lt64 c =
     let place = loop.behind in
     let low = c.if-at-lt64.true in
     sym (found_next c.args.self.now c.args.i c.args.known c.args.from _ c.size.ensures.square c.requires.row
-      (next_bit c.args.self.now c.args.i c.args.known c.args.from c.loop-w.w c.new_word.result c.first_bit-at.result c.new_word.ensures low (is.bit low) (omega arith))
-      (none_further c.args.self.now c.args.i c.args.known c.args.from c.loop-w.w c.loop-w.low c.first_bit-at.result c.new_word.result c.new_word.ensures loop.none is.none is.range))
+    (next_bit c.args.self.now c.args.i c.args.known c.args.from c.loop-w.w c.new_word.result c.first_bit-at.result c.new_word.ensures low (is.bit low) (omega arith))
+    (none_further c.args.self.now c.args.i c.args.known c.args.from c.loop-w.w c.loop-w.low c.first_bit-at.result c.new_word.result c.new_word.ensures loop.none is.none is.range))
 
 pub loop-w-preserved : goal.loop-w-preserved
 loop-w-preserved c =
@@ -24,8 +24,8 @@ loop-w-preserved c =
       low = omega arith;
       behind = omega arith;
       none = λ m below.
-        none_further c.args.self.now c.args.i c.args.known c.args.from c.loop-w.w c.loop-w.low c.first_bit-at.result c.new_word.result c.new_word.ensures loop.none is.none is.range m
-          (omega arith)
+          none_further c.args.self.now c.args.i c.args.known c.args.from c.loop-w.w c.loop-w.low c.first_bit-at.result c.new_word.result c.new_word.ensures loop.none is.none is.range m
+          (omega arith);
     }
 
 pub returns : goal.returns

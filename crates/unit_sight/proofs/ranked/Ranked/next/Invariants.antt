@@ -6,5 +6,5 @@ abbrev pub invariant-loop-w : goal.invariant-loop-w
 invariant-loop-w l = record {
   low : l.low < 64;
   behind : l.from ≤ 64 * l.w + l.low;
-  none : (m : ℕ) → m < 64 * l.w + l.low → is_next l.self l.i l.known l.from m ≡ false
+  none : (m : ℕ) → m < 64 * l.w + l.low → is_next l.self l.i l.known l.from m ≡ false;
 }

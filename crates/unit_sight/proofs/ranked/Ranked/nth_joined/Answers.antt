@@ -13,5 +13,5 @@ returns c =
     let front = c.front-front.ensures.is in
     let low = c.word_of-w.ensures.front in
     let count = c.nth_bit.ensures.count in
-    found_nth c.args.self.now c.args.i c.word_of-w.result c.word-word.result c.nth_bit.result c.args.k c.size.ensures.square c.requires.row c.word-word.ensures
-      c.nth_bit.ensures.range c.nth_bit.ensures.bit (omega arith)
+    found_nth c.args.self.now c.args.i c.word_of-w.result c.word-word.result c.nth_bit.result c.args.k c.size-square.ensures.square c.requires.row c.word-word.ensures
+    c.nth_bit.ensures.range c.nth_bit.ensures.bit (omega arith)

@@ -1,4 +1,4 @@
-use Rattle.std.proofs.Common.{◌≡◌, ◌+◌, ◌*◌, ◌/◌, ◌%◌, ◌<◌, ◌≤◌, arith, ap, ◌∙◌}
+use Rattle.std.proofs.Common.{◌≡◌, ◌+◌, ◌*◌, ◌/◌, ◌%◌, arith, ap}
 use Rattle.unit_sight.specs.Tables.{joins}
 use Rattle.unit_sight.specs.Words.{count_to, bits_in}
 use Rattle.unit_sight.proofs.Counts.{count_few}

@@ -1,4 +1,4 @@
-use Rattle.std.proofs.Common.{ℕ, ◌≡◌, ◌+◌, ◌-◌, ◌*◌, ◌<◌, ◌≤◌, length}
+use Rattle.std.proofs.Common.{◌-◌, ◌*◌, ◌<◌, ◌≤◌, length}
 use Rattle.unit_sight.specs.Tables.{joins}
 use Rattle.unit_sight.specs.Words.{count_to, words_in}
 use Rattle.unit_sight.proofs.ranked.Ranked.word_of.Given as goal
@@ -8,7 +8,7 @@ invariant-loop-high l = record {
   rising : l.low < l.high;
   within : l.high ≤ words_in (length l.self);
   front : count_to (joins l.self l.i) (64 * l.low) ≤ l.k;
-  behind : l.k < count_to (joins l.self l.i) (64 * l.high)
+  behind : l.k < count_to (joins l.self l.i) (64 * l.high);
 }
 
 abbrev pub decreases-loop-high : goal.decreases-loop-high
