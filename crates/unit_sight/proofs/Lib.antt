@@ -4,3 +4,4 @@ pub mod Counts
 pub mod Ones
 pub mod Fronts
 pub mod Wholes
+pub mod Masks

@@ -1,5 +1,5 @@
 -- How the code keeps a table: in words of 64 bits. Named by no public clause.
-use Rattle.std.specs.Prelude.{◌≡◌, filter, ℕ, ◌+◌, ◌*◌, ◌/◌, ◌%◌, ◌<◌, ◌≤◌, ◌^◌, Bool, ◌==◌, ◌&&◌, nat_le, not, Option, Some, None, IfSome, List, All, length, get_or}
+use Rattle.std.specs.Prelude.{map, false, ◌≡◌, filter, ℕ, ◌+◌, ◌*◌, ◌/◌, ◌%◌, ◌<◌, ◌≤◌, ◌^◌, Bool, ◌==◌, ◌&&◌, nat_le, not, Option, Some, None, IfSome, List, All, length, get_or}
 use Rattle.std.specs.Int.{bit_at}
 use Rattle.unit_sight.specs.Tables.{IsWhole, is_new, joins, places, table_of}
 
@@ -58,3 +58,21 @@ pub record AreSights (n : ℕ) (rows : Option (List (List Bool))) : Type 0 where
   pub range : n ≤ 4096
   pub size : IfSome rows (λ (table : List (List Bool)). length table ≡ n)
   pub parts : IfSome rows (λ (table : List (List Bool)). IsWhole table → ⊥)
+
+-- the bit of a place in a set of places
+abbrev pub mask_bit : List ℕ → ℕ → ℕ
+mask_bit words j = bit_at (get_or words (j / 64) 0) (j % 64)
+
+-- the set that the words are
+abbrev pub mask_of : ℕ → List ℕ → List Bool
+mask_of size words = map (λ j. mask_bit words j == 1) (places size)
+
+-- there are as many words as a row has, and no bit behind the last place
+pub record AreMaskBits (size : ℕ) (words : List ℕ) : Type 0 where
+  pub range : size ≤ 4096
+  pub count : length words ≡ words_in size
+  pub nothing_behind : (j : ℕ) → size ≤ j → j < 64 * words_in size → mask_bit words j ≡ 0
+
+-- a neighbour of i that is in a set
+abbrev pub is_both : List (List Bool) → ℕ → List Bool → ℕ → Bool
+is_both table i mask j = joins table i j && get_or mask j false

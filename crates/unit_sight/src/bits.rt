@@ -114,8 +114,8 @@ fn word_place(size: u32, i: u32, j: u32) -> usize
     i as usize * row_words(size) as usize + (j / 64) as usize
 }
 
-// The word with a bit set.
-fn with_bit(word: u64, k: u32) -> u64
+/// The word with a bit set.
+pub(crate) fn with_bit(word: u64, k: u32) -> u64
     requires { k < 64 }
     ensures set { bit_at result k ≡ 1 }
     ensures others { (i : ℕ) → i ≢ k → bit_at result i ≡ bit_at word i }
@@ -123,8 +123,8 @@ fn with_bit(word: u64, k: u32) -> u64
     word | (1 << k)
 }
 
-// Whether the word has a bit.
-fn has_bit(word: u64, k: u32) -> bool
+/// Whether the word has a bit.
+pub(crate) fn has_bit(word: u64, k: u32) -> bool
     requires { k < 64 }
     ensures { result ≡ (bit_at word k == 1) }
 {

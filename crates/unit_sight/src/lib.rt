@@ -2,9 +2,11 @@
 #![tactic(auto)]
 
 mod bits;
+mod mask;
 mod ranked;
 mod sights;
 mod whole;
 mod words;
 
+pub use mask::Mask;
 pub use sights::Sights;

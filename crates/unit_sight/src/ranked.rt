@@ -2,10 +2,11 @@
 
 ghost use Rattle.std.specs.Prelude.{◌≡◌, ℕ, ◌+◌, ◌*◌, ◌<◌, ◌≤◌, ◌&&◌, ◌==◌, not, length, slice_get, Some, IfOk, IfSome};
 ghost use Rattle.unit_sight.specs.Tables.{is_new, joins, neighbours, new_neighbours, table_of};
-ghost use Rattle.unit_sight.specs.Words.{bits_in, count_to, words_in, AreFronts};
+ghost use Rattle.unit_sight.specs.Words.{bits_in, count_to, is_both, words_in, AreFronts};
 
 use crate::bits::{Bits, row_words, table_words};
-use crate::words::{first_bit, less, nth_bit, ones_below, ones_of, without_bit};
+use crate::mask::Mask;
+use crate::words::{first_bit, less, nth_bit, ones_below, ones_of, shared, without_bit};
 use std::alloc::Global;
 use std::marker::Model;
 use venue_types::OutOfMemory;
@@ -156,6 +157,19 @@ impl Ranked {
             low = 0;
         }
         None
+    }
+
+    /// How many places that are joined to i are in a set.
+    pub(crate) fn both(&self, i: u32, mask: &Mask) -> u32
+        requires row { i < length self.now }
+        requires same { length mask.now ≡ length self.now }
+        ensures { result ≡ count_to (is_both self.now i mask.now) (length self.now) }
+    {
+        let mut both = 0;
+        for w in 0..row_words(self.size()) {
+            both += ones_of(shared(self.word(i, w), mask.word(w)));
+        }
+        both
     }
 
     // A word of row i less the place that is known and all that are joined to it.

@@ -1,11 +1,12 @@
 //! Which places of a room are joined.
 
-ghost use Rattle.std.specs.Prelude.{◌≡◌, ◌<◌, ◌≤◌, ◌↔◌, length, filter, nat_lt, slice_get, IfOk, IfSome, IsTrue};
+ghost use Rattle.std.specs.Prelude.{◌≡◌, ◌<◌, ◌≤◌, ◌↔◌, length, filter, nat_lt, slice_get, IfOk, IfSome, IsTrue, false, get_or};
 ghost use Rattle.unit_sight.specs.Tables.{joins, neighbours, new_neighbours, IsWhole};
 
 use crate::bits::Bits;
+use crate::mask::Mask;
 use crate::ranked::Ranked;
-use crate::whole::{is_whole, whole_next, whole_nth, whole_rank};
+use crate::whole::{is_whole, whole_both, whole_next, whole_nth, whole_rank};
 use std::alloc::Global;
 use std::marker::Model;
 use venue_types::OutOfMemory;
@@ -121,6 +122,18 @@ impl Sights {
                 }
             }
             Some(rows) => rows.next(i, known, from),
+        }
+    }
+
+    /// How many neighbours of i are in a set of places.
+    pub fn both(&self, i: u32, mask: &Mask) -> u32
+        requires row { i < length self.now }
+        requires same { length mask.now ≡ length self.now }
+        ensures { result ≡ length (filter (λ j. get_or mask.now j false) (neighbours self.now i)) }
+    {
+        match &self.rows {
+            None => whole_both(self.size, i, mask),
+            Some(rows) => rows.both(i, mask),
         }
     }
 }

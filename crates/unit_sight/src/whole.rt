@@ -1,10 +1,12 @@
 //! A room in which any two places are joined: what is asked of it is told by arithmetic.
 
-ghost use Rattle.std.specs.Prelude.{◌≡◌, ℕ, ◌<◌, ◌≤◌, ◌↔◌, ◌==◌, not, length, slice_get, None, IsTrue};
+ghost use Rattle.std.specs.Prelude.{◌≡◌, ℕ, ◌<◌, ◌≤◌, ◌↔◌, ◌==◌, not, length, slice_get, None, IsTrue, false, get_or};
 ghost use Rattle.unit_sight.specs.Tables.{joins, neighbours, new_neighbours, IsWhole};
-ghost use Rattle.unit_sight.specs.Words.{count_to, whole_of};
+ghost use Rattle.unit_sight.specs.Words.{count_to, is_both, whole_of};
 
-use crate::bits::Bits;
+use crate::bits::{Bits, row_words};
+use crate::mask::Mask;
+use crate::words::ones_of;
 
 /// Whether any two places of a table are joined, and none to itself.
 pub(crate) fn is_whole(bits: &Bits) -> bool
@@ -61,4 +63,25 @@ pub(crate) fn whole_next(size: u32, i: u32, from: u32) -> Option<u32>
 {
     let place = if from == i { from + 1 } else { from };
     if place < size { Some(place) } else { None }
+}
+
+/// How many places of a set are not i.
+pub(crate) fn whole_both(size: u32, i: u32, mask: &Mask) -> u32
+    requires row { i < size }
+    requires same { length mask.now ≡ size }
+    ensures { result ≡ count_to (is_both (whole_of size) i mask.now) size }
+{
+    let all = count_of(mask);
+    if mask.has(i) { all - 1 } else { all }
+}
+
+// How many places a set has.
+fn count_of(mask: &Mask) -> u32
+    ensures { result ≡ count_to (λ j. get_or mask.now j false) (length mask.now) }
+{
+    let mut count = 0;
+    for w in 0..row_words(mask.size()) {
+        count += ones_of(mask.word(w));
+    }
+    count
 }

@@ -64,3 +64,10 @@ pub(crate) fn nth_bit(word: u64, k: u32) -> u32
     }
     at
 }
+
+/// The bits that two words share.
+pub(crate) fn shared(word: u64, other: u64) -> u64
+    ensures { (k : ℕ) → bits_in result k ≡ (bits_in word k && bits_in other k) }
+{
+    word & other
+}
