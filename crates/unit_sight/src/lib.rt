@@ -1,2 +1,4 @@
 //! Which places of a room are joined: found once, and kept in bits.
 #![tactic(auto)]
+
+mod asking;
