@@ -1,5 +1,5 @@
 -- The places of a room, and which of them are joined.
-use Rattle.std.specs.Prelude.{◌≡◌, ℕ, pos, ◌<◌, Bool, List, length, get_or}
+use Rattle.std.specs.Prelude.{ℕ, pos, ◌<◌, Bool, List, length, get_or}
 use Rattle.venue_types.specs.declared.point.Shape.{Shape}
 use Rattle.venue_types.specs.declared.point.Spot.{Spot}
 use Rattle.plane_exact.specs.Length.{IsLength}
