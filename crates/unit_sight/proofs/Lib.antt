@@ -1,3 +1,5 @@
 pub mod TableLemmas
 pub mod WordLemmas
 pub mod AskingLemmas
+pub mod PairLemmas
+pub mod RoomLemmas

@@ -2,3 +2,4 @@ pub mod Joined
 pub mod Tables
 pub mod Rooms
 pub mod Words
+pub mod Finding
