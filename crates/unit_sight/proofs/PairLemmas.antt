@@ -12,7 +12,7 @@ or_true : (x : Bool) → (x || true) ≡ true
 or_true true = refl
 or_true false = refl
 
-or_false : (x : Bool) → (x || false) ≡ x
+pub or_false : (x : Bool) → (x || false) ≡ x
 or_false true = refl
 or_false false = refl
 
@@ -176,3 +176,8 @@ all_done sees n i old last before =
 
 pub size_of : (n : ℕ) (test : ℕ → ℕ → Bool) (old new : List (List Bool)) → length old ≡ n → new ≡ table_of (length old) test → length new ≡ n
 size_of n test old new size after = ap (λ (t : List (List Bool)). length t) after ∙ length_table (length old) test ∙ size
+
+pub whole_next : (n i : ℕ) (old new : List (List Bool)) → old ≡ table_of n (asked (λ a b. true) i 0) → (old ≡ table_of (length old) (asked (λ a b. true) i 0) → new ≡ table_of (length old) (asked (λ a b. true) (i + 1) 0)) → new ≡ table_of n (asked (λ a b. true) (i + 1) 0)
+whole_next n i old new before step =
+    let size : length old ≡ n = ap (λ (t : List (List Bool)). length t) before ∙ length_table n (asked (λ a b. true) i 0) in
+    step (before ∙ sym (ap (λ (k : ℕ). table_of k (asked (λ a b. true) i 0)) size)) ∙ ap (λ (k : ℕ). table_of k (asked (λ a b. true) (i + 1) 0)) size

@@ -3,3 +3,4 @@ pub mod Tables
 pub mod Rooms
 pub mod Words
 pub mod Finding
+pub mod Nearest

@@ -3,4 +3,7 @@
 
 mod asking;
 mod bits;
+mod finding;
+mod guests;
+mod hosts;
 mod pairs;
