@@ -1,5 +1,5 @@
 -- Whether two places see each other, from the walls and the middle.
-use Rattle.std.proofs.Common.{◌≡◌, ℕ, zero, suc, ◌+◌, ◌*◌, ◌<◌, ◌≤◌, ℤ, pos, ◌+ℤ◌, ◌*ℤ◌, List, [], ◌∷◌, ◌++◌, Bool, true, false, length, Contains, IsTrue, ◌↔◌, ◌⊎◌, inl, inr, flat_map, refl, sym, subst, ap, ◌∙◌, arith}
+use Rattle.std.proofs.Common.{◌≡◌, ℕ, zero, suc, ◌*◌, ℤ, pos, ◌+ℤ◌, ◌*ℤ◌, List, [], ◌∷◌, Bool, true, false, Contains, IsTrue, ◌↔◌, ◌⊎◌, inl, inr, refl, sym, subst, ap, ◌∙◌, arith}
 use Rattle.std.proofs.lemmas.Bool.{both_ways}
 use Rattle.std.proofs.lemmas.Int.{ints}
 use Rattle.std.proofs.lemmas.List.Elements.{Contains-append_left, Contains-append_right, Contains-append_cases}
@@ -9,7 +9,7 @@ use Rattle.venue_types.specs.declared.point.Ring.{Ring}
 use Rattle.venue_types.specs.declared.point.Shape.{Shape}
 use Rattle.venue_types.specs.declared.point.Spot.{Spot}
 use Rattle.plane_exact.specs.Plane.{IsWithin, IsNearby}
-use Rattle.plane_exact.specs.Figure.{Edge, AllNearby, vertices, all_edges, rings, edges, edges_from, ring_edges, ring_points, IsInside, IsNear}
+use Rattle.plane_exact.specs.Figure.{Edge, AllNearby, vertices, rings, edges, edges_from, ring_edges, ring_points, IsInside, IsNear}
 use Rattle.plane_exact.specs.Scaled.{times, scaled}
 use Rattle.plane_exact.specs.Sight.{Sight, at_spot, middle_of}
 use Rattle.plane_exact.specs.Seeing.{does_see}

@@ -1,15 +1,15 @@
 -- Who sees nobody, and whom it is joined to.
-use Rattle.std.proofs.Common.{◌≡◌, ℕ, zero, suc, ◌+◌, ◌<◌, ◌≤◌, Bool, true, false, not, ◌&&◌, ◌||◌, ◌==◌, nat_lt, cond, List, [], ◌∷◌, ◌++◌, length, get_or, map, filter, Option, Some, None, IfSome, refl, sym, ap, ap₂, ◌∙◌, inl, inr, subst, arith}
+use Rattle.std.proofs.Common.{◌≡◌, ℕ, zero, suc, ◌+◌, ◌<◌, Bool, true, false, not, ◌&&◌, ◌||◌, ◌==◌, nat_lt, cond, List, [], ◌∷◌, length, get_or, map, filter, Option, Some, None, IfSome, refl, sym, ap, ap₂, ◌∙◌, inl, inr, subst, arith}
 use Rattle.std.specs.List.{list_all}
 use Rattle.std.specs.Option.{option_map_or}
-use Rattle.std.proofs.lemmas.Bool.{cases_lt, cases_eq, cases_Bool, lt-ltb, le-ltb, eqb-true, eq-eqb, ne_eqb, and_left, and_right, and_parts, and_from, both_ways, false_from_ne_true}
+use Rattle.std.proofs.lemmas.Bool.{cases_lt, cases_eq, lt-ltb, le-ltb, eqb-true, eq-eqb, ne_eqb, and_left, and_right, and_parts, and_from, both_ways}
 use Rattle.std.proofs.lemmas.List.{length-map}
 use Rattle.std.proofs.lemmas.List.Folds.{list_all-append, list_all-map}
 use Rattle.unit_sight.specs.Joined.{is_blind, are_blind, seeing, is_nearer, nearer, nearest, host_of, is_guest_of, is_joined}
 use Rattle.unit_sight.specs.Tables.{joins, places, table_of}
 use Rattle.unit_sight.specs.Finding.{all_asked, is_empty_row, are_tied, are_tied_at}
 use Rattle.unit_sight.proofs.TableLemmas.{length_places, length_table, joins_table, table_same, row_same, get_or_row}
-use Rattle.unit_sight.proofs.PairLemmas.{is_pair, regroup, lt_next, or_false}
+use Rattle.unit_sight.proofs.PairLemmas.{is_pair, regroup, lt_next, or_true, or_false, and_true, turned}
 
 -- ---- who sees nobody
 
@@ -80,17 +80,11 @@ eq_turns a b = elim (cases_eq a b) [
   | inr apart ↦ ne_eqb a b apart ∙ sym (ne_eqb b a (λ e. apart (sym e)))
 ]
 
-and_turns : (x y : Bool) → (x && y) ≡ (y && x)
-and_turns true true = refl
-and_turns true false = refl
-and_turns false true = refl
-and_turns false false = refl
-
 tied_pair : (sees : ℕ → ℕ → Bool) (far : ℕ → ℕ → ℕ) (n a h i j : ℕ) → is_blind sees (places n) a ≡ true → host_of sees far (places n) a ≡ Some h → is_pair a h i j ≡ are_tied_at sees far n a i j
 tied_pair sees far n a h i j e f =
     ap₂ (λ (x y : Bool). ((i == a) && x) || y)
     (eq_turns j h ∙ sym (guest_is sees far n a j h e f))
-    (and_turns (i == h) (j == a) ∙ ap (λ (x : Bool). (j == a) && x) (eq_turns i h ∙ sym (guest_is sees far n a i h e f)))
+    (turned (i == h) (j == a) ∙ ap (λ (x : Bool). (j == a) && x) (eq_turns i h ∙ sym (guest_is sees far n a i h e f)))
 
 pub guest_joined : (sees : ℕ → ℕ → Bool) (far : ℕ → ℕ → ℕ) (n a h : ℕ) (test : ℕ → ℕ → Bool) (old new : List (List Bool)) → is_blind sees (places n) a ≡ true → host_of sees far (places n) a ≡ Some h → old ≡ table_of n test → new ≡ table_of (length old) (λ i j. joins old i j || is_pair a h i j) → new ≡ table_of n (λ i j. test i j || are_tied_at sees far n a i j)
 guest_joined sees far n a h test old new e f start after =
@@ -197,29 +191,21 @@ unfolding is_joined
 some_see sees far n e =
     table_same n (λ i j. all_asked sees i j || are_tied sees far n n i j) (is_joined sees far (places n))
     (λ i j row column.
-      let guest = λ (a b : ℕ). is_guest_of sees far (places n) a b in
-      ap₂ (λ (x y : Bool). all_asked sees i j || ((x && guest i j) || (y && guest j i))) (lt-ltb i n row) (lt-ltb j n column)
-      ∙ merge (i == j) (sees i j) (guest i j || guest j i) (neither sees far (places n) i j)
-      ∙ sym (ap (λ (x : Bool). not (i == j) && (sees i j || ((guest i j || guest j i) || x))) e))
-
-or_true : (x : Bool) → (x || true) ≡ true
-or_true true = refl
-or_true false = refl
-
-and_true : (x : Bool) → (x && true) ≡ x
-and_true true = refl
-and_true false = refl
+    let guest = λ (a b : ℕ). is_guest_of sees far (places n) a b in
+    ap₂ (λ (x y : Bool). all_asked sees i j || ((x && guest i j) || (y && guest j i))) (lt-ltb i n row) (lt-ltb j n column)
+    ∙ merge (i == j) (sees i j) (guest i j || guest j i) (neither sees far (places n) i j)
+    ∙ sym (ap (λ (x : Bool). not (i == j) && (sees i j || ((guest i j || guest j i) || x))) e))
 
 pub none_sees : (sees : ℕ → ℕ → Bool) (far : ℕ → ℕ → ℕ) (n : ℕ) → are_blind sees (places n) ≡ true → table_of n (λ i j. not (i == j)) ≡ table_of n (is_joined sees far (places n))
 unfolding is_joined
 none_sees sees far n e =
     table_same n (λ i j. not (i == j)) (is_joined sees far (places n))
     (λ i j row column.
-      let tied = is_guest_of sees far (places n) i j || is_guest_of sees far (places n) j i in
-      sym (ap (λ (x : Bool). not (i == j) && (sees i j || (tied || x))) e
-      ∙ ap (λ (x : Bool). not (i == j) && (sees i j || x)) (or_true tied)
-      ∙ ap (λ (x : Bool). not (i == j) && x) (or_true (sees i j))
-      ∙ and_true (not (i == j))))
+    let tied = is_guest_of sees far (places n) i j || is_guest_of sees far (places n) j i in
+    sym (ap (λ (x : Bool). not (i == j) && (sees i j || (tied || x))) e
+    ∙ ap (λ (x : Bool). not (i == j) && (sees i j || x)) (or_true tied)
+    ∙ ap (λ (x : Bool). not (i == j) && x) (or_true (sees i j))
+    ∙ and_true (not (i == j))))
 
 -- all pairs, where each two see each other
 pub whole_done : (n : ℕ) (bits : List (List Bool)) → bits ≡ table_of n (all_asked (λ a b. true)) → bits ≡ table_of n (λ i j. not (i == j))

@@ -1,6 +1,6 @@
 -- The nearest of some places, looked for in order.
 use Rattle.std.proofs.Common.{◌≡◌, ℕ, zero, suc, ◌+◌, ◌<◌, ◌≤◌, Bool, true, false, not, ◌&&◌, ◌||◌, ◌==◌, nat_lt, cond, List, [], ◌∷◌, ◌++◌, length, get_or, map, filter, Option, Some, None, IfSome, refl, sym, ap, ap₂, ◌∙◌, inl, inr, subst, add-one, arith}
-use Rattle.std.proofs.lemmas.Bool.{cases_lt, cases_order, cases_Bool, lt-ltb, le-ltb, ltb-true, ltb-false, eqb-true, eq-eqb, ne_eqb, and_left, and_right, or_from, or_cases, or_parts, or_left, and_parts, cond-true, cond-false, both_ways}
+use Rattle.std.proofs.lemmas.Bool.{lt-ltb, le-ltb, ltb-true, ltb-false, eqb-true, and_right, or_cases, or_parts, or_left, and_parts, cond-true, cond-false}
 use Rattle.std.proofs.lemmas.List.{get_or_default}
 use Rattle.std.proofs.lemmas.List.Elements.{filter-append}
 use Rattle.unit_sight.specs.declared.hosts.Distant.{Distant}
@@ -8,6 +8,7 @@ use Rattle.unit_sight.specs.Joined.{is_nearer, nearer, nearest, is_blind, seeing
 use Rattle.unit_sight.specs.Tables.{places}
 use Rattle.unit_sight.specs.Nearest.{IsNearest, nearer_one, place_of}
 use Rattle.unit_sight.proofs.TableLemmas.{get_or_row}
+use Rattle.unit_sight.proofs.PairLemmas.{or_false}
 
 -- ---- who is nearer
 
@@ -19,10 +20,6 @@ nearer_is far b c h = elim (or_cases (nat_lt (far b) (far c)) ((far b == far c) 
 
 nearer_not : (far : ℕ → ℕ) (b c : ℕ) → is_nearer far b c ≡ false → far c ≤ far b
 nearer_not far b c h = ltb-false (far b) (far c) (or_parts (nat_lt (far b) (far c)) ((far b == far c) && nat_lt b c) h).0
-
-or_false : (x : Bool) → (x || false) ≡ x
-or_false true = refl
-or_false false = refl
 
 -- behind y a place is nearer only where it is less far
 nearer_behind : (far : ℕ → ℕ) (x y : ℕ) → y < x → is_nearer far x y ≡ nat_lt (far x) (far y)

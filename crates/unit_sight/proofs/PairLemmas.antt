@@ -1,14 +1,13 @@
 -- The pairs of a room, asked one after the other.
-use Rattle.std.proofs.Common.{◌≡◌, ℕ, zero, suc, ◌+◌, ◌<◌, ◌≤◌, Bool, true, false, not, ◌&&◌, ◌||◌, ◌==◌, nat_lt, List, length, refl, sym, ap, ap₂, ◌∙◌, inl, inr, subst, arith}
-use Rattle.std.proofs.lemmas.Bool.{cases_lt, cases_eq, cases_order, cases_Bool, lt-ltb, le-ltb, eq-eqb, ne_eqb, eqb-true, and_left, and_right, and_parts, or_from, or_cases}
-use Rattle.std.proofs.lemmas.Grind.{common_steps}
-use Rattle.unit_sight.specs.Tables.{joins, places, table_of}
+use Rattle.std.proofs.Common.{◌≡◌, ℕ, ◌+◌, ◌<◌, Bool, true, false, not, ◌&&◌, ◌||◌, ◌==◌, nat_lt, List, length, refl, sym, ap, ap₂, ◌∙◌, inl, inr, arith}
+use Rattle.std.proofs.lemmas.Bool.{cases_order, lt-ltb, le-ltb, eq-eqb, ne_eqb, eqb-true, and_right, and_parts, or_from, or_cases}
+use Rattle.unit_sight.specs.Tables.{joins, table_of}
 use Rattle.unit_sight.specs.Finding.{is_front, asked, all_asked}
 use Rattle.unit_sight.proofs.TableLemmas.{length_table, joins_table, table_same}
 
 -- ---- truth values
 
-or_true : (x : Bool) → (x || true) ≡ true
+pub or_true : (x : Bool) → (x || true) ≡ true
 or_true true = refl
 or_true false = refl
 
@@ -16,7 +15,7 @@ pub or_false : (x : Bool) → (x || false) ≡ x
 or_false true = refl
 or_false false = refl
 
-and_true : (x : Bool) → (x && true) ≡ x
+pub and_true : (x : Bool) → (x && true) ≡ x
 and_true true = refl
 and_true false = refl
 
@@ -116,7 +115,7 @@ two_apart a b = elim (cases_order a b) [
 abbrev pub is_pair : ℕ → ℕ → ℕ → ℕ → Bool
 is_pair i j a b = ((a == i) && (b == j)) || ((a == j) && (b == i))
 
-turned : (x y : Bool) → (x && y) ≡ (y && x)
+pub turned : (x y : Bool) → (x && y) ≡ (y && x)
 turned true true = refl
 turned true false = refl
 turned false true = refl
@@ -146,9 +145,9 @@ pair_joined sees n i j old new turns low high is before after =
     ∙ ap (λ k. table_of k (λ a b. joins old a b || is_pair i j a b)) size
     ∙ table_same n (λ a b. joins old a b || is_pair i j a b) (asked sees i (j + 1))
     (λ a b row column.
-      ap (λ (t : List (List Bool)). joins t a b || is_pair i j a b) before
-      ∙ ap (λ x. x || is_pair i j a b) (joins_table n (asked sees i j) a b row column)
-      ∙ sym (asked_next sees i j a b low ∙ more_true (is_front i j a b || is_front i j b a) (is_pair i j a b) (sees a b) (pair_sees sees i j a b true turns is)))
+    ap (λ (t : List (List Bool)). joins t a b || is_pair i j a b) before
+    ∙ ap (λ x. x || is_pair i j a b) (joins_table n (asked sees i j) a b row column)
+    ∙ sym (asked_next sees i j a b low ∙ more_true (is_front i j a b || is_front i j b a) (is_pair i j a b) (sees a b) (pair_sees sees i j a b true turns is)))
 
 pub pair_left : (sees : ℕ → ℕ → Bool) (n i j : ℕ) (old : List (List Bool)) → Turns sees → j < i → sees i j ≡ false → old ≡ table_of n (asked sees i j) → old ≡ table_of n (asked sees i (j + 1))
 pair_left sees n i j old turns low is before =

@@ -46,12 +46,7 @@ pub(crate) fn joined_bits(
 }
 
 // Which places of the room see each other.
-fn seeing_bits(
-    alloc: Global,
-    shape: &Shape,
-    spots: &[Spot],
-    t: u32,
-) -> Result<Bits, OutOfMemory>
+fn seeing_bits(alloc: Global, shape: &Shape, spots: &[Spot], t: u32) -> Result<Bits, OutOfMemory>
     requires near { AllNearby (map (λ s. times 2 (at_spot s)) spots.now ++ vertices (scaled 4 shape.now)) }
     requires range { All IsInRange (map at_spot spots.now ++ vertices shape.now) }
     requires few { length spots.now ≤ 4096 }

@@ -78,13 +78,7 @@ fn nearer_of(best: Option<Distant>, next: Distant) -> Distant
 {
     match best {
         None => next,
-        Some(one) => {
-            if next.length < one.length {
-                next
-            } else {
-                one
-            }
-        }
+        Some(one) => { if next.length < one.length { next } else { one } }
     }
 }
 

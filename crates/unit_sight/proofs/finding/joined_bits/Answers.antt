@@ -1,11 +1,10 @@
-use Rattle.std.proofs.Common.{◌≡◌, ◌||◌, ◌==◌, ℕ, ◌≤◌, not, Bool, List, length, map, sym, ap, ◌∙◌, arith}
+use Rattle.std.proofs.Common.{◌≡◌, ◌==◌, ℕ, not, length, sym, ap, ◌∙◌}
 use Rattle.std.proofs.lemmas.Result.{IfOk-weaker}
 use Rattle.plane_exact.specs.Figure.{vertices}
 use Rattle.plane_exact.specs.Scaled.{scaled}
-use Rattle.unit_sight.specs.Tables.{table_of, places}
+use Rattle.unit_sight.specs.Tables.{table_of}
 use Rattle.unit_sight.specs.Rooms.{joined_places, sees_in}
 use Rattle.unit_sight.specs.Finding.{all_asked, is_empty_row}
-use Rattle.unit_sight.proofs.TableLemmas.{length_table, length_places}
 use Rattle.unit_sight.proofs.RoomLemmas.{lengths_fit}
 use Rattle.unit_sight.proofs.GuestLemmas.{blind_list, all_blind, some_see, none_sees, rows_of, size_is}
 use Rattle.unit_sight.proofs.finding.joined_bits.Goals as goal

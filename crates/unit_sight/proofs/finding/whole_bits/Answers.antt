@@ -1,4 +1,4 @@
-use Rattle.std.proofs.Common.{◌≡◌, ◌<◌, ℕ, true, List, Bool, length, ap, ◌∙◌, arith}
+use Rattle.std.proofs.Common.{◌≡◌, true, List, Bool, length, ap, ◌∙◌, arith}
 use Rattle.unit_sight.specs.Finding.{asked}
 use Rattle.unit_sight.proofs.TableLemmas.{length_table}
 use Rattle.unit_sight.proofs.PairLemmas.{all_done, whole_next}

@@ -1,4 +1,4 @@
-use Rattle.std.proofs.Common.{◌≡◌, ℕ, true, length}
+use Rattle.std.proofs.Common.{◌≡◌, true}
 use Rattle.unit_sight.specs.Tables.{table_of}
 use Rattle.unit_sight.specs.Finding.{asked}
 use Rattle.unit_sight.proofs.finding.whole_bits.Given as goal

@@ -1,4 +1,4 @@
-use Rattle.std.proofs.Common.{◌||◌, Bool, true, false, length, sym, ◌∙◌, refl}
+use Rattle.std.proofs.Common.{◌||◌, true, false, length, sym, ◌∙◌}
 use Rattle.unit_sight.specs.Tables.{joins}
 use Rattle.unit_sight.proofs.PairLemmas.{is_pair, size_of}
 use Rattle.unit_sight.proofs.GuestLemmas.{blind_is, seeing_left, guest_joined}

@@ -1,4 +1,4 @@
-use Rattle.std.proofs.Common.{◌≡◌, ◌||◌, ℕ, length, ap, ◌∙◌, sym, arith}
+use Rattle.std.proofs.Common.{◌≡◌, ◌||◌, ℕ, length, ap, ◌∙◌, arith}
 use Rattle.unit_sight.specs.Tables.{table_of}
 use Rattle.unit_sight.specs.Finding.{are_tied}
 use Rattle.unit_sight.proofs.GuestLemmas.{guests_next}

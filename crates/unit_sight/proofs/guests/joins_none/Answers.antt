@@ -1,4 +1,4 @@
-use Rattle.std.proofs.Common.{◌≡◌, ◌<◌, ℕ, false, not, length, sym, ap, ◌∙◌, arith}
+use Rattle.std.proofs.Common.{◌<◌, not, length, sym, ap, ◌∙◌, arith}
 use Rattle.unit_sight.specs.Tables.{joins}
 use Rattle.unit_sight.proofs.GuestLemmas.{some_false}
 use Rattle.unit_sight.proofs.guests.joins_none.Goals as goal

@@ -1,4 +1,4 @@
-use Rattle.std.proofs.Common.{◌≡◌, ◌+◌, ◌<◌, ℕ, true, false, not, length, filter, get_or, List, Bool, Option, Some, ap, ◌∙◌, refl, arith}
+use Rattle.std.proofs.Common.{◌+◌, ◌<◌, ℕ, true, false, not, length, filter, get_or, Bool, Some, ap, ◌∙◌, refl, arith}
 use Rattle.unit_sight.specs.declared.hosts.Distant.{Distant}
 use Rattle.unit_sight.specs.Tables.{places}
 use Rattle.unit_sight.specs.Nearest.{nearer_one}

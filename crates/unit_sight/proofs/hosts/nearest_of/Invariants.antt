@@ -1,4 +1,4 @@
-use Rattle.std.proofs.Common.{◌≡◌, ℕ, ◌<◌, not, true, length, filter, get_or, IfSome}
+use Rattle.std.proofs.Common.{ℕ, ◌<◌, not, true, length, filter, get_or, IfSome}
 use Rattle.unit_sight.specs.Tables.{places}
 use Rattle.unit_sight.specs.Rooms.{AreLengths}
 use Rattle.unit_sight.specs.Nearest.{IsNearest}

@@ -1,4 +1,4 @@
-use Rattle.std.proofs.Common.{◌≡◌, ℕ, ◌&&◌, ◌||◌, ◌==◌, List, Bool, length, sym, ap, ◌∙◌, arith}
+use Rattle.std.proofs.Common.{◌≡◌, ◌||◌, List, Bool, length, sym, ap, ◌∙◌, arith}
 use Rattle.unit_sight.specs.Tables.{joins}
 use Rattle.unit_sight.specs.Rooms.{sees_in}
 use Rattle.unit_sight.proofs.RoomLemmas.{sees_turns}

@@ -1,4 +1,4 @@
-use Rattle.std.proofs.Common.{◌≡◌, ◌<◌, ℕ, false, List, Bool, length, ap, ◌∙◌, arith}
+use Rattle.std.proofs.Common.{◌≡◌, ℕ, false, List, Bool, length, ap, ◌∙◌, arith}
 use Rattle.unit_sight.specs.Rooms.{sees_in}
 use Rattle.unit_sight.proofs.TableLemmas.{length_table}
 use Rattle.unit_sight.proofs.PairLemmas.{none_asked, all_done}

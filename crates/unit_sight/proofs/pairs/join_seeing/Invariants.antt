@@ -1,4 +1,4 @@
-use Rattle.std.proofs.Common.{◌≡◌, ℕ, length, IfSome}
+use Rattle.std.proofs.Common.{◌≡◌, length, IfSome}
 use Rattle.venue_types.specs.declared.point.Shape.{Shape}
 use Rattle.plane_exact.specs.Scaled.{scaled}
 use Rattle.plane_exact.specs.Walls.{IsWallOf}
