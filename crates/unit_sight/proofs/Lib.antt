@@ -5,3 +5,8 @@ pub mod Ones
 pub mod Fronts
 pub mod Wholes
 pub mod Masks
+pub mod AskingLemmas
+pub mod PairLemmas
+pub mod RoomLemmas
+pub mod HostLemmas
+pub mod GuestLemmas

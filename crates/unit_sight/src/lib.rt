@@ -1,8 +1,13 @@
 //! Which places of a room are joined: found once, and kept in bits.
 #![tactic(auto)]
 
+mod asking;
 mod bits;
+mod finding;
+mod guests;
+mod hosts;
 mod mask;
+mod pairs;
 mod ranked;
 mod sights;
 mod whole;
