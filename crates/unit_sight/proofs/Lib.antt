@@ -1,1 +1,3 @@
 pub mod NearestLemmas
+pub mod Hosts
+pub mod JoinedTurn
