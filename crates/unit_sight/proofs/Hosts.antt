@@ -1,12 +1,12 @@
 -- Who is blind, who hosts whom, and who is joined.
-use Rattle.std.proofs.Common.{◌≡◌, ◌⊎◌, ◌↔◌, ℕ, ◌<◌, zero, suc, Bool, true, false, cond, not, ◌&&◌, ◌||◌, ◌==◌, List, [], ◌∷◌, length, filter, Option, Some, None, All, Any, refl, sym, ap, subst, ◌∙◌, arith, inl, inr}
+use Rattle.std.proofs.Common.{◌≡◌, ◌⊎◌, ◌↔◌, ℕ, zero, suc, Bool, true, false, not, ◌&&◌, ◌||◌, ◌==◌, List, [], ◌∷◌, filter, Option, Some, None, Any, refl, sym, ap, subst, ◌∙◌, arith, inl, inr}
 use Rattle.std.specs.Prelude.{Contains}
 use Rattle.std.specs.List.{list_all}
 use Rattle.std.specs.Option.{option_map_or}
 use Rattle.std.proofs.lemmas.Bool.{cases_Bool, cases_eq, cond_both, or_cases, or_left, or_right, and_parts, and_cases, and_from, eqb-true, eqb-false, eq-eqb, ne_eqb, not_from_false}
 use Rattle.std.proofs.lemmas.List.Elements.{All-contains, All-filter, All-contains_itself, filter_passes}
 use Rattle.std.proofs.lemmas.List.Sums.{AllPass-from_list_all}
-use Rattle.unit_sight.specs.Joined.{is_blind, are_blind, seeing, nearest, host_of, is_guest_of, is_joined}
+use Rattle.unit_sight.specs.Joined.{is_blind, are_blind, seeing, host_of, is_guest_of, is_joined}
 use Rattle.unit_sight.proofs.NearestLemmas.{IsFirst, nearest_first, nearest_none}
 
 -- ---- tests and lists
@@ -141,14 +141,16 @@ joined_by same seen guest host blind = not same && (seen || ((guest || host) || 
 by_parts : (same seen guest host blind : Bool) → joined_by same seen guest host blind ≡ true
     → (same ≡ false) × ((seen ≡ true) ⊎ ((guest ≡ true) ⊎ ((host ≡ true) ⊎ (blind ≡ true))))
 by_parts same seen guest host blind h =
-    let parts = and_parts (not same) (seen || ((guest || host) || blind)) h in
-    (false_from_not same parts.0, elim (or_cases seen ((guest || host) || blind) parts.1) [
-      | inl one ↦ inl one
-      | inr others ↦ elim (or_cases (guest || host) blind others) [
-        | inl tied ↦ elim (or_cases guest host tied) [ inl two ↦ inr (inl two) | inr three ↦ inr (inr (inl three)) ]
-        | inr four ↦ inr (inr (inr four))
-      ]
-    ])
+    let parts = and_parts (not same) (seen || ((guest || host) || blind)) h in (
+      false_from_not same parts.0,
+      elim (or_cases seen ((guest || host) || blind) parts.1) [
+        | inl one ↦ inl one
+        | inr others ↦ elim (or_cases (guest || host) blind others) [
+          | inl tied ↦ elim (or_cases guest host tied) [ inl two ↦ inr (inl two) | inr three ↦ inr (inr (inl three)) ]
+          | inr four ↦ inr (inr (inr four))
+        ]
+      ],
+    )
 
 joined_parts : (sees : ℕ → ℕ → Bool) (far : ℕ → ℕ → ℕ) (members : List ℕ) (a b : ℕ) → is_joined sees far members a b ≡ true
     → (¬ (a ≡ b)) × ((sees a b ≡ true) ⊎ ((is_guest_of sees far members a b ≡ true) ⊎ ((is_guest_of sees far members b a ≡ true) ⊎ (are_blind sees members ≡ true))))

@@ -1,3 +1,4 @@
 pub mod NearestLemmas
 pub mod Hosts
 pub mod JoinedTurn
+pub mod PlacesLaw

@@ -1,6 +1,6 @@
 //! What it means that members are joined, for any members, any test of sight and any lengths.
 
-ghost use Rattle.std.specs.Prelude.{◌≡◌, ℕ, ◌<◌, Bool, true, false, not, ◌==◌, List, length, get_or, Contains, Option, Some, Any, ◌↔◌};
+ghost use Rattle.std.specs.Prelude.{◌≡◌, ℕ, ◌<◌, Bool, true, false, not, ◌==◌, List, length, get_or, Contains, Option, Some, option_map, Any, ◌↔◌};
 ghost use Rattle.std.specs.List.Sorted.{IsStrictlyIncreasing};
 ghost use Rattle.unit_sight.specs.Joined.{is_blind, are_blind, host_of, is_joined};
 ghost use Rattle.unit_sight.specs.Tables.{places};
@@ -28,9 +28,12 @@ pub fn whole_law()
     ensures blind { (sees : ℕ → ℕ → Bool) (far : ℕ → ℕ → ℕ) (members : List ℕ) (a b : ℕ) → are_blind sees members ≡ true → is_joined sees far members a b ≡ not (a == b) }
 {}
 
-/// Where the members rise, who is joined by place is joined by member: the hosts by place are the hosts by member.
+/// Where the members rise, who is joined by place is joined by member, and the hosts by place are the hosts by member.
 pub fn places_law()
     ensures joined { (sees : ℕ → ℕ → Bool) (far : ℕ → ℕ → ℕ) (members : List ℕ) (i j : ℕ) → IsStrictlyIncreasing members → i < length members → j < length members
         → is_joined (λ k l. sees (get_or members k 0) (get_or members l 0)) (λ k l. far (get_or members k 0) (get_or members l 0)) (places (length members)) i j
         ≡ is_joined sees far members (get_or members i 0) (get_or members j 0) }
+    ensures host { (sees : ℕ → ℕ → Bool) (far : ℕ → ℕ → ℕ) (members : List ℕ) (i : ℕ) → IsStrictlyIncreasing members
+        → option_map (λ k. get_or members k 0) (host_of (λ k l. sees (get_or members k 0) (get_or members l 0)) (λ k l. far (get_or members k 0) (get_or members l 0)) (places (length members)) i)
+        ≡ host_of sees far members (get_or members i 0) }
 {}
