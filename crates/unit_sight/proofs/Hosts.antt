@@ -1,13 +1,13 @@
 -- Who is blind, who hosts whom, and who is joined.
-use Rattle.std.proofs.Common.{◌≡◌, ◌⊎◌, ◌↔◌, ℕ, zero, suc, Bool, true, false, not, ◌&&◌, ◌||◌, ◌==◌, List, [], ◌∷◌, filter, Option, Some, None, Any, refl, sym, ap, subst, ◌∙◌, arith, inl, inr}
+use Rattle.std.proofs.Common.{◌≡◌, ◌⊎◌, ◌↔◌, ℕ, zero, suc, Bool, true, false, not, ◌&&◌, ◌||◌, ◌==◌, ◌<◌, ◌≤◌, cond, get_or, List, [], ◌∷◌, filter, Option, Some, None, Any, refl, sym, ap, subst, ◌∙◌, arith, inl, inr}
 use Rattle.std.specs.Prelude.{Contains}
 use Rattle.std.specs.List.{list_all}
 use Rattle.std.specs.Option.{option_map_or}
-use Rattle.std.proofs.lemmas.Bool.{cases_Bool, cases_eq, cond_both, or_cases, or_left, or_right, and_parts, and_cases, and_from, eqb-true, eqb-false, eq-eqb, ne_eqb, not_from_false}
-use Rattle.std.proofs.lemmas.List.Elements.{All-contains, All-filter, All-contains_itself, filter_passes}
+use Rattle.std.proofs.lemmas.Bool.{cases_Bool, cases_eq, cond_both, or_cases, or_left, or_right, and_parts, and_cases, and_from, and_left, or_from, false_from_ne_true, eqb-true, eqb-false, eq-eqb, ne_eqb, not_from_false}
+use Rattle.std.proofs.lemmas.List.Elements.{All-contains, Contains-get_or, All-filter, All-contains_itself, filter_passes}
 use Rattle.std.proofs.lemmas.List.Sums.{AllPass-from_list_all}
 use Rattle.unit_sight.specs.Joined.{is_blind, are_blind, seeing, host_of, is_guest_of, is_joined}
-use Rattle.unit_sight.proofs.NearestLemmas.{IsFirst, nearest_first, nearest_none}
+use Rattle.unit_sight.proofs.NearestLemmas.{IsNoFurther, IsFirst, nearest_first, nearest_none}
 
 -- ---- tests and lists
 
@@ -240,3 +240,71 @@ each_joined sees far members a c d at at' two here = elim (cases_eq a c) [
   | inl same ↦ one_joined sees far members a d at' (λ e. two (sym same ∙ e))
   | inr other ↦ one_joined sees far members a c at other
 ]
+
+-- ---- which member is the host
+
+-- b is the first of those that aren't blind
+abbrev IsFirstSighted : (ℕ → ℕ → Bool) → (ℕ → ℕ) → List ℕ → ℕ → Type 0
+IsFirstSighted sees far members b =
+    Contains members b × (is_blind sees members b ≡ false) × ((c : ℕ) → Contains members c → is_blind sees members c ≡ false → (far b < far c) ⊎ ((far b ≡ far c) × (b ≤ c)))
+
+first_from : (sees : ℕ → ℕ → Bool) (far : ℕ → ℕ) (members : List ℕ) (b : ℕ) → IsFirst far (seeing sees members) b → IsFirstSighted sees far members b
+first_from sees far members b first =
+    let test : ℕ → Bool = λ c. not (is_blind sees members c) in
+    let parts = filter_is test members b first.has in (
+      parts.0,
+      false_from_not (is_blind sees members b) parts.1,
+      λ c at sighted.
+          All-contains (IsNoFurther far b) (seeing sees members) c first.least (filter_has test members c at (not_from_false (is_blind sees members c) sighted)),
+    )
+
+first_to : (sees : ℕ → ℕ → Bool) (far : ℕ → ℕ) (members : List ℕ) (b : ℕ) → IsFirstSighted sees far members b → IsFirst far (seeing sees members) b
+first_to sees far members b is =
+    let test : ℕ → Bool = λ c. not (is_blind sees members c) in
+    record {
+      has = filter_has test members b is.0 (not_from_false (is_blind sees members b) is.1);
+      least = λ k d within.
+          let parts = filter_is test members (get_or (seeing sees members) k d) (Contains-get_or (seeing sees members) k d within) in
+          is.2 (get_or (seeing sees members) k d) parts.0 (false_from_not (is_blind sees members (get_or (seeing sees members) k d)) parts.1);
+    }
+
+pub host_first : (sees : ℕ → ℕ → Bool) (far : ℕ → ℕ → ℕ) (members : List ℕ) (a b : ℕ) → (host_of sees far members a ≡ Some b) ↔ IsFirstSighted sees (far a) members b
+host_first sees far members a b = (
+  (λ is. first_from sees (far a) members b ((nearest_first (far a) (seeing sees members) b).0 is)),
+  (λ first. (nearest_first (far a) (seeing sees members) b).1 (first_to sees (far a) members b first)),
+)
+
+-- where none passes, nothing is kept
+filter_none : (test : ℕ → Bool) (xs : List ℕ) → list_all (λ x. test x) xs ≡ true → filter (λ x. not (test x)) xs ≡ []
+filter_none test [] h = refl
+filter_none test (x ∷ xs) h =
+    let parts = and_parts (test x) (list_all (λ y. test y) xs) h in
+    ap (λ (b : Bool). cond (not b) (x ∷ filter (λ y. not (test y)) xs) (filter (λ y. not (test y)) xs)) parts.0 ∙ filter_none test xs parts.1
+
+pub host_none : (sees : ℕ → ℕ → Bool) (far : ℕ → ℕ → ℕ) (members : List ℕ) (a : ℕ) → (host_of sees far members a ≡ None) ↔ (are_blind sees members ≡ true)
+host_none sees far members a = (
+  (λ none. elim (cases_Bool (are_blind sees members)) [
+    | inl all ↦ all
+    | inr some ↦
+        let (c, at, sighted) = fails_at (is_blind sees members) members some in
+        let (b, is) = has_host sees far members a c at sighted in
+        absurd (cc)
+  ]),
+  (λ all. (nearest_none (far a) (seeing sees members)).1 (filter_none (is_blind sees members) members all)),
+)
+
+-- ---- two members that aren't blind
+
+not_guest : (sees : ℕ → ℕ → Bool) (far : ℕ → ℕ → ℕ) (members : List ℕ) (a b : ℕ) → is_blind sees members a ≡ false → is_guest_of sees far members a b ≡ false
+not_guest sees far members a b sighted = and_left (is_blind sees members a) (option_map_or (λ host. host == b) (host_of sees far members a) false) sighted
+
+only_seen : (same seen guest host blind : Bool) → guest ≡ false → host ≡ false → blind ≡ false → joined_by same seen guest host blind ≡ (not same && seen)
+only_seen same true guest host blind one two three = refl
+only_seen same false guest host blind one two three = ap (λ (x : Bool). not same && x) (or_from (guest || host) blind (or_from guest host one two) three)
+
+pub sighted_see : (sees : ℕ → ℕ → Bool) (far : ℕ → ℕ → ℕ) (members : List ℕ) (a b : ℕ) → Contains members a → is_blind sees members a ≡ false → is_blind sees members b ≡ false
+    → is_joined sees far members a b ≡ (not (a == b) && sees a b)
+unfolding is_joined
+sighted_see sees far members a b at one other =
+    only_seen (a == b) (sees a b) (is_guest_of sees far members a b) (is_guest_of sees far members b a) (are_blind sees members)
+    (not_guest sees far members a b one) (not_guest sees far members b a other) (false_from_ne_true (are_blind sees members) (not_all_blind sees members a at one))

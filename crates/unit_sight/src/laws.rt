@@ -1,6 +1,6 @@
 //! What it means that members are joined, for any members, any test of sight and any lengths.
 
-ghost use Rattle.std.specs.Prelude.{◌≡◌, ℕ, ◌<◌, Bool, true, false, not, ◌==◌, List, length, get_or, Contains, Option, Some, option_map, Any, ◌↔◌};
+ghost use Rattle.std.specs.Prelude.{◌≡◌, ℕ, ◌<◌, ◌≤◌, Bool, true, false, not, ◌&&◌, ◌==◌, List, length, get_or, Contains, Some, None, option_map, Any, ◌↔◌, ◌⊎◌};
 ghost use Rattle.std.specs.List.Sorted.{IsStrictlyIncreasing};
 ghost use Rattle.unit_sight.specs.Joined.{is_blind, are_blind, host_of, is_joined};
 ghost use Rattle.unit_sight.specs.Tables.{places};
@@ -20,6 +20,19 @@ pub fn guest_law()
     ensures hosted { (sees : ℕ → ℕ → Bool) (far : ℕ → ℕ → ℕ) (members : List ℕ) (a c : ℕ) → Contains members c → is_blind sees members c ≡ false → Any (λ b. host_of sees far members a ≡ Some b) members }
     ensures host { (sees : ℕ → ℕ → Bool) (far : ℕ → ℕ → ℕ) (members : List ℕ) (a b : ℕ) → host_of sees far members a ≡ Some b → Contains members b × (is_blind sees members b ≡ false) }
     ensures alone { (sees : ℕ → ℕ → Bool) (far : ℕ → ℕ → ℕ) (members : List ℕ) (a b c : ℕ) → Contains members c → is_blind sees members c ≡ false → is_blind sees members a ≡ true → Contains members b → (is_joined sees far members a b ≡ true) ↔ (host_of sees far members a ≡ Some b) }
+{}
+
+/// A host is the first of the members that aren't blind, by length and then by number; there is none only where all are blind.
+pub fn host_law()
+    ensures first { (sees : ℕ → ℕ → Bool) (far : ℕ → ℕ → ℕ) (members : List ℕ) (a b : ℕ) → (host_of sees far members a ≡ Some b)
+        ↔ (Contains members b × (is_blind sees members b ≡ false) × ((c : ℕ) → Contains members c → is_blind sees members c ≡ false → (far a b < far a c) ⊎ ((far a b ≡ far a c) × (b ≤ c)))) }
+    ensures none { (sees : ℕ → ℕ → Bool) (far : ℕ → ℕ → ℕ) (members : List ℕ) (a : ℕ) → (host_of sees far members a ≡ None) ↔ (are_blind sees members ≡ true) }
+{}
+
+/// Of two members of which none is blind, exactly those are joined that see each other.
+pub fn sighted_law()
+    ensures { (sees : ℕ → ℕ → Bool) (far : ℕ → ℕ → ℕ) (members : List ℕ) (a b : ℕ) → Contains members a → is_blind sees members a ≡ false → is_blind sees members b ≡ false
+        → is_joined sees far members a b ≡ (not (a == b) && sees a b) }
 {}
 
 /// Where all members see all others, and where none sees another, any two members are joined, and none is joined to itself.

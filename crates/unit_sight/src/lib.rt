@@ -3,4 +3,6 @@
 
 mod laws;
 
-pub use laws::{guest_law, joined_some_law, joined_turn_law, places_law, whole_law};
+pub use laws::{
+    guest_law, host_law, joined_some_law, joined_turn_law, places_law, sighted_law, whole_law,
+};
