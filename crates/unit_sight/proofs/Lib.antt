@@ -10,3 +10,7 @@ pub mod PairLemmas
 pub mod RoomLemmas
 pub mod HostLemmas
 pub mod GuestLemmas
+pub mod NearestLemmas
+pub mod Hosts
+pub mod JoinedTurn
+pub mod PlacesLaw

@@ -1,15 +1,21 @@
 //! Which places of a room are joined.
 
-ghost use Rattle.std.specs.Prelude.{◌≡◌, ◌<◌, ◌≤◌, ◌↔◌, length, filter, nat_lt, slice_get, IfOk, IfSome, IsTrue, false, get_or};
+ghost use Rattle.std.specs.Prelude.{◌≡◌, ℕ, ◌<◌, ◌≤◌, ◌++◌, ◌↔◌, All, length, map, filter, nat_lt, slice_get, IfOk, IfSome, IsTrue, false, get_or};
+ghost use Rattle.plane_exact.specs.Plane.{IsInRange};
+ghost use Rattle.plane_exact.specs.Figure.{AllNearby, vertices};
+ghost use Rattle.plane_exact.specs.Scaled.{times, scaled};
+ghost use Rattle.plane_exact.specs.Sight.{at_spot};
+ghost use Rattle.unit_sight.specs.Rooms.{AreLengths, joined_places};
 ghost use Rattle.unit_sight.specs.Tables.{joins, neighbours, new_neighbours, IsWhole};
 
 use crate::bits::Bits;
+use crate::finding::joined_bits;
 use crate::mask::Mask;
 use crate::ranked::Ranked;
 use crate::whole::{is_whole, whole_both, whole_next, whole_nth, whole_rank};
 use std::alloc::Global;
 use std::marker::Model;
-use venue_types::OutOfMemory;
+use venue_types::{OutOfMemory, Shape, Spot};
 
 /// Which places of a room are joined, as a table of truth values. Of a room in which any two are joined nothing but its size is kept.
 #[derive(Drop)]
@@ -30,6 +36,31 @@ impl Model for Sights {
 }
 
 impl Sights {
+    /// Finds which places of a room are joined: those that see each other in the shape, where `t`, in nanodegrees, is how far off a
+    /// wall a place may be that stands at it; and each that sees nobody with its host, the nearest of those that see somebody,
+    /// where a degree of longitude has `kx` centimetres and one of latitude `ky`. Where nobody sees another, any two are.
+    ///
+    /// At most 4,096 places. Asks half of the pairs, each of a tree of the shape's edges, and keeps a bit for each pair.
+    pub fn of(
+        alloc: Global,
+        shape: &Shape,
+        spots: &[Spot],
+        t: u32,
+        kx: u32,
+        ky: u32,
+    ) -> Result<Sights, OutOfMemory>
+        requires near { AllNearby (map (λ s. times 2 (at_spot s)) spots.now ++ vertices (scaled 4 shape.now)) }
+        requires range { All IsInRange (map at_spot spots.now ++ vertices shape.now) }
+        requires few { length spots.now ≤ 4096 }
+        requires tolerance { t ≤ 1000000 }
+        requires kx_range { kx ≤ 20000000 }
+        requires ky_range { ky ≤ 20000000 }
+        ensures { (far : ℕ → ℕ → ℕ) → AreLengths spots.now kx ky far → IfOk result (λ sights. sights ≡ joined_places shape.now spots.now t far) }
+    {
+        let bits = joined_bits(alloc, shape, spots, t, kx, ky)?;
+        Sights::of_bits(alloc, bits)
+    }
+
     /// The places that a table of truth values joins.
     pub(crate) fn of_bits(alloc: Global, bits: Bits) -> Result<Sights, OutOfMemory>
         ensures { IfOk result (λ sights. sights ≡ bits) }
