@@ -11,6 +11,6 @@ pub mod RoomLemmas
 pub mod HostLemmas
 pub mod GuestLemmas
 pub mod NearestLemmas
-pub mod Hosts
+pub mod HostLaws
 pub mod JoinedTurn
 pub mod PlacesLaw
