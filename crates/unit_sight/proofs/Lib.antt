@@ -1,0 +1,16 @@
+pub mod TableLemmas
+pub mod WordLemmas
+pub mod Counts
+pub mod Ones
+pub mod Fronts
+pub mod Wholes
+pub mod Masks
+pub mod AskingLemmas
+pub mod PairLemmas
+pub mod RoomLemmas
+pub mod HostLemmas
+pub mod GuestLemmas
+pub mod NearestLemmas
+pub mod HostLaws
+pub mod JoinedTurn
+pub mod PlacesLaw
