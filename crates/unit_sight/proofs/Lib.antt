@@ -1,4 +1,5 @@
 pub mod NearestLemmas
-pub mod Hosts
+pub mod HostLaws
 pub mod JoinedTurn
 pub mod PlacesLaw
+pub mod NearestPlaces

@@ -1,4 +1,4 @@
-use Rattle.unit_sight.proofs.Hosts.{hosted, host_sees, guest_alone}
+use Rattle.unit_sight.proofs.HostLaws.{hosted, host_sees, guest_alone}
 use Rattle.unit_sight.proofs.laws.guest_law.Goals as goal
 
 pub returns-clause-hosted : goal.returns-clause-hosted

@@ -1,4 +1,4 @@
-use Rattle.unit_sight.proofs.Hosts.{host_first, host_none}
+use Rattle.unit_sight.proofs.HostLaws.{host_first, host_none}
 use Rattle.unit_sight.proofs.laws.host_law.Goals as goal
 
 pub returns-clause-first : goal.returns-clause-first

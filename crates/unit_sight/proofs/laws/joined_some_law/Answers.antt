@@ -1,4 +1,4 @@
-use Rattle.unit_sight.proofs.Hosts.{each_joined}
+use Rattle.unit_sight.proofs.HostLaws.{each_joined}
 use Rattle.unit_sight.proofs.laws.joined_some_law.Goals as goal
 
 pub returns : goal.returns

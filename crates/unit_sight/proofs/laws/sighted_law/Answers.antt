@@ -1,4 +1,4 @@
-use Rattle.unit_sight.proofs.Hosts.{sighted_see}
+use Rattle.unit_sight.proofs.HostLaws.{sighted_see}
 use Rattle.unit_sight.proofs.laws.sighted_law.Goals as goal
 
 pub returns : goal.returns

@@ -1,4 +1,4 @@
-use Rattle.unit_sight.proofs.Hosts.{seeing_whole, blind_whole}
+use Rattle.unit_sight.proofs.HostLaws.{seeing_whole, blind_whole}
 use Rattle.unit_sight.proofs.laws.whole_law.Goals as goal
 
 pub returns-clause-seeing : goal.returns-clause-seeing
