@@ -2,4 +2,3 @@ pub mod NearestLemmas
 pub mod HostLaws
 pub mod JoinedTurn
 pub mod PlacesLaw
-pub mod NearestPlaces

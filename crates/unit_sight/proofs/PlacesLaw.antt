@@ -163,7 +163,7 @@ joined_same sees far f n ps i j up below hi hj =
 
 -- ---- members by place
 
-pub places_below : (n m : ℕ) → m ≤ n → All (λ x. x < n) (places m)
+places_below : (n m : ℕ) → m ≤ n → All (λ x. x < n) (places m)
 places_below n zero h = All-nil (λ x. x < n)
 places_below n (suc m) h = All-push (λ x. x < n) (places m) m (places_below n m (omega arith)) (omega arith)
 
