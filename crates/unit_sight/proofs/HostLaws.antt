@@ -235,8 +235,8 @@ one_joined sees far members a c at other = elim (cases_Bool (are_blind sees memb
   ]
 ]
 
-pub each_joined : (sees : ℕ → ℕ → Bool) (far : ℕ → ℕ → ℕ) (members : List ℕ) (a c d : ℕ) → Contains members c → Contains members d → ¬ (c ≡ d) → Contains members a → Any (λ b. is_joined sees far members a b ≡ true) members
-each_joined sees far members a c d at at' two here = elim (cases_eq a c) [
+pub each_joined : (sees : ℕ → ℕ → Bool) (far : ℕ → ℕ → ℕ) (members : List ℕ) (a c d : ℕ) → Contains members c → Contains members d → ¬ (c ≡ d) → Any (λ b. is_joined sees far members a b ≡ true) members
+each_joined sees far members a c d at at' two = elim (cases_eq a c) [
   | inl same ↦ one_joined sees far members a d at' (λ e. two (sym same ∙ e))
   | inr other ↦ one_joined sees far members a c at other
 ]

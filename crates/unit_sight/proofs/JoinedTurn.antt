@@ -15,12 +15,12 @@ or_turned true false = refl
 or_turned false true = refl
 or_turned false false = refl
 
-pub joined_turned : (sees : ℕ → ℕ → Bool) (far : ℕ → ℕ → ℕ) (members : List ℕ) (a b : ℕ) → ((c d : ℕ) → sees c d ≡ sees d c) → is_joined sees far members a b ≡ is_joined sees far members b a
+pub joined_turned : (sees : ℕ → ℕ → Bool) (far : ℕ → ℕ → ℕ) (members : List ℕ) (a b : ℕ) → sees a b ≡ sees b a → is_joined sees far members a b ≡ is_joined sees far members b a
 unfolding is_joined
 joined_turned sees far members a b turns =
     let one = is_guest_of sees far members a b in
     let other = is_guest_of sees far members b a in
     let all = are_blind sees members in
     ap (λ (same : Bool). not same && (sees a b || ((one || other) || all))) (equal_turned a b)
-    ∙ ap (λ (seen : Bool). not (b == a) && (seen || ((one || other) || all))) (turns a b)
+    ∙ ap (λ (seen : Bool). not (b == a) && (seen || ((one || other) || all))) turns
     ∙ ap (λ (tied : Bool). not (b == a) && (sees b a || (tied || all))) (or_turned one other)

@@ -5,14 +5,14 @@ ghost use Rattle.std.specs.List.Sorted.{IsStrictlyIncreasing};
 ghost use Rattle.unit_sight.specs.Joined.{is_blind, are_blind, host_of, is_joined};
 ghost use Rattle.unit_sight.specs.Tables.{places};
 
-/// Where who is seen sees, who is joined to another has that one joined to it.
+/// Where sight between two is the same both ways, so is being joined.
 pub fn joined_turn_law()
-    ensures { (sees : ℕ → ℕ → Bool) (far : ℕ → ℕ → ℕ) (members : List ℕ) (a b : ℕ) → ((c d : ℕ) → sees c d ≡ sees d c) → is_joined sees far members a b ≡ is_joined sees far members b a }
+    ensures { (sees : ℕ → ℕ → Bool) (far : ℕ → ℕ → ℕ) (members : List ℕ) (a b : ℕ) → sees a b ≡ sees b a → is_joined sees far members a b ≡ is_joined sees far members b a }
 {}
 
 /// Where there are two different members, each member is joined to some other member.
 pub fn joined_some_law()
-    ensures { (sees : ℕ → ℕ → Bool) (far : ℕ → ℕ → ℕ) (members : List ℕ) (a c d : ℕ) → Contains members c → Contains members d → ¬ (c ≡ d) → Contains members a → Any (λ b. is_joined sees far members a b ≡ true) members }
+    ensures { (sees : ℕ → ℕ → Bool) (far : ℕ → ℕ → ℕ) (members : List ℕ) (a c d : ℕ) → Contains members c → Contains members d → ¬ (c ≡ d) → Any (λ b. is_joined sees far members a b ≡ true) members }
 {}
 
 /// Where some member isn't blind, each blind member has a host, which is a member that isn't blind, and is joined to that one member alone.
