@@ -1,7 +1,6 @@
 -- The nearest of some places, looked for in order.
-use Rattle.std.proofs.Common.{◌≡◌, ℕ, zero, suc, ◌+◌, ◌<◌, ◌≤◌, Bool, true, false, not, ◌&&◌, ◌||◌, ◌==◌, nat_lt, cond, List, [], ◌∷◌, ◌++◌, length, get_or, map, filter, Option, Some, None, IfSome, refl, sym, ap, ap₂, ◌∙◌, inl, inr, subst, add-one, arith}
+use Rattle.std.proofs.Common.{◌≡◌, ℕ, zero, suc, ◌+◌, ◌<◌, ◌≤◌, Bool, true, false, not, ◌&&◌, ◌||◌, ◌==◌, nat_lt, cond, List, [], ◌∷◌, ◌++◌, get_or, map, filter, Option, Some, None, IfSome, refl, sym, ap, ap₂, ◌∙◌, inl, inr, subst, add-one, arith}
 use Rattle.std.proofs.lemmas.Bool.{lt-ltb, le-ltb, ltb-true, ltb-false, eqb-true, and_right, or_cases, or_parts, or_left, and_parts, cond-true, cond-false}
-use Rattle.std.proofs.lemmas.List.{get_or_default}
 use Rattle.std.proofs.lemmas.List.Elements.{filter-append}
 use Rattle.unit_sight.specs.declared.hosts.Distant.{Distant}
 use Rattle.unit_sight.specs.Joined.{is_nearer, nearer, nearest, is_blind, seeing, host_of}
@@ -163,10 +162,6 @@ same_below n best after is h = subst (λ (o : Option Distant). IfSome o (λ one.
 
 pub nearest_at : (far : ℕ → ℕ) (xs : List ℕ) (best after : Option Distant) → after ≡ best → IsNearest far xs best → IsNearest far xs after
 nearest_at far xs best after is h = subst (λ (o : Option Distant). IsNearest far xs o) (sym is) h
-
--- whether a place is blind, whatever stands for the places behind
-pub blind_at : (blind : List Bool) (b : ℕ) (d s : Bool) → b < length blind → get_or blind b d ≡ s → not (get_or blind b true) ≡ not s
-blind_at blind b d s low is = ap not (get_or_default blind b true d low ∙ is)
 
 pub host_told : (sees : ℕ → ℕ → Bool) (far : ℕ → ℕ → ℕ) (n a : ℕ) (blind : List Bool) (best : Option Distant) (result : Option ℕ) → result ≡ place_of best → IsNearest (far a) (filter (λ b. not (get_or blind b true)) (places n)) best → blind ≡ map (is_blind sees (places n)) (places n) → result ≡ host_of sees far (places n) a
 host_told sees far n a blind best result is h same = is ∙ sym h.place ∙ ap (λ (xs : List ℕ). nearest (far a) xs) (those_seeing sees n blind same)

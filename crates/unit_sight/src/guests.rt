@@ -8,7 +8,7 @@ ghost use Rattle.unit_sight.specs.Rooms.{AreLengths};
 ghost use Rattle.unit_sight.specs.Finding.{FitsLengths, is_empty_row, are_tied, are_tied_at};
 
 use crate::bits::Bits;
-use crate::hosts::{Lengths, host_of};
+use crate::hosts::{Lengths, host_of, sees_some};
 use std::alloc::Global;
 use venue_types::OutOfMemory;
 
@@ -69,7 +69,7 @@ fn join_guest(lengths: &Lengths, blind: &[bool], a: u32, bits: &mut Bits)
     ensures size { length bits.new ≡ length lengths.now.spots.now }
     ensures told { (sees test : ℕ → ℕ → Bool) → (far : ℕ → ℕ → ℕ) → AreLengths lengths.now.spots.now lengths.now.kx lengths.now.ky far → blind.now ≡ map (is_blind sees (places (length lengths.now.spots.now))) (places (length lengths.now.spots.now)) → bits.old ≡ table_of (length lengths.now.spots.now) test → bits.new ≡ table_of (length lengths.now.spots.now) (λ i j. test i j || are_tied_at sees far (length lengths.now.spots.now) a i j) }
 {
-    if !blind[a as usize] {
+    if sees_some(blind, a) {
         return;
     }
     match host_of(lengths, blind, a) {

@@ -46,7 +46,7 @@ fn nearest_of(lengths: &Lengths, blind: &[bool], a: u32) -> Option<Distant>
 {
     let mut best = None;
     for b in 0..lengths.spots.len() as u32 {
-        if !blind[b as usize] {
+        if sees_some(blind, b) {
             let next = Distant {
                 place: b,
                 length: length_between(lengths, a, b),
@@ -55,6 +55,14 @@ fn nearest_of(lengths: &Lengths, blind: &[bool], a: u32) -> Option<Distant>
         }
     }
     best
+}
+
+/// Whether a place sees some other.
+pub(crate) fn sees_some(blind: &[bool], a: u32) -> bool
+    requires { a < length blind.now }
+    ensures { result ≡ not (get_or blind.now a true) }
+{
+    !blind[a as usize]
 }
 
 // The length between two places.
