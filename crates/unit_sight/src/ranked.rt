@@ -113,11 +113,11 @@ impl Ranked {
         requires more { k < count_to (joins self.now i) (length self.now) }
         ensures { slice_get (neighbours self.now i) k ≡ Some result }
     {
+        // Its clause says that the table is as wide as it is high: so a bit that is set is one of a place.
         let _square = self.size();
         let w = self.word_of(i, k);
         let word = self.word(i, w);
         let front = self.front(i, w);
-        let _bits = ones_of(word);
         64 * w + nth_bit(word, k - front)
     }
 
