@@ -1,13 +1,13 @@
 #!/bin/bash
 # Serves a base with folders whose `unit.geojson` is no regular file, a pipe that nobody writes, a folder, and a device without end behind a link, and
 # publishes each: that it can't be read is answered within two seconds, and a closing beside it goes through as soon. Then a whole folder is published,
-# and one whose file is a link to a regular file outside of the base.
+# and one whose file is a link to a regular file outside of the base; and one that takes seconds to be judged, beside which changes are made at once.
 #
 # usage: serve_hostile.sh [PROGRAM]   (without PROGRAM the launcher ./venue, which builds the program if need be)
 # It prints a line for each difference and one at the end, and ends with status 1 at a difference.
 program=${1-$(dirname "$0")/../venue}
 . "$(dirname "$0")/serving.sh"
-need curl mkfifo
+need curl mkfifo python3
 
 base=$work/base
 mkdir "$base" && cp -R "$here/examples/venue.toml" "$here/examples/station" "$base" || exit 1
@@ -19,12 +19,40 @@ mkdir "$base/folder/unit.geojson" || exit 1
 ln -s /dev/zero "$base/device/unit.geojson" || exit 1
 ln -s "$here/examples/station/unit.geojson" "$base/linked/unit.geojson" || exit 1
 
+# A folder that breaks no rule and takes seconds to be judged: five thousand rooms of one box, and as many openings inside it.
+cp -R "$here/examples/station" "$base/slow" && python3 - "$base/slow" <<'PYTHON' || exit 1
+import copy
+import json
+import sys
+
+folder = sys.argv[1]
+
+
+def add(kind, of, line):
+    """Adds copies of a feature of this kind whose identifier ends so, with identifiers of their own."""
+    with open(f"{folder}/{kind}.geojson", encoding="utf-8") as file:
+        collection = json.load(file)
+    one = next(it for it in collection["features"] if it["id"].endswith(of))
+    for number in range(5000):
+        more = copy.deepcopy(one)
+        more["id"] = f"00000000-0000-4000-{'a' if line else 'b'}000-{number:012x}"
+        if line:
+            more["geometry"]["coordinates"] = line
+        collection["features"].append(more)
+    with open(f"{folder}/{kind}.geojson", "w", encoding="utf-8") as file:
+        json.dump(collection, file)
+
+
+add("unit", "0305", None)
+add("opening", "0101", [[10.00019, 50.00005], [10.00021, 50.00005]])
+PYTHON
+
 # What staff are answered, and the status.
 change() { # seconds, path, body
     curl -s --max-time "$1" -w ' %{http_code}' -H "$key" -d "$3" "http://127.0.0.1:$port/v1/$2"
 }
 
-serve 2 9
+serve 2 14
 version=1
 closed=true
 for folder in pipe folder device; do
@@ -39,9 +67,18 @@ for folder in pipe folder device; do
 done
 compare 'a whole folder' "$(change 20 publish '{"folder":"station"}')" '{"dropped":\[\],"version":5} 200'
 compare 'a link out of the base' "$(change 20 publish '{"folder":"linked"}')" '{"dropped":\[\],"version":6} 200'
-compare 'the version' "$(curl -s --max-time 20 "http://127.0.0.1:$port/v1/version")" '{"closed":1,"places":33,"version":6}'
+change 50 publish '{"folder":"slow"}' >"$work/published" &
+publication=$!
+sleep 0.5
+for closed in false true false true; do
+    compare "a change beside a folder that is judged" "$(change 1 closures '{"feature":"'$lift'","closed":'$closed'}')" '{"changed":true,*} 200'
+done
+kill -0 $publication 2>/dev/null || echo "$name: the folder was judged before the changes were made, so they show nothing"
+wait $publication
+compare 'the publication of a folder that takes long' "$(cat "$work/published")" '{"dropped":\[\],"version":11} 200'
+compare 'the version' "$(curl -s --max-time 20 "http://127.0.0.1:$port/v1/version")" '{"closed":1,"places":*,"version":11}'
 wait $server
 compare 'the status' $? 0
 compare 'what was printed' "$(cat "$work/printed")" "listening 127.0.0.1:$port
-workers 2 sessions 9 versions 6 changes 5"
+workers 2 sessions 14 versions 11 changes 10"
 finish
