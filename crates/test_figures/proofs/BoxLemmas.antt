@@ -1,5 +1,5 @@
 -- Positions in one box are nearby one another.
-use Rattle.std.proofs.Common.{◌≡◌, List, [], ◌∷◌, All, subst, sym, arith}
+use Rattle.std.proofs.Common.{◌≡◌, List, [], ◌∷◌, ◌++◌, map, All, subst, sym, arith}
 use Rattle.std.proofs.lemmas.Int.{ints}
 use Rattle.std.proofs.lemmas.List.Elements.{All-nil, All-cons, All-append, All-contains, All-map, All-weaker}
 use mathlib.Core.Path.{subst₂}
@@ -92,3 +92,12 @@ sight_range a b shape h k l = All-cons IsInRange (at_spot a) (at_spot b ∷ vert
 
 pub box_range : (points : List Point) → All IsInBox points → All IsInRange points
 box_range points l = All-weaker IsInBox IsInRange box_in_range points l
+
+-- what `Sights::of` asks of the spots and the shape of a room
+pub spots_near : (spots : List Spot) (shape : Shape) → All IsInDoubledBox spots → All IsInBox (vertices shape) → AllNearby (map (λ (s : Spot). times 2 (at_spot s)) spots ++ vertices (scaled 4 shape))
+spots_near spots shape h k =
+    let twice : Spot → Point = λ s. times 2 (at_spot s) in
+    all_wide_near (map twice spots ++ vertices (scaled 4 shape)) (All-append IsInWideBox (map twice spots) (vertices (scaled 4 shape)) (All-map IsInWideBox twice spots (All-weaker IsInDoubledBox (λ s. IsInWideBox (twice s)) spot_twice spots h)) (wide_vertices shape k))
+
+pub spots_range : (spots : List Spot) (shape : Shape) → All IsInDoubledBox spots → All IsInBox (vertices shape) → All IsInRange (map at_spot spots ++ vertices shape)
+spots_range spots shape h k = All-append IsInRange (map at_spot spots) (vertices shape) (All-map IsInRange at_spot spots (All-weaker IsInDoubledBox (λ s. IsInRange (at_spot s)) spot_in_range spots h)) (box_range (vertices shape) k)

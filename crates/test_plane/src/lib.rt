@@ -4,6 +4,8 @@
 #[cfg(test)]
 mod figures;
 #[cfg(test)]
+mod joined;
+#[cfg(test)]
 mod rooms;
 #[cfg(test)]
 mod trees;

@@ -16,7 +16,7 @@ const FAR: i64 = 100_000_000;
 
 /// The rooms, of which a metre has 10,000 nanodegrees.
 #[derive(Clone, Copy)]
-enum Room {
+pub(crate) enum Room {
     /// A hall with an L for a plan.
     Ell,
     /// A square round a square court.
@@ -37,11 +37,13 @@ enum Room {
     Pair,
     /// Two boxes that overlap.
     Overlap,
+    /// Two squares apart.
+    Apart,
     /// A square as large as positions may lie apart, with the half of it as a hole.
     Wide,
 }
 
-const ROOMS: [Room; 11] = [
+pub(crate) const ROOMS: [Room; 12] = [
     Room::Ell,
     Room::Court,
     Room::Square,
@@ -52,6 +54,7 @@ const ROOMS: [Room; 11] = [
     Room::Niche,
     Room::Pair,
     Room::Overlap,
+    Room::Apart,
     Room::Wide,
 ];
 
@@ -148,7 +151,7 @@ const NICHE: [(i64, i64); 5] = [
     (150_000, 0),
 ];
 
-fn drawn(alloc: Global, which: Room) -> Result<Shape, AllocError>
+pub(crate) fn drawn(alloc: Global, which: Room) -> Result<Shape, AllocError>
     ensures { IfOk result (λ shape. All IsInBox (vertices shape)) }
 {
     match which {
@@ -170,6 +173,11 @@ fn drawn(alloc: Global, which: Room) -> Result<Shape, AllocError>
             &box_of(0, 0, 120_000, 100_000),
             &box_of(80_000, 0, 200_000, 100_000),
         ),
+        Room::Apart => two_parts(
+            alloc,
+            &box_of(0, 0, 100_000, 100_000),
+            &box_of(300_000, 0, 400_000, 100_000),
+        ),
         Room::Wide => polygon(
             alloc,
             &box_of(-FAR, -FAR, FAR, FAR),
@@ -179,7 +187,7 @@ fn drawn(alloc: Global, which: Room) -> Result<Shape, AllocError>
 }
 
 /// A position as a spot.
-fn spot_of(place: (i64, i64)) -> Spot
+pub(crate) fn spot_of(place: (i64, i64)) -> Spot
     ensures { IsInDoubledBox result }
 {
     let p = at(place);
@@ -190,7 +198,7 @@ fn spot_of(place: (i64, i64)) -> Spot
 }
 
 /// By a look at every wall.
-fn sees(room: &Shape, t: u32, a: Spot, b: Spot) -> bool
+pub(crate) fn sees(room: &Shape, t: u32, a: Spot, b: Spot) -> bool
     requires room { All IsInBox (vertices room.now) }
     requires from { IsInDoubledBox a }
     requires to { IsInDoubledBox b }
@@ -245,41 +253,173 @@ fn fourfold(alloc: Global, room: &Shape) -> Result<Shape, AllocError>
 fn who_sees_whom(rt: HostRuntime) -> Result<(), Fail> {
     let alloc = rt.alloc();
     let table = [
-        (Room::Ell, 1_000, (350_000, 50_000), (50_000, 350_000), false),
-        (Room::Ell, 1_000, (350_000, 50_000), (100_000, 100_000), true),
-        (Room::Ell, 1_000, (200_000, 200_000), (350_000, 50_000), false),
-        (Room::Ell, 1_000, (200_000, 200_000), (50_000, 350_000), false),
-        (Room::Ell, 1_000, (200_000, 200_000), (100_000, 100_000), false),
-        (Room::Ell, 5_000, (50_000, 150_000), (150_000, 50_000), false),
+        (
+            Room::Ell,
+            1_000,
+            (350_000, 50_000),
+            (50_000, 350_000),
+            false,
+        ),
+        (
+            Room::Ell,
+            1_000,
+            (350_000, 50_000),
+            (100_000, 100_000),
+            true,
+        ),
+        (
+            Room::Ell,
+            1_000,
+            (200_000, 200_000),
+            (350_000, 50_000),
+            false,
+        ),
+        (
+            Room::Ell,
+            1_000,
+            (200_000, 200_000),
+            (50_000, 350_000),
+            false,
+        ),
+        (
+            Room::Ell,
+            1_000,
+            (200_000, 200_000),
+            (100_000, 100_000),
+            false,
+        ),
+        (
+            Room::Ell,
+            5_000,
+            (50_000, 150_000),
+            (150_000, 50_000),
+            false,
+        ),
         (Room::Ell, 5_000, (50_000, 140_000), (140_000, 50_000), true),
         (Room::Ell, 5_000, (97_000, 103_000), (103_000, 97_000), true),
-        (Room::Ell, 5_000, (96_000, 104_000), (104_000, 96_000), false),
+        (
+            Room::Ell,
+            5_000,
+            (96_000, 104_000),
+            (104_000, 96_000),
+            false,
+        ),
         (Room::Ell, 5_000, (50_000, 50_000), (50_000, 50_000), true),
-        (Room::Ell, 5_000, (200_000, 200_000), (200_000, 200_000), false),
-        (Room::Court, 1_000, (50_000, 200_000), (350_000, 200_000), false),
-        (Room::Court, 1_000, (50_000, 150_000), (350_000, 150_000), false),
-        (Room::Court, 1_000, (50_000, 140_000), (350_000, 140_000), true),
-        (Room::Square, 1_000, (101_000, 50_000), (50_000, 50_000), true),
-        (Room::Square, 1_000, (101_001, 50_000), (50_000, 50_000), false),
+        (
+            Room::Ell,
+            5_000,
+            (200_000, 200_000),
+            (200_000, 200_000),
+            false,
+        ),
+        (
+            Room::Court,
+            1_000,
+            (50_000, 200_000),
+            (350_000, 200_000),
+            false,
+        ),
+        (
+            Room::Court,
+            1_000,
+            (50_000, 150_000),
+            (350_000, 150_000),
+            false,
+        ),
+        (
+            Room::Court,
+            1_000,
+            (50_000, 140_000),
+            (350_000, 140_000),
+            true,
+        ),
+        (
+            Room::Square,
+            1_000,
+            (101_000, 50_000),
+            (50_000, 50_000),
+            true,
+        ),
+        (
+            Room::Square,
+            1_000,
+            (101_001, 50_000),
+            (50_000, 50_000),
+            false,
+        ),
         (Room::Jambs, 9_999, (100_000, 0), (300_000, 0), false),
         (Room::Jambs, 10_000, (100_000, 0), (300_000, 0), true),
         (Room::Jambs, 0, (100_000, 0), (300_000, 100_000), true),
         (Room::Fin, 5_000, (194_000, 50_000), (206_000, 50_000), true),
-        (Room::Fin, 5_000, (100_000, 50_000), (300_000, 50_000), false),
+        (
+            Room::Fin,
+            5_000,
+            (100_000, 50_000),
+            (300_000, 50_000),
+            false,
+        ),
         (Room::Fin, 5_000, (198_000, 50_000), (300_000, 50_000), true),
-        (Room::Fin, 5_000, (195_000, 50_000), (300_000, 50_000), false),
-        (Room::Fin, 1_000, (197_000, 50_000), (203_000, 50_000), false),
-        (Room::Spike, 5_000, (100_000, 50_000), (300_000, 50_000), false),
-        (Room::Spike, 5_000, (100_000, 150_000), (300_000, 150_000), false),
-        (Room::Spike, 5_000, (100_000, 180_000), (300_000, 180_000), true),
+        (
+            Room::Fin,
+            5_000,
+            (195_000, 50_000),
+            (300_000, 50_000),
+            false,
+        ),
+        (
+            Room::Fin,
+            1_000,
+            (197_000, 50_000),
+            (203_000, 50_000),
+            false,
+        ),
+        (
+            Room::Spike,
+            5_000,
+            (100_000, 50_000),
+            (300_000, 50_000),
+            false,
+        ),
+        (
+            Room::Spike,
+            5_000,
+            (100_000, 150_000),
+            (300_000, 150_000),
+            false,
+        ),
+        (
+            Room::Spike,
+            5_000,
+            (100_000, 180_000),
+            (300_000, 180_000),
+            true,
+        ),
         (Room::Kite, 5_000, (100_000, 0), (300_000, 0), false),
         (Room::Kite, 5_000, (100_000, 0), (200_000, 0), true),
         (Room::Kite, 5_000, (100_000, 10_000), (200_000, 0), true),
         (Room::Niche, 0, (150_000, 0), (250_000, 0), true),
-        (Room::Pair, 5_000, (50_000, 50_000), (150_000, 50_000), false),
+        (
+            Room::Pair,
+            5_000,
+            (50_000, 50_000),
+            (150_000, 50_000),
+            false,
+        ),
         (Room::Pair, 5_000, (50_000, 50_000), (100_000, 50_000), true),
-        (Room::Overlap, 5_000, (50_000, 50_000), (150_000, 50_000), false),
-        (Room::Overlap, 5_000, (50_000, 50_000), (100_000, 50_000), false),
+        (
+            Room::Overlap,
+            5_000,
+            (50_000, 50_000),
+            (150_000, 50_000),
+            false,
+        ),
+        (
+            Room::Overlap,
+            5_000,
+            (50_000, 50_000),
+            (100_000, 50_000),
+            false,
+        ),
     ];
     for (which, t, from, to, want) in table {
         let shape = drawn(alloc, which)?;
@@ -302,13 +442,7 @@ fn place(k: i64, corner: i64, step: i64) -> (i64, i64) {
     )
 }
 
-fn assert_alike(
-    rt: &impl Abort,
-    shape: &Shape,
-    bands: &Bands,
-    corner: i64,
-    step: i64,
-)
+fn assert_alike(rt: &impl Abort, shape: &Shape, bands: &Bands, corner: i64, step: i64)
     requires shape { All IsInBox (vertices shape.now) }
     requires bands { All IsInWideBox (vertices bands.now) }
 {
