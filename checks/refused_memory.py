@@ -339,6 +339,7 @@ COMMANDS = [
     Command("price", "price", "examples/table"),
     Command("verify", "verify", "examples/table"),
     Command("check", "check", "examples", "station"),
+    Command("canon", "canon", "examples", "station", "unit.geojson"),
     Command("links", "links", "examples", "station", "wheelchair"),
     Command("route", "route", "examples", "station", "wheelchair", BAKERY, TICKETS),
     Command("route without a way", "route", "examples", "nolift", "wheelchair", BAKERY, NO_WAY),
