@@ -4,8 +4,8 @@ use std::alloc::{AllocError, Global};
 use std::process::Abort;
 use std::test::Fail;
 use venue_types::{
-    Bytes, Extras, FeatureId, Inside, Label, List, Profile, ProfileSet, Settings, Text, profile_set_law,
-    push_reserved, reserve,
+    Bytes, Extras, FeatureId, Inside, Label, List, Profile, ProfileSet, Settings, Text,
+    profile_set_law, push_reserved, reserve,
 };
 
 // Of three profiles 0 and 2 are the set 5.

@@ -113,8 +113,16 @@ static ROWS: [(&str, u8, &str); 48] = [
     ("kx = 1\nky = 1\ninside = \"clear \"\n", 4, "inside"),
     ("kx = 1\nky = 1\ninside = true\n", 3, "inside"),
     ("kx = 1\nky = 1\ninside = [\"clear\"]\n", 3, "inside"),
-    ("kx = 1\nky = 1\ninside = \"a\"\ncontain_tol = -1\n", 4, "contain_tol"),
-    ("kx = 1\nky = 1\nelevator_extra = -1\ninside = \"a\"\n", 4, "inside"),
+    (
+        "kx = 1\nky = 1\ninside = \"a\"\ncontain_tol = -1\n",
+        4,
+        "contain_tol",
+    ),
+    (
+        "kx = 1\nky = 1\nelevator_extra = -1\ninside = \"a\"\n",
+        4,
+        "inside",
+    ),
     ("kx = 1\nky = 1\ninsides = \"clear\"\n", 5, "insides"),
     ("kx = 1\nky = 1\nramp_extra = 1000001\n", 4, "ramp_extra"),
     ("kx = 1\nky = 1\nlast_version = 0\n", 4, "last_version"),

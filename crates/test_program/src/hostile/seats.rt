@@ -17,7 +17,10 @@ use std::sync::{Arc, Wait};
 use std::test::Fail;
 use test_station::{Change as Edits, folder_files, station_settings};
 use venue_ports::{Failed, Folders, MemoryStream, Stream};
-use venue_program::{Copies, End, Hall, HallName, Opened, Seat, close_hall, open_hall, opening_entries, serve_session};
+use venue_program::{
+    Copies, End, Hall, HallName, Opened, Seat, close_hall, open_hall, opening_entries,
+    serve_session,
+};
 use venue_types::{Change, Text};
 use venue_wire::Front;
 
