@@ -39,15 +39,21 @@ stands kind.Line item f h = h
 stands kind.Shape item f h = h
 stands kind.Unjudged item f h = h
 
--- an item of which no rule is broken is judged
-sound_judged : (f : File) (i : ℕ) (item : Json) → ((x : Finding) → ¬ FindsInItem f i item x) → is_judged f item ≡ true
-sound_judged f i item sound = elim (cases_Bool (is_feature item)) [
+-- an item of which no rule is broken is a feature
+pub sound_feature : (f : File) (i : ℕ) (item : Json) → ((x : Finding) → ¬ FindsInItem f i item x) → is_feature item ≡ true
+sound_feature f i item sound = elim (cases_Bool (is_feature item)) [
+  | inl feature ↦ feature
   | inr not ↦ absurd (sound (finding_at (rule_of C2) f i 0) (record { rule = C2; finds = record { breaks = (not, refl); is = refl } }))
-  | inl feature ↦ elim (cases_Bool (fits_geometry (geometry_of f) (geometry item))) [
-    | inr unfit ↦ absurd (sound (finding_at (rule_of C5) f i 0) (record { rule = C5; finds = record { breaks = (feature, unfit, refl); is = refl } }))
-    | inl fits ↦ ap (λ (b : Bool). b && fits_geometry (geometry_of f) (geometry item)) feature ∙ fits
-  ]
 ]
+
+-- and it is judged
+sound_judged : (f : File) (i : ℕ) (item : Json) → ((x : Finding) → ¬ FindsInItem f i item x) → is_judged f item ≡ true
+sound_judged f i item sound =
+    let feature = sound_feature f i item sound in
+    elim (cases_Bool (fits_geometry (geometry_of f) (geometry item))) [
+      | inr unfit ↦ absurd (sound (finding_at (rule_of C5) f i 0) (record { rule = C5; finds = record { breaks = (feature, unfit, refl); is = refl } }))
+      | inl fits ↦ ap (λ (b : Bool). b && fits_geometry (geometry_of f) (geometry item)) feature ∙ fits
+    ]
 
 -- and its geometry stands for the figure that was read
 pub sound_figure : (f : File) (i : ℕ) (item : Json) (j : Judged) → IsJudged f item j → ((x : Finding) → ¬ FindsInItem f i item x) → HasFigure (geometry_of f) item j.figure

@@ -1,11 +1,13 @@
 //! The items of a feature file: judged, noted, and made rows, one after the other.
 
-ghost use Rattle.std.specs.Prelude.{◌≡◌, ◌≤◌, ◌^◌, ◌-◌, ◌++◌, ◌∷◌, [], OnOk, IfOk, List, length, map, min};
+ghost use Rattle.std.specs.Prelude.{◌≡◌, ◌≤◌, ◌^◌, ◌-◌, ◌++◌, ◌∷◌, [], OnOk, IfOk, List, length, map, min, true};
 ghost use Rattle.std.specs.List.{AllZip};
 ghost use Rattle.exact_json.specs.Json.{Json, HasTexts};
 ghost use Rattle.exact_json.specs.View.{tree_view};
 ghost use Rattle.venue_types.specs.declared.finding.Finding.{Finding as AFinding};
 ghost use Rattle.venue_types.specs.FolderFiles.{geometry_of};
+ghost use Rattle.imdf_schema.specs.Items.{is_feature as feature_is};
+ghost use Rattle.imdf_rows.specs.Figures.{HasFigure};
 ghost use Rattle.imdf_read.specs.Counts.{item_positions};
 ghost use Rattle.rule_reports.specs.Passes.{Adds};
 ghost use Rattle.imdf_read.specs.Gathering.{FindsInItem, FindsInItems, NotesInItem, NotesInItems, IsShort};
@@ -15,8 +17,8 @@ use crate::figures::Judged;
 use crate::item::judge_item;
 use crate::note_rules::judge_notes;
 use exact_json::Tree;
-use imdf_rows::{FeatureRow, push_row};
-use imdf_schema::{FeatureAt, File};
+use imdf_rows::{FeatureRow, Figure, push_row};
+use imdf_schema::{FeatureAt, File, is_feature};
 use std::alloc::Global;
 use venue_types::{Finding, Note, OutOfMemory};
 
@@ -25,6 +27,23 @@ use venue_types::{Finding, Note, OutOfMemory};
 pub(crate) struct Gathered {
     pub findings: Vec<Finding>,
     pub notes: Vec<Note>,
+}
+
+// The row of a feature. No row is promised of an item that is none, and many such rows take memory for nothing.
+fn take_row<R: FeatureRow>(
+    alloc: Global,
+    rows: &mut Vec<R>,
+    item: &Tree,
+    figure: Figure,
+) -> Result<(), OutOfMemory>
+    ensures { OnOk result ((items : List Json) → AllZip R.is_row items rows.old.items → HasTexts (tree_view item.now)
+        → feature_is (tree_view item.now) ≡ true → HasFigure R.geometry (tree_view item.now) figure
+        → AllZip R.is_row (items ++ tree_view item.now ∷ []) rows.new.items) }
+{
+    if !is_feature(item) {
+        return Ok(());
+    }
+    push_row(alloc, rows, item, figure)
 }
 
 // One item, and how many positions its geometry has.
@@ -52,7 +71,7 @@ fn take_item<R: FeatureRow>(
         longest: _,
     } = judge_item(alloc, &mut gathered.findings, place, item)?;
     judge_notes(&mut gathered.notes, place, item)?;
-    push_row(alloc, rows, item, figure)?;
+    take_row(alloc, rows, item, figure)?;
     Ok(positions)
 }
 
