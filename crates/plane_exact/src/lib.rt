@@ -24,6 +24,6 @@ pub use rays::{inside, inside_ring, is_odd_at_chain};
 pub use scaling::scaled;
 pub use segments::{crosses, near_edge, side};
 pub use sight_laws::{scale_law, sees_law, sight_law, sight_turn_law};
-pub use sights::sight;
+pub use sights::{middle_between, sight};
 pub use turns::corners;
-pub use walls::{Wall, stops};
+pub use walls::{Wall, edge_stops, stops, vertex_stops};

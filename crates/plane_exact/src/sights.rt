@@ -66,8 +66,8 @@ fn way_of(a: Spot, b: Spot, t: u32) -> Way
     }
 }
 
-// The middle of the way.
-fn middle_between(a: Spot, b: Spot) -> Point
+/// The middle of the way from `a` to `b`, where it lies among points of which all numbers are taken four times.
+pub fn middle_between(a: Spot, b: Spot) -> Point
     requires start { IsInRange (at_spot a) }
     requires end { IsInRange (at_spot b) }
     ensures { result ≡ middle_of a b }

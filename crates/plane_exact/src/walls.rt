@@ -33,8 +33,8 @@ pub fn stops(wall: Wall, a: Point, b: Point, t: u32) -> bool
     }
 }
 
-// Whether the edge does.
-fn edge_stops(from: Point, to: Point, a: Point, b: Point, t: u32) -> bool
+/// Whether the edge stops the way from `a` to `b`: the way crosses it, and both `a` and `b` are farther than `t` from it.
+pub fn edge_stops(from: Point, to: Point, a: Point, b: Point, t: u32) -> bool
     requires near { AllNearby (a ∷ b ∷ from ∷ to ∷ []) }
     requires tolerance { t ≤ 4000000 }
     ensures { IsTrue result ↔ Stops (wall.Edge from to) a b t }
@@ -42,8 +42,8 @@ fn edge_stops(from: Point, to: Point, a: Point, b: Point, t: u32) -> bool
     crosses(a, b, from, to) && !has_end_near_edge(a, b, from, to, t)
 }
 
-// Whether the vertex does.
-fn vertex_stops(v: Point, a: Point, b: Point, t: u32) -> bool
+/// Whether the vertex `v` stops the way from `a` to `b`: it lies on the way, and both `a` and `b` are farther than `t` from it.
+pub fn vertex_stops(v: Point, a: Point, b: Point, t: u32) -> bool
     requires near { AllNearby (a ∷ b ∷ v ∷ []) }
     requires tolerance { t ≤ 4000000 }
     ensures { IsTrue result ↔ Stops (wall.Vertex v) a b t }

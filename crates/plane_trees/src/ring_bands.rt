@@ -1,9 +1,9 @@
 //! A ring made ready for many questions, and whether a ring crosses itself.
 
-ghost use Rattle.std.specs.Prelude.{◌≡◌, ◌∷◌, ◌≤◌, ◌%◌, ◌↔◌, IsTrue, IfOk, IfSome, IfNone, Contains};
+ghost use Rattle.std.specs.Prelude.{◌≡◌, [], ◌∷◌, ◌≤◌, ◌%◌, ◌↔◌, IsTrue, IfOk, IfSome, IfNone, Contains};
 ghost use Rattle.plane_exact.specs.Figure.{AllNearby, edges, crossings, IsNearSome, HaveCrossing};
 ghost use Rattle.plane_trees.specs.Octagons.{IsRound};
-ghost use Rattle.plane_trees.specs.Trees.{IsClosedRing, IsObstacle, IsFree};
+ghost use Rattle.plane_trees.specs.Trees.{run_points, run_edges, IsSound, IsClosedRing, IsObstacle, IsFree};
 
 use crate::octagons::{NOTHING, Octagon, octagon_of};
 use crate::run_borders::is_near_run;
@@ -66,18 +66,9 @@ impl<'a> RingBands<'a> {
         requires { AllNearby (p ∷ self.now.points) }
         ensures { IsTrue result ↔ (crossings p (edges self.now.points) % 2 ≡ 1) }
     {
-        let ring = self.ring;
-        match ring.points.as_slice() {
-            [] => false,
-            [first, rest @ ..] => {
-                let run = Run {
-                    start: *first,
-                    rest,
-                    depth: self.depth,
-                    octagons: self.octagons.as_slice(),
-                };
-                is_odd_at_run(&Asked::of(*first, p), run)
-            }
+        match self.whole_run() {
+            None => false,
+            Some(run) => is_odd_at_run(&Asked::of(run.start, p), run),
         }
     }
 
@@ -87,18 +78,9 @@ impl<'a> RingBands<'a> {
         requires tolerance { t ≤ 4000000 }
         ensures { IsTrue result ↔ IsNearSome p t (edges self.now.points) }
     {
-        let ring = self.ring;
-        match ring.points.as_slice() {
-            [] => false,
-            [first, rest @ ..] => {
-                let run = Run {
-                    start: *first,
-                    rest,
-                    depth: self.depth,
-                    octagons: self.octagons.as_slice(),
-                };
-                is_near_run(&Asked::of(*first, p), run, t)
-            }
+        match self.whole_run() {
+            None => false,
+            Some(run) => is_near_run(&Asked::of(run.start, p), run, t),
         }
     }
 
@@ -109,25 +91,37 @@ impl<'a> RingBands<'a> {
         ensures found { IfSome result (λ wall. IsObstacle (edges self.now.points) self.now.points a b t wall) }
         ensures none { IfNone result (IsFree (edges self.now.points) self.now.points a b t) }
     {
-        let ring = self.ring;
-        match ring.points.as_slice() {
-            [] => None,
-            [first, rest @ ..] => {
-                let run = Run {
-                    start: *first,
-                    rest,
-                    depth: self.depth,
-                    octagons: self.octagons.as_slice(),
-                };
+        match self.whole_run() {
+            None => None,
+            Some(run) => {
                 let way = Way {
                     start: a,
                     end: b,
                     tolerance: t,
-                    origin: *first,
-                    octagon: octagon_of(*first, a, &[b]),
+                    origin: run.start,
+                    octagon: octagon_of(run.start, a, &[b]),
                 };
                 wall_of_run(&way, run)
             }
+        }
+    }
+
+    // The run of all edges, or nothing where the ring has no point.
+    fn whole_run(&self) -> Option<Run<'_>>
+        ensures none { IfNone result (self.now.points ≡ []) }
+        ensures points { IfSome result (λ run. run_points run ≡ self.now.points) }
+        ensures edges { IfSome result (λ run. run_edges run ≡ edges self.now.points) }
+        ensures sound { IfSome result (λ run. IsSound run.start run) }
+    {
+        let ring = self.ring;
+        match ring.points.as_slice() {
+            [] => None,
+            [first, rest @ ..] => Some(Run {
+                start: *first,
+                rest,
+                depth: self.depth,
+                octagons: self.octagons.as_slice(),
+            }),
         }
     }
 

@@ -6,7 +6,7 @@ ghost use Rattle.plane_trees.specs.Trees.{run_points, run_edges, IsSound, IsRoun
 
 use crate::octagons::Octagon;
 use crate::runs::{Run, halves};
-use plane_exact::{Wall, stops};
+use plane_exact::{Wall, edge_stops, vertex_stops};
 use venue_types::Point;
 
 /// A straight way that runs are asked about, with its octagon, counted from their origin. No wall stops it that comes within the
@@ -60,7 +60,7 @@ fn wall_of_chain(way: &Way, start: Point, rest: &[Point]) -> Option<Wall>
     ensures found { IfSome result (λ wall. IsObstacle (edges_from start rest.now) (start ∷ rest.now) way.now.start way.now.end way.now.tolerance wall) }
     ensures none { IfNone result (IsFree (edges_from start rest.now) (start ∷ rest.now) way.now.start way.now.end way.now.tolerance) }
 {
-    if stops(Wall::Vertex(start), way.start, way.end, way.tolerance) {
+    if vertex_stops(start, way.start, way.end, way.tolerance) {
         return Some(Wall::Vertex(start));
     }
     wall_behind(way, start, rest)
@@ -90,10 +90,10 @@ fn wall_of_step(way: &Way, from: Point, to: Point) -> Option<Wall>
     ensures found { IfSome result (λ wall. IsObstacle (edges_from from (to ∷ [])) (to ∷ []) way.now.start way.now.end way.now.tolerance wall) }
     ensures none { IfNone result (IsFree (edges_from from (to ∷ [])) (to ∷ []) way.now.start way.now.end way.now.tolerance) }
 {
-    if stops(Wall::Edge(from, to), way.start, way.end, way.tolerance) {
+    if edge_stops(from, to, way.start, way.end, way.tolerance) {
         return Some(Wall::Edge(from, to));
     }
-    if stops(Wall::Vertex(to), way.start, way.end, way.tolerance) {
+    if vertex_stops(to, way.start, way.end, way.tolerance) {
         return Some(Wall::Vertex(to));
     }
     None

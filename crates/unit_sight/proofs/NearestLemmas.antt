@@ -1,8 +1,8 @@
--- The nearest of some members: which it is, and how a loop from the front finds it.
-use Rattle.std.proofs.Common.{◌≡◌, ◌⊎◌, ◌↔◌, ℕ, ◌<◌, ◌≤◌, suc, true, false, cond, ◌&&◌, ◌==◌, nat_lt, List, [], ◌∷◌, ◌++◌, length, Option, Some, None, All, refl, sym, ap, subst, ◌∙◌, arith, inl, inr}
+-- The nearest of some members.
+use Rattle.std.proofs.Common.{◌≡◌, ◌⊎◌, ◌↔◌, ℕ, ◌<◌, ◌≤◌, suc, true, false, ◌&&◌, ◌==◌, nat_lt, List, [], ◌∷◌, length, Option, Some, None, All, refl, sym, ap, subst, ◌∙◌, arith, inl, inr}
 use Rattle.std.specs.Prelude.{Contains, MatchOption}
 use Rattle.std.proofs.lemmas.Bool.{cases_order, cond_both, or_cases, or_left, or_right, and_parts, and_from, ltb-true, lt-ltb, eqb-true, eq-eqb}
-use Rattle.std.proofs.lemmas.List.Elements.{All-cons, All-contains, All-nil, All-push, Contains-append_left, Contains-push}
+use Rattle.std.proofs.lemmas.List.Elements.{All-cons, All-contains, All-nil}
 use Rattle.unit_sight.specs.Joined.{is_nearer, nearer, nearest}
 
 -- ---- which of two is nearer
@@ -112,26 +112,3 @@ nearest_none far xs = (
   (λ e. subst (λ (o : Option ℕ). MatchOption o (xs ≡ []) (IsFirst far xs)) e (nearest_is far xs)),
   (λ empty. ap (nearest far) empty),
 )
-
--- ---- one member more behind
-
--- the nearer of the nearest so far and of the next member
-abbrev pub nearest_so_far : (ℕ → ℕ) → Option ℕ → ℕ → ℕ
-nearest_so_far far None x = x
-nearest_so_far far (Some b) x = cond (is_nearer far x b) x b
-
-first_push : (far : ℕ → ℕ) (xs : List ℕ) (x : ℕ) (o : Option ℕ) → MatchOption o (xs ≡ []) (IsFirst far xs) → IsFirst far (xs ++ x ∷ []) (nearest_so_far far o x)
-first_push far xs x None empty = subst (λ (ys : List ℕ). IsFirst far (ys ++ x ∷ []) x) (sym empty) (first_alone far x)
-first_push far xs x (Some b) first =
-    cond_both (is_nearer far x b) x b (IsFirst far (xs ++ x ∷ []))
-    (λ h. record {
-      has = Contains-push xs x;
-      least = All-push (IsNoFurther far x) xs x (first_lower far xs b x first.least (nearer_true far x b h).0) (no_further_itself far x);
-    })
-    (λ h. record {
-      has = Contains-append_left xs (x ∷ []) b first.has;
-      least = All-push (IsNoFurther far b) xs x first.least (nearer_false far x b h);
-    })
-
-pub nearest_push : (far : ℕ → ℕ) (xs : List ℕ) (x : ℕ) → nearest far (xs ++ x ∷ []) ≡ Some (nearest_so_far far (nearest far xs) x)
-nearest_push far xs x = (nearest_first far (xs ++ x ∷ []) _).1 (first_push far xs x (nearest far xs) (nearest_is far xs))

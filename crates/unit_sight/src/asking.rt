@@ -5,12 +5,12 @@ ghost use Rattle.venue_types.specs.declared.point.Shape.{Shape};
 ghost use Rattle.plane_exact.specs.Plane.{IsInRange};
 ghost use Rattle.plane_exact.specs.Figure.{AllNearby, vertices, IsInside, IsNear};
 ghost use Rattle.plane_exact.specs.Scaled.{times, scaled};
-ghost use Rattle.plane_exact.specs.Sight.{at_spot, middle_of};
+ghost use Rattle.plane_exact.specs.Sight.{at_spot};
 ghost use Rattle.plane_exact.specs.Seeing.{does_see};
 ghost use Rattle.plane_exact.specs.Walls.{IsWallOf, Stops, wall_points};
 ghost use Rattle.plane_exact.specs.declared.walls.Wall.{Wall};
 
-use plane_exact::{Wall, stops};
+use plane_exact::{Wall, middle_between, stops};
 use plane_trees::Bands;
 use venue_types::{Point, Spot};
 
@@ -25,7 +25,8 @@ pub(crate) fn sees(bands: &Bands, a: Spot, b: Spot, t: u32, last: &mut Option<Wa
     ensures wall { IfSome last.new (λ wall. IsWallOf bands.now wall) }
     ensures told { (shape : Shape) → bands.now ≡ scaled 4 shape → result ≡ does_see a b shape t }
 {
-    is_free(bands, doubled(a), doubled(b), 4 * t, last) && is_held(bands, middle(a, b), 4 * t)
+    is_free(bands, doubled(a), doubled(b), 4 * t, last)
+        && is_held(bands, middle_between(a, b), 4 * t)
 }
 
 // Whether no wall stops the way. A wall that does is kept in `last`.
@@ -77,17 +78,5 @@ fn doubled(a: Spot) -> Point
     Point {
         x: 2 * a.x,
         y: 2 * a.y,
-    }
-}
-
-// The middle of the two, among the same.
-fn middle(a: Spot, b: Spot) -> Point
-    requires start { IsInRange (at_spot a) }
-    requires end { IsInRange (at_spot b) }
-    ensures { result ≡ middle_of a b }
-{
-    Point {
-        x: a.x + b.x,
-        y: a.y + b.y,
     }
 }

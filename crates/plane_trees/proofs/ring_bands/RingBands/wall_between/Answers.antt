@@ -1,7 +1,7 @@
-use Rattle.std.proofs.Common.{ap, ◌∙◌}
-use Rattle.venue_types.specs.declared.point.Ring.{Ring}
+use Rattle.std.proofs.Common.{arith}
+use Rattle.plane_trees.specs.Trees.{run_points}
 use Rattle.plane_trees.proofs.WallLemmas.{near_first}
 use Rattle.plane_trees.proofs.ring_bands.RingBands.wall_between.Goals as goal
 
 pub octagon_of-requires : goal.octagon_of-requires
-octagon_of-requires c = near_first c.args.a c.args.b _ c.args.self.now.points c.as_slice.result.now (c.as_slice.ensures ∙ ap (λ (ring : Ring). ring.points) c.self.view_is) c.in-len1-up.len_at_least c.requires.near
+octagon_of-requires c = near_first c.args.a c.args.b c.args.a c.args.self.now.points (run_points c.in-Some.run') c.in-Some.ensures.points (omega arith) c.requires.near
