@@ -1,5 +1,5 @@
 -- The links across units by the members between which one walks, and the links by relationships.
-use Rattle.std.specs.Prelude.{◌≡◌, ℕ, ◌<◌, ◌≤◌, List, [], ◌∷◌, length, map, filter, All, if◌then◌else◌}
+use Rattle.std.specs.Prelude.{◌≡◌, ◌≢◌, ℕ, ◌<◌, ◌≤◌, ◌==◌, List, [], ◌∷◌, length, map, filter, All, Contains, Bool, true, not, IsTrue, if◌then◌else◌}
 use Rattle.std.specs.List.{flat_map}
 use Rattle.std.specs.List.Sorted.{IsStrictlyIncreasing}
 use Rattle.venue_types.specs.declared.link.Link.{Link}
@@ -9,12 +9,11 @@ use Rattle.link_graph.specs.declared.graph.Graph.{Graph}
 use Rattle.link_graph.specs.declared.parts.Core.{Core}
 use Rattle.link_graph.specs.declared.parts.Crossing.{Crossing}
 use Rattle.link_graph.specs.Cores.{barred_in, way_in}
-use Rattle.link_graph.specs.Links.{are_joined}
 use Rattle.link_graph.specs.Networks.{Network}
 
 -- the unit of a row
 abbrev pub unit_of : Core → Crossing → Area
-unit_of core crossing = record { via = crossing.via; kind = crossing.kind; restricted = barred_in core crossing.via }
+unit_of core crossing = record { via = crossing.via; kind = crossing.kind; restricted = barred_in core crossing.via; whole = true }
 
 -- the members of a row between which one walks: none where nobody walks through the unit
 abbrev pub walked_of : Crossing → List ℕ → List ℕ
@@ -46,14 +45,24 @@ straight graph a b = way_in graph.core a b
 abbrev pub inside_area : Graph → Area → ℕ → ℕ → Link
 inside_area graph area a b = record { from = a; to = b; via = area.via; cost = straight graph a b; kind = area.kind }
 
+-- whether one walks straight from a member of the unit to another: between any two
+unfoldable pub joined_across : Area → List ℕ → ℕ → ℕ → Bool
+joined_across area members a b = not (a == b)
+
+-- any two members of the unit are joined
+pub record IsWholeAcross (area : Area) (members : List ℕ) : Type 0 where
+  pub joined : (a b : ℕ) → Contains members a → Contains members b → a ≢ b → IsTrue (joined_across area members a b)
+
 -- the links between these members of a unit: by the first end, then by the second
 abbrev pub area_links : Graph → (Area × List ℕ) → List Link
-area_links graph area = flat_map (λ (a : ℕ). map (inside_area graph area.0 a) (filter (are_joined a) area.1)) area.1
+area_links graph area = flat_map (λ (a : ℕ). map (inside_area graph area.0 a) (filter (joined_across area.0 area.1 a) area.1)) area.1
 
--- it is a unit of what can be closed, restricted as the network says, and its members are few nodes and rise
+-- it is a unit of what can be closed, restricted as the network says, its members are few nodes and rise, and where it is told as whole any
+-- two of them are joined
 pub record IsArea (network : Network) (area : Area) (members : List ℕ) : Type 0 where
   pub via : area.via < length network.closables
   pub barred : network.barred area.via ≡ area.restricted
   pub rise : IsStrictlyIncreasing members
   pub within : All (λ (m : ℕ). m < length network.nodes) members
   pub short : length members ≤ 4096
+  pub whole : IsTrue area.whole → IsWholeAcross area members

@@ -1,5 +1,5 @@
 -- What a graph keeps, and the network that it means: the code's own machinery, which no public contract cites.
-use Rattle.std.specs.Prelude.{◌≡◌, ◌≢◌, ℕ, ◌+◌, ◌-◌, ◌<◌, ◌≤◌, ◌==◌, pos, List, [], ◌∷◌, ◌++◌, map, filter, length, All, AllPairs, Contains, sum_by, slice_get, slice_index_or, Option, Some, None, Bool, false, nat_lt, if◌then◌else◌}
+use Rattle.std.specs.Prelude.{◌≡◌, ◌≢◌, ℕ, ◌+◌, ◌-◌, ◌<◌, ◌≤◌, ◌==◌, pos, List, [], ◌∷◌, ◌++◌, map, filter, length, All, AllPairs, Contains, sum_by, slice_get, slice_index_or, Option, Some, None, Bool, false, not, IsTrue, nat_lt, if◌then◌else◌}
 use Rattle.std.specs.List.{flat_map}
 use Rattle.std.specs.List.Sorted.{IsStrictlyIncreasing}
 use Rattle.venue_types.specs.declared.feature_id.FeatureId.{FeatureId}
@@ -24,7 +24,6 @@ use Rattle.link_graph.specs.declared.parts.Seat.{Seat}
 use Rattle.link_graph.specs.declared.stretches.Stretch.{Stretch}
 use Rattle.link_graph.specs.declared.stretches.Way.TheVariants.{Inside, Between}
 use Rattle.link_graph.specs.Lengths.{length_between}
-use Rattle.link_graph.specs.Links.{are_joined}
 use Rattle.link_graph.specs.Networks.{Network}
 
 -- ---- the links
@@ -39,9 +38,21 @@ way_in core a b = length_between (spot_in core a) (spot_in core b) core.kx core.
 abbrev pub link_across : Core → Crossing → ℕ → ℕ → Link
 link_across core crossing a b = record { from = a; to = b; via = crossing.via; cost = way_in core a b; kind = crossing.kind }
 
--- the links from a member of a row to its others
+-- whether one walks straight from a member of the row of a unit to another: between any two
+unfoldable pub joined_in : Crossing → List ℕ → ℕ → ℕ → Bool
+joined_in crossing row a b = not (a == b)
+
+-- every number but this one
+abbrev pub other_than : ℕ → ℕ → Bool
+other_than a b = not (a == b)
+
+-- any two members of the row are joined
+pub record IsWholeIn (crossing : Crossing) (row : List ℕ) : Type 0 where
+  pub joined : (a b : ℕ) → Contains row a → Contains row b → a ≢ b → IsTrue (joined_in crossing row a b)
+
+-- the links from a member of a row to those with which it is joined
 abbrev pub links_across_from : Core → Crossing → List ℕ → ℕ → List Link
-links_across_from core crossing row a = map (link_across core crossing a) (filter (are_joined a) row)
+links_across_from core crossing row a = map (link_across core crossing a) (filter (joined_in crossing row a) row)
 
 -- the links across the unit of a row, where one walks through it
 abbrev pub links_across : Core → Crossing → List ℕ → List Link
@@ -161,6 +172,7 @@ pub record IsSoundCore (core : Core) : Type 0 where
   pub squares : sum_by square_of (row_list core.rows) ≤ 20000000
   pub paired : length core.crossings.items ≡ length (row_list core.rows)
   pub crossings : All (IsCrossing core) core.crossings.items
+  pub whole : (w : ℕ) (crossing : Crossing) (row : List ℕ) → slice_get core.crossings.items w ≡ Some crossing → slice_get (row_list core.rows) w ≡ Some row → IsWholeIn crossing row
   pub units_last : core.first_unit ≤ length (closable_list core.nodes)
   pub apart : IsStrictlyIncreasing (map (λ (crossing : Crossing). crossing.via) core.crossings.items)
   pub passages : All (IsPassage core) core.passages.items
@@ -170,6 +182,7 @@ pub record IsSoundCore (core : Core) : Type 0 where
   pub barred : length core.barred.items ≡ length (closable_list core.nodes)
   pub numbered : (id : FeatureId) → find_closable core.nodes id ≡ number_among (closable_list core.nodes) id
   pub once : AllPairs (λ a b. a ≢ b) (closable_list core.nodes)
+  pub few_nodes : length (node_list core.nodes) ≤ 400000
   pub close : (a b : Node) → Contains (node_list core.nodes) a → Contains (node_list core.nodes) b → IsCloseDoubled a.spot b.spot
   pub kx_range : core.kx ≤ 20000000
   pub ky_range : core.ky ≤ 20000000

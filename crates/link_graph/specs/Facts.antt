@@ -6,6 +6,7 @@ use Rattle.venue_types.specs.declared.features.UnitRow.{UnitRow}
 use Rattle.venue_types.specs.declared.link.Link.{Link}
 use Rattle.venue_types.specs.declared.link.LinkFacts.{LinkFacts}
 use Rattle.venue_types.specs.declared.link.Node.{Node}
+use Rattle.venue_types.specs.declared.settings.Settings.{Settings}
 use Rattle.imdf_access.specs.Access.{End, facts_of}
 use Rattle.imdf_access.specs.Access as access
 use Rattle.venue_nodes.specs.Nodes.{NodeRow, amenity, anchor, opening, unit, node_rows, nodes, closables}
@@ -18,16 +19,16 @@ end_of (anchor row) = access.elsewhere
 end_of (opening row) = access.opening row
 end_of (unit row) = access.unit row
 
-abbrev pub end_at : Features → ℕ → End
-end_at features n = elim (slice_get (node_rows features) n) [ None ↦ access.elsewhere | Some row ↦ end_of row ]
+abbrev pub end_at : Features → Settings → ℕ → End
+end_at features settings n = elim (slice_get (node_rows features settings) n) [ None ↦ access.elsewhere | Some row ↦ end_of row ]
 
 -- the unit of this closable number, if it is that of a unit
 abbrev pub unit_by : Features → ℕ → Option UnitRow
 unit_by features via = (if nat_lt via (first_unit features) then None else slice_get features.units (via - first_unit features))
 
 -- what a link asks of who uses it
-unfoldable pub facts_at : Features → Link → LinkFacts
-facts_at features link = facts_of link.kind (unit_by features link.via) (end_at features link.from) (end_at features link.to)
+unfoldable pub facts_at : Features → Settings → Link → LinkFacts
+facts_at features settings link = facts_of link.kind (unit_by features link.via) (end_at features settings link.from) (end_at features settings link.to)
 
 -- the feature of a node is closed, of these nodes
 abbrev pub IsNodeClosed : List Node → List FeatureId → ℕ → Type 0
@@ -44,5 +45,5 @@ pub record IsOpenAmong (nodes : List Node) (closables closed : List FeatureId) (
   pub finish : ¬ IsNodeClosed nodes closed link.to
 
 -- neither the way of a link nor the feature at either end is closed
-abbrev pub IsOpen : Features → List FeatureId → Link → Type 0
-IsOpen features closed link = IsOpenAmong (nodes features) (closables features) closed link
+abbrev pub IsOpen : Features → Settings → List FeatureId → Link → Type 0
+IsOpen features settings closed link = IsOpenAmong (nodes features settings) (closables features) closed link

@@ -11,8 +11,8 @@ use Rattle.link_graph.specs.Links.{are_joined, has_links, way}
 -- one walks in the unit, and the link leads straight from one of its members to another, as far as the way is and of the unit's kind
 pub record GoesInside (features : Features) (settings : Settings) (u : UnitRow) (link : Link) : Type 0 where
   pub walked : IsTrue (has_links u)
-  pub start : Contains (members features settings.border_tol u) link.from
-  pub finish : Contains (members features settings.border_tol u) link.to
-  pub joined : IsTrue (are_joined link.from link.to)
+  pub start : Contains (members features settings u) link.from
+  pub finish : Contains (members features settings u) link.to
+  pub joined : IsTrue (are_joined features settings u link.from link.to)
   pub cost : link.cost ≡ way features settings link.from link.to
   pub kind : link.kind ≡ unit_kind_of u.category

@@ -24,3 +24,4 @@ pub use Rattle.venue_nodes.specs.Rows
 pub use Rattle.venue_nodes.specs.declared.limits.Crowding
 pub use Rattle.venue_nodes.specs.Crowds
 pub use Rattle.venue_nodes.specs.Numbering
+pub mod Rests

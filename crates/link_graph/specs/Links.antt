@@ -17,12 +17,12 @@ use Rattle.venue_nodes.specs.Unplaced.{Element, elements}
 use Rattle.link_graph.specs.Lengths.{length_between}
 
 -- where a node is
-abbrev pub spot_of : Features → ℕ → Spot
-spot_of features n = elim (slice_get (nodes features) n) [ None ↦ record { x = pos 0; y = pos 0 } | Some node ↦ node.spot ]
+abbrev pub spot_of : Features → Settings → ℕ → Spot
+spot_of features settings n = elim (slice_get (nodes features settings) n) [ None ↦ record { x = pos 0; y = pos 0 } | Some node ↦ node.spot ]
 
 -- the length of the straight line from node to node, in whole centimetres rounded up
 abbrev pub way : Features → Settings → ℕ → ℕ → ℕ
-way features settings a b = length_between (spot_of features a) (spot_of features b) settings.kx settings.ky
+way features settings a b = length_between (spot_of features settings a) (spot_of features settings b) settings.kx settings.ky
 
 -- what a passage of the kind costs beside its way
 abbrev pub extra_of : Extras → Kind → ℕ
@@ -34,9 +34,9 @@ extra_of extras kinds.Ramp = extras.ramp
 extra_of extras kinds.Stairs = extras.stairs
 extra_of extras kinds.Traversal = extras.traversal
 
--- whether one walks straight from a member of a unit to another of its members: between any two
-abbrev pub are_joined : ℕ → ℕ → Bool
-are_joined a b = not (a == b)
+-- whether one walks straight from a member of the unit to another of its members: between any two
+unfoldable pub are_joined : Features → Settings → UnitRow → ℕ → ℕ → Bool
+are_joined features settings u a b = not (a == b)
 
 -- the link from member to member of the unit with this closable number
 abbrev pub inside_link : Features → Settings → ℕ → UnitRow → ℕ → ℕ → Link
@@ -44,7 +44,7 @@ inside_link features settings via u a b = record { from = a; to = b; via = via; 
 
 -- the links from a member of a unit to its others
 abbrev pub links_from : Features → Settings → ℕ → UnitRow → ℕ → List Link
-links_from features settings via u a = map (inside_link features settings via u a) (filter (are_joined a) (members features settings.border_tol u))
+links_from features settings via u a = map (inside_link features settings via u a) (filter (are_joined features settings u a) (members features settings u))
 
 -- whether it is a moving walkway, which one doesn't cross
 abbrev pub is_moving : Kind → Bool
@@ -61,7 +61,7 @@ has_links u = is_walkable u.category && not (is_moving (unit_kind_of u.category)
 
 -- the links inside a unit: by the first end, then by the second
 abbrev pub unit_links : Features → Settings → (ℕ × UnitRow) → List Link
-unit_links features settings row = (if has_links row.1 then flat_map (links_from features settings row.0 row.1) (members features settings.border_tol row.1) else [])
+unit_links features settings row = (if has_links row.1 then flat_map (links_from features settings row.0 row.1) (members features settings row.1) else [])
 
 -- the nodes of a relationship's chain, in order; an element without node is left out
 abbrev pub chain : Features → RelationshipRow → List ℕ

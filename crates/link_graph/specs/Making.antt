@@ -62,7 +62,7 @@ pub record AreClose (nodes : Nodes) : Type 0 where
 
 -- the nodes that passages are made over are those of the features, and close
 pub record IsGround (ground : Ground) : Type 0 where
-  pub nodes : AreNodes ground.features.now ground.nodes.now
+  pub nodes : AreNodes ground.features.now ground.settings.now ground.nodes.now
   pub close : AreClose ground.nodes.now
 
 -- the places that these references name
@@ -105,10 +105,10 @@ pub record AreLeaving (passages : List Link) (count : ℕ) (leaving : List (List
 
 -- it is made of these features
 pub record IsMadeOf (features : Features) (settings : Settings) (core : Core) : Type 0 where
-  pub nodes : AreNodes features core.nodes
-  pub rows : AreRowsOf features settings.border_tol core.rows
+  pub nodes : AreNodes features settings core.nodes
+  pub rows : AreRowsOf features settings core.rows
   pub crossings : core.crossings.items ≡ crossings_from (first_unit features) features.units
-  pub doors : core.doors.items ≡ map (door_of (find_closable core.nodes)) (node_rows features)
+  pub doors : core.doors.items ≡ map (door_of (find_closable core.nodes)) (node_rows features settings)
   pub passages : core.passages.items ≡ passages_from features settings (length features.openings)
   pub seats : AreSeats core.crossings.items (row_list core.rows) (length (node_list core.nodes)) core.seats.items
   pub leaving : AreLeaving core.passages.items (length (node_list core.nodes)) core.leaving.items

@@ -60,12 +60,12 @@ pub record IsPassable (network : Network) (closed : List FeatureId) (profile : P
 
 -- the network is that of these features
 pub record IsNetworkOf (features : Features) (settings : Settings) (network : Network) : Type 0 where
-  pub nodes_are : network.nodes ≡ nodes features
+  pub nodes_are : network.nodes ≡ nodes features settings
   pub place_is : (id : FeatureId) → network.place id ≡ place_of features id
   pub closables_are : network.closables ≡ closables features
   pub first_unit_is : network.first_unit ≡ first_unit features
   pub links_are : network.links ≡ links features settings
-  pub facts_are : (link : Link) → Contains (links features settings) link → link_facts network link ≡ facts_at features link
+  pub facts_are : (link : Link) → Contains (links features settings) link → link_facts network link ≡ facts_at features settings link
 
 -- the stretches follow each other without a gap, the first begins at this place, and the last ends at that
 abbrev pub Follow : ℕ → ℕ → List Stretch → Type 0

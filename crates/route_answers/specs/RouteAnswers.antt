@@ -36,5 +36,5 @@ pub record IsRouteAnswer (features : Features) (settings : Settings) (profile : 
   pub starts : answer.from ≡ from
   pub ends : answer.to ≡ to
   pub claim : IsClaimOf features settings profile from to answer.claim
-  pub fits : FitsAnswer (length (nodes features)) answer
+  pub fits : FitsAnswer (length (nodes features settings)) answer
   pub proved : IsProved (table_of features settings profile) answer

@@ -15,7 +15,7 @@ use Rattle.route_certificate.specs.declared.table.TableLink.{TableLink}
 
 -- the links that the profile allows, in their order, nothing closed
 abbrev pub allowed_links : Features → Settings → Profile → List Link
-allowed_links features settings profile = filter (λ (link : Link). is_allowed profile (facts_at features link)) (links features settings)
+allowed_links features settings profile = filter (λ (link : Link). is_allowed profile (facts_at features settings link)) (links features settings)
 
 -- the identifier of what a link goes by, a unit or a relationship
 unfoldable pub way_id : Features → ℕ → FeatureId
@@ -28,6 +28,6 @@ row_of features link = record { from = link.from; to = link.to; cost = link.cost
 -- the table: the identifiers of all nodes, and a row for each link that the profile allows
 abbrev pub table_of : Features → Settings → Profile → Table
 table_of features settings profile = record {
-  nodes = map (λ (node : Node). node.id) (nodes features);
+  nodes = map (λ (node : Node). node.id) (nodes features settings);
   links = map (row_of features) (allowed_links features settings profile);
 }

@@ -5,9 +5,11 @@ use Rattle.link_graph.specs.declared.graph.Graph.{Graph}
 use Rattle.link_graph.specs.declared.stretches.Stretch.{Stretch}
 use Rattle.link_graph.specs.declared.stretches.Way.{Way}
 use Rattle.link_graph.specs.declared.stretches.Way.TheVariants.{Inside, Between}
+use Rattle.link_graph.specs.Detours.{IsKnownFrom}
 use Rattle.link_graph.specs.Graphs.{network}
 use Rattle.link_graph.specs.Marking.{AreMarksOf, marked}
 use Rattle.link_graph.specs.Networks.{Network, GoesBy, IsPassable, links_out}
+use Rattle.route_search.specs.declared.node_stretch.NodeStretch.{NodeStretch}
 use Rattle.route_search.specs.declared.state.State.{State}
 use Rattle.route_search.specs.declared.ways.Ways.{Ways}
 use Rattle.route_search.specs.Labels.{IsRelaxed}
@@ -25,16 +27,16 @@ node_count graph = length (network graph).nodes
 abbrev pub out_count_of : Graph → ℕ → ℕ
 out_count_of graph n = length (links_out (network graph) n)
 
--- all links out of the node, if any, go across the unit of this number
-abbrev pub IsQuiet : Network → ℕ → ℕ → Type 0
-IsQuiet given via n = (link : Link) → Contains given.links link → link.from ≡ n → (link.via ≡ via) × (given.first_unit ≤ via)
+-- all links out of the node, if any, go across the unit of this number, and are known from another node
+abbrev pub IsQuiet : Network → ℕ → ℕ → ℕ → Type 0
+IsQuiet given via a n = (link : Link) → Contains given.links link → link.from ≡ n → (link.via ≡ via) × (given.first_unit ≤ via) × IsKnownFrom given a link
 
--- the node is known by a link out of another, and leads nowhere else
+-- the node is known by a link out of another, and leads to nothing that isn't known from there
 pub record HangsOn (given : Network) (state : State) (node n : ℕ) : Type 0 where
   pub link : Link
   pub by : (last_in state n).by ≡ Some link
   pub from : link.from ≡ node
-  pub quiet : IsQuiet given link.via n
+  pub quiet : IsQuiet given link.via link.from n
 
 -- among the links of a node that is being settled: any other node to which a walk is known waits at its cost, is relaxed, or hangs on this one
 pub record IsAmid (given : Network) (IsLink : Link → Type 0) (nodes node : ℕ) (state : State) : Type 0 where
@@ -93,26 +95,34 @@ Followed ways link old new = IsFollowed (network ways.graph.now) (CanPass ways) 
 -- ---- stretches
 
 -- a stretch of the node
-pub record IsStretchOf (given : Network) (node : ℕ) (stretch : Stretch) : Type 0 where
-  pub one : Contains (given.stretches node) stretch
-  pub within : stretch.first + stretch.count ≤ length (links_out given node)
+pub record IsStretchOf (given : Network) (at : NodeStretch) : Type 0 where
+  pub node : at.node < length given.nodes
+  pub here : slice_get (given.stretches at.node) at.k ≡ Some at.stretch
+  pub within : at.stretch.first + at.stretch.count ≤ length (links_out given at.node)
 
--- the last link goes by this number
-abbrev pub IsVia : Option Link → ℕ → Type 0
-IsVia None via = ⊥
-IsVia (Some last) via = last.via ≡ via
-
--- the links that go this way can't be passed, or are of the unit by which the node was reached
-abbrev pub IsPassedOver : Network → (Link → Type 0) → Option Link → Way → Type 0
-IsPassedOver given IsLink last way =
-    (link : Link) → GoesBy given way link → IsLink link → IsVia last link.via × (given.first_unit ≤ link.via)
+-- the links that go this way can't be passed
+abbrev pub IsPassedOver : Network → (Link → Type 0) → Way → Type 0
+IsPassedOver given IsLink way = (link : Link) → GoesBy given way link → IsLink link → ⊥
 
 -- the number of a unit is one of what can be closed
 abbrev pub IsMarkable : Network → Way → Type 0
 IsMarkable given (Inside via kind restricted) = via < length given.closables
 IsMarkable given Between = Unit {0}
 
--- links that go this way go across the unit of this number, or there are none
-abbrev pub IsOwn : ℕ → Way → ℕ → Type 0
-IsOwn via (Inside own kind restricted) count = own ≡ via
-IsOwn via Between count = count ≡ 0
+-- the way goes across the unit of this number
+abbrev pub IsAcross : ℕ → Way → Type 0
+IsAcross via (Inside own kind restricted) = own ≡ via
+IsAcross via Between = ⊥
+
+-- the node is the start of the last link, which goes by this way across a unit
+pub record IsKnownStart (last : Option Link) (way : Way) (a : ℕ) : Type 0 where
+  pub link : Link
+  pub by : last ≡ Some link
+  pub from : link.from ≡ a
+  pub across : IsAcross link.via way
+
+-- the links of the stretch, if it has any, go across the unit of this number, and are known from another node
+abbrev pub IsOwn : Network → ℕ → ℕ → ℕ → Stretch → Type 0
+IsOwn given via a n stretch =
+    (place : ℕ) (link : Link) → stretch.first ≤ place → place < stretch.first + stretch.count → slice_get (links_out given n) place ≡ Some link
+    → (link.via ≡ via) × (given.first_unit ≤ via) × IsKnownFrom given a link

@@ -23,7 +23,7 @@ use Rattle.venue_build.specs.Report.{IsLaterBroken}
 pub record IsGround (features : Features) (settings : Settings) (ground : Ground) : Type 0 where
   pub touches : AreTouches settings.border_tol features ground.touches
   pub graph : IsNetworkOf features settings (network ground.graph)
-  pub roomy : Crowds features settings.border_tol None
+  pub roomy : Crowds features settings None
 
 -- no later phase finds anything, and this is the ground; or one does, and these are its findings
 abbrev pub IsJudged : Features → Settings → Judged → Type 0

@@ -18,4 +18,4 @@ IsPlaneBroken features tolerance = First (BreaksSpread features) (IsMisplaced fe
 
 -- the two phases on the plane, and, where they have nothing, the fifth, on how many members units have
 abbrev pub IsGroundBroken : Features → Settings → Finding → Type 0
-IsGroundBroken features settings = First (IsPlaneBroken features settings.contain_tol) (BreaksLimit features settings.border_tol)
+IsGroundBroken features settings = First (IsPlaneBroken features settings.contain_tol) (BreaksLimit features settings)

@@ -113,7 +113,7 @@ pub record IsSummary (levels : ℕ) (venue : Venue) (text : List ℕ) : Type 0 w
   pub on_foot_is : IsWayLine later (codes "walk") (first_room levels) (last_room levels) on_foot
   pub spelled : text
       ≡ line (codes "features " ++ decimal (feature_count venue.features))
-      ++ line (codes "nodes " ++ decimal (length (nodes venue.features)))
+      ++ line (codes "nodes " ++ decimal (length (nodes venue.features venue.settings)))
       ++ line (codes "links " ++ decimal (length (links venue.features venue.settings)))
       ++ before
       ++ line (codes "version " ++ decimal later.number)

@@ -67,7 +67,7 @@ IsBehindChange id v w = (Fits v (closing v id) × (w ≡ after v (closing v id))
 -- the lines that tell how large a venue is
 abbrev pub size_lines : Venue → List ℕ
 size_lines venue = line (codes "features " ++ decimal (feature_count venue.features))
-    ++ line (codes "nodes " ++ decimal (length (nodes venue.features)))
+    ++ line (codes "nodes " ++ decimal (length (nodes venue.features venue.settings)))
     ++ line (codes "links " ++ decimal (length (links venue.features venue.settings)))
 
 -- the lines of a wheelchair's way and that on foot

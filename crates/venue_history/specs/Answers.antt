@@ -53,7 +53,7 @@ pub record IsTrip (v : Version) (from to : FeatureId) (name : List ℕ) (number 
 pub record AreShown (v : Version) (number : ℕ) (profile : Profile) (a b cost : ℕ) (marks : List Mark) : Type 0 where
   pub listed : List Potential
   pub told : marks ≡ map (mark_of v) listed
-  pub nodes_alone : All (λ (p : Potential). p.node < length (nodes v.features)) listed
+  pub nodes_alone : All (λ (p : Potential). p.node < length (nodes v.features v.settings)) listed
   pub rising : Ascends potential_view listed
   pub below : All (λ (p : Potential). p.value < cost) listed
   pub certificate : IsCertificate link_view (Usable v number profile) a b cost (potential potential_view cost listed)

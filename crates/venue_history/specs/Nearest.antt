@@ -10,14 +10,14 @@ use Rattle.venue_types.specs.declared.reply.NearTold.{NearTold}
 use Rattle.venue_types.specs.declared.settings.Profile.{Profile}
 use Rattle.venue_types.specs.Nearest.{Nearest}
 use Rattle.nearest_laws.specs.Nearest.{Row, IsNearest}
-use Rattle.venue_build.specs.Nodes.{node_rows, amenity, nodes, place_of}
+use Rattle.venue_build.specs.Nodes.{place_node_rows, amenity, nodes, place_of}
 use Rattle.venue_build.specs.Views.{link_view, potential_view}
 use Rattle.venue_history.specs.Closed.{Version}
 use Rattle.venue_history.specs.Ways.{Usable, profile_number, profile_of, name_of, step_of, mark_of}
 
 -- the node stands for an amenity whose category is the text, byte for byte
 abbrev pub IsCandidate : Features → List ℕ → ℕ → Type 0
-IsCandidate features category n = (row : AmenityRow) × (slice_get (node_rows features) n ≡ Some (amenity row)) × (row.category ≡ category)
+IsCandidate features category n = (row : AmenityRow) × (slice_get (place_node_rows features) n ≡ Some (amenity row)) × (row.category ≡ category)
 
 -- all these nodes, rising
 pub record AreCandidates (features : Features) (category candidates : List ℕ) : Type 0 where
@@ -50,7 +50,7 @@ pub record AreNearest (v : Version) (asked : Nearest) (it : NearTold) : Type 0 w
   pub rows : List (Row Link)
   pub listed : List Potential
   pub reached : Option (List ℕ)
-  pub nearest : IsNearest link_view potential_view (Usable v number profile) (length (nodes v.features)) a candidates asked.limit rows listed reached
+  pub nearest : IsNearest link_view potential_view (Usable v number profile) (length (nodes v.features v.settings)) a candidates asked.limit rows listed reached
   pub started : it.start ≡ name_of v a
   pub rowed : it.places ≡ map (near_row_of v) rows
   pub shown : it.potentials ≡ if_asked asked.certificate (Some (map (mark_of v) listed))

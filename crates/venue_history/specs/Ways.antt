@@ -31,7 +31,7 @@ no_name = record { 0 = 0 }
 
 -- how a reply names a node: by its identifier
 unfoldable pub name_of : Version → ℕ → FeatureId
-name_of v n = elim (slice_get (nodes v.features) n) [ None ↦ no_name | Some node ↦ node.id ]
+name_of v n = elim (slice_get (nodes v.features v.settings) n) [ None ↦ no_name | Some node ↦ node.id ]
 
 -- how a reply names what a link goes by: by its identifier
 unfoldable pub way_name : Version → ℕ → FeatureId

@@ -1,6 +1,7 @@
 -- Which limit the rows pass first.
 use Rattle.std.specs.Prelude.{◌≡◌, ℕ, ◌+◌, ◌*◌, ◌≤◌, ◌<◌, List, length, slice_get, slice_index_or, Option, Some, None}
 use Rattle.venue_types.specs.declared.features.Features.{Features}
+use Rattle.venue_types.specs.declared.settings.Settings.{Settings}
 use Rattle.venue_nodes.specs.declared.limits.Crowding.{Crowding}
 use Rattle.venue_nodes.specs.declared.limits.Crowding.TheVariants.{Members, Squares}
 use Rattle.venue_types.specs.declared.finding.Finding.{Finding}
@@ -12,14 +13,14 @@ use Rattle.venue_nodes.specs.Limits.{IsCrowded, square_sum, rule_of}
 use Rattle.venue_nodes.specs.Rows.{row_list, unit_indexes}
 
 -- no unit is crowded
-abbrev pub NoneCrowded : Features → ℕ → Type 0
-NoneCrowded features border_tol = (k : ℕ) → ¬ IsCrowded features border_tol k
+abbrev pub NoneCrowded : Features → Settings → Type 0
+NoneCrowded features settings = (k : ℕ) → ¬ IsCrowded features settings k
 
 -- the unit of this index is the first that is crowded; or none is, and the squares pass their limit, or do not
-abbrev pub Crowds : Features → ℕ → Option Crowding → Type 0
-Crowds features border_tol (Some (Members k)) = IsCrowded features border_tol k × ((j : ℕ) → j < k → ¬ IsCrowded features border_tol j)
-Crowds features border_tol (Some Squares) = NoneCrowded features border_tol × (20000000 < square_sum features border_tol)
-Crowds features border_tol None = NoneCrowded features border_tol × (square_sum features border_tol ≤ 20000000)
+abbrev pub Crowds : Features → Settings → Option Crowding → Type 0
+Crowds features settings (Some (Members k)) = IsCrowded features settings k × ((j : ℕ) → j < k → ¬ IsCrowded features settings j)
+Crowds features settings (Some Squares) = NoneCrowded features settings × (20000000 < square_sum features settings)
+Crowds features settings None = NoneCrowded features settings × (square_sum features settings ≤ 20000000)
 
 -- what is told of a limit that is passed: the unit that is crowded, or of the squares the first unit
 abbrev pub limit_finding : Crowding → Finding

@@ -3,6 +3,7 @@ use Rattle.std.specs.Prelude.{ℕ, ◌+◌, List, [], ◌∷◌, Bool, if◌then
 use Rattle.std.specs.List.{list_any}
 use Rattle.venue_types.specs.declared.features.Features.{Features}
 use Rattle.venue_types.specs.declared.features.UnitRow.{UnitRow}
+use Rattle.venue_types.specs.declared.settings.Settings.{Settings}
 use Rattle.venue_nodes.specs.Identity.{is_same}
 use Rattle.venue_nodes.specs.Touching.{does_touch}
 use Rattle.venue_nodes.specs.Nodes.{NodeRow, amenity, anchor, opening, unit, node_rows}
@@ -20,5 +21,5 @@ places_where test n [] = []
 places_where test n (x ∷ xs) = if test x then n ∷ places_where test (n + 1) xs else places_where test (n + 1) xs
 
 -- the numbers of the members of a walkable unit, rising
-unfoldable pub members : Features → ℕ → UnitRow → List ℕ
-members features border_tol u = places_where (is_member border_tol u) 0 (node_rows features)
+unfoldable pub members : Features → Settings → UnitRow → List ℕ
+members features settings u = places_where (is_member settings.border_tol u) 0 (node_rows features settings)

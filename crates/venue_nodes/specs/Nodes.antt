@@ -14,6 +14,7 @@ use Rattle.venue_types.specs.declared.kind.Class.TheVariants as class
 use Rattle.venue_types.specs.declared.link.Node.{Node}
 use Rattle.venue_types.specs.declared.point.Point.{Point}
 use Rattle.venue_types.specs.declared.point.Spot.{Spot}
+use Rattle.venue_types.specs.declared.settings.Settings.{Settings}
 use Rattle.plane_exact.specs.Figure.{vertices}
 use Rattle.imdf_access.specs.Categories.{is_walkable}
 use Rattle.venue_nodes.specs.Identity.{is_same}
@@ -63,17 +64,25 @@ node_of_row (unit row) = record { id = row.id; class = class.Unit; spot = unit_s
 abbrev pub walkable_units : Features → List UnitRow
 walkable_units features = filter (λ (row : UnitRow). is_walkable row.category) features.units
 
--- the features that nodes stand for: amenities, anchors, openings, then walkable units, each in file order
-unfoldable pub node_rows : Features → List NodeRow
-node_rows features = map amenity features.amenities ++ map anchor features.anchors ++ map opening features.openings ++ map unit (walkable_units features)
+-- the features that are places of their own: amenities, anchors, openings, then walkable units, each in file order
+unfoldable pub place_node_rows : Features → List NodeRow
+place_node_rows features = map amenity features.amenities ++ map anchor features.anchors ++ map opening features.openings ++ map unit (walkable_units features)
+
+-- their nodes, numbered from 0
+unfoldable pub place_nodes : Features → List Node
+place_nodes features = map node_of_row (place_node_rows features)
+
+-- what nodes stand for: the places
+unfoldable pub node_rows : Features → Settings → List NodeRow
+node_rows features settings = place_node_rows features
 
 -- the nodes, numbered from 0
-unfoldable pub nodes : Features → List Node
-nodes features = map node_of_row (node_rows features)
+unfoldable pub nodes : Features → Settings → List Node
+nodes features settings = map node_of_row (node_rows features settings)
 
--- the number of the first node of this identifier
+-- the number of the first place of this identifier
 abbrev pub node_number : Features → FeatureId → Option ℕ
-node_number features id = position_from (λ (node : Node). is_same node.id id) 0 (nodes features)
+node_number features id = position_from (λ (node : Node). is_same node.id id) 0 (place_nodes features)
 
 -- the number of the node at which the feature is: its own, or of an occupant that of its anchor; no other feature is a place
 unfoldable pub place_of : Features → FeatureId → Option ℕ

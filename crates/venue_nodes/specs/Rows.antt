@@ -2,6 +2,7 @@
 use Rattle.std.specs.Prelude.{◌≡◌, ℕ, List, map, filter}
 use Rattle.venue_types.specs.declared.features.Features.{Features}
 use Rattle.venue_types.specs.declared.features.UnitRow.{UnitRow}
+use Rattle.venue_types.specs.declared.settings.Settings.{Settings}
 use Rattle.imdf_access.specs.Categories.{is_walkable}
 use Rattle.venue_nodes.specs.declared.members.Rows.{Rows}
 use Rattle.venue_nodes.specs.Nodes.{walkable_units}
@@ -17,8 +18,8 @@ unfoldable pub unit_indexes : Rows → List ℕ
 unit_indexes rows = rows.units.items
 
 -- one row of members for each walkable unit in file order, and that unit's index
-pub record AreRowsOf (features : Features) (border_tol : ℕ) (rows : Rows) : Type 0 where
-  pub members_are : row_list rows ≡ map (members features border_tol) (walkable_units features)
+pub record AreRowsOf (features : Features) (settings : Settings) (rows : Rows) : Type 0 where
+  pub members_are : row_list rows ≡ map (members features settings) (walkable_units features)
   pub units_are : unit_indexes rows ≡ places_where (λ (row : UnitRow). is_walkable row.category) 0 features.units
 
 -- the same by what each node names, of openings that touch units of these indexes: what the code goes through

@@ -3,6 +3,7 @@ use Rattle.std.specs.Prelude.{◌≡◌, ℕ, List, Option, None, Some, slice_ge
 use Rattle.venue_types.specs.declared.feature_id.FeatureId.{FeatureId}
 use Rattle.venue_types.specs.declared.features.Features.{Features}
 use Rattle.venue_types.specs.declared.link.Node.{Node}
+use Rattle.venue_types.specs.declared.settings.Settings.{Settings}
 use Rattle.feature_rows.specs.Indexes.{place_of as place_in}
 use Rattle.venue_nodes.specs.declared.numbers.Numbers.{Numbers}
 use Rattle.venue_nodes.specs.declared.nodes.Nodes.{Nodes}
@@ -33,8 +34,8 @@ unfoldable pub find_closable : Nodes → FeatureId → Option ℕ
 find_closable made id = number_of made.closable_numbers id
 
 -- these are the nodes of the features, their places, and what can be closed among them
-pub record AreNodes (features : Features) (made : Nodes) : Type 0 where
-  pub list : node_list made ≡ nodes features
+pub record AreNodes (features : Features) (settings : Settings) (made : Nodes) : Type 0 where
+  pub list : node_list made ≡ nodes features settings
   pub place : (id : FeatureId) → find_place made id ≡ place_of features id
   pub closable_ids : closable_list made ≡ closables features
   pub closable : (id : FeatureId) → find_closable made id ≡ number_among (closables features) id

@@ -29,7 +29,7 @@ use Rattle.venue_state.specs.declared.tour_ways.Way.{Way}
 -- the nodes of all these places, or nothing where one is no place
 abbrev pub AreNodes : Version → List FeatureId → Option (List ℕ) → Type 0
 AreNodes v ids None = (id : FeatureId) × Contains ids id × (place_of v.features id ≡ None)
-AreNodes v ids (Some ns) = (map (place_of v.features) ids ≡ map Some ns) × All (λ (n : ℕ). n < length (nodes v.features)) ns
+AreNodes v ids (Some ns) = (map (place_of v.features) ids ≡ map Some ns) × All (λ (n : ℕ). n < length (nodes v.features v.settings)) ns
 
 -- so many of these nodes are different
 abbrev pub IsCountOf : List ℕ → ℕ → Type 0
