@@ -1,5 +1,5 @@
 -- The links of a graph are those across its areas, and those by relationships.
-use Rattle.std.proofs.Common.{◌≡◌, ℕ, zero, suc, ◌<◌, Bool, true, false, List, [], ◌∷◌, ◌++◌, length, flat_map, cond, Some, None, refl, sym, ap, ◌∙◌, get_or, arith}
+use Rattle.std.proofs.Common.{◌≡◌, ℕ, zero, suc, ◌<◌, Bool, true, false, List, [], ◌∷◌, ◌++◌, length, map, filter, flat_map, cond, Some, None, refl, sym, ap, ◌∙◌, get_or, arith}
 use Rattle.std.specs.Prelude.{slice_get}
 use Rattle.std.proofs.lemmas.Option.{same_Some, slice_get_read}
 use Rattle.venue_types.specs.declared.link.Link.{Link}
@@ -8,18 +8,23 @@ use Rattle.link_graph.specs.declared.areas.Area.{Area}
 use Rattle.link_graph.specs.declared.graph.Graph.{Graph}
 use Rattle.link_graph.specs.declared.parts.Core.{Core}
 use Rattle.link_graph.specs.declared.parts.Crossing.{Crossing}
-use Rattle.link_graph.specs.Areas.{IsArea, unit_of, walked_of, area_of, areas_in, areas, area_links, passages, straight}
-use Rattle.link_graph.specs.Cores.{IsRow, barred_in, links_across_from, links_across_all, links_in, network_in}
+use Rattle.link_graph.specs.Areas.{IsArea, IsWholeAcross, inside_area, joined_across, unit_of, walked_of, area_of, areas_in, areas, area_links, passages, straight}
+use Rattle.link_graph.specs.Cores.{IsRow, barred_in, links_across_from, links_across_all, links_in, network_in, joined_in, link_across, other_than}
 use Rattle.link_graph.specs.Graphs.{network}
 use Rattle.link_graph.proofs.AskingRanges.{row_at, crossing_there}
+use Rattle.link_graph.proofs.Joined.{all_across, filter_same, flat_map_within, told_so, whole_across}
+use Rattle.link_graph.proofs.LeadingLists.{flat_map_same}
 
 -- ---- the links across one area
 
 across_one : (graph : Graph) (crossing : Crossing) (row : List ℕ) (walked : Bool)
     → cond walked (flat_map (links_across_from graph.core crossing row) row) []
-    ≡ area_links graph (record { via = crossing.via; kind = crossing.kind; restricted = barred_in graph.core crossing.via }, cond walked row [])
+    ≡ area_links graph (record { via = crossing.via; kind = crossing.kind; restricted = barred_in graph.core crossing.via; whole = true }, cond walked row [])
 unfolding straight
-across_one graph crossing row true = refl
+across_one graph crossing row true =
+    let area = unit_of graph.core crossing in
+    flat_map_same (links_across_from graph.core crossing row) (λ (a : ℕ). map (inside_area graph area a) (filter (joined_across area row a) row))
+    (λ a. ap (map (link_across graph.core crossing a)) (filter_same (joined_in crossing row a) (joined_across area row a) row (λ b h. told_so crossing area row a b))) row
 across_one graph crossing row false = refl
 
 across_all : (graph : Graph) (crossings : List Crossing) (rows : List (List ℕ)) → links_across_all graph.core crossings rows ≡ flat_map (area_links graph) (areas_in graph.core crossings rows)
@@ -32,6 +37,11 @@ across_all graph (c ∷ cs) (r ∷ rs) =
 pub by_areas : (graph : Graph) → (network graph).links ≡ flat_map (area_links graph) (areas graph) ++ passages graph
 unfolding network network_in links_in areas passages
 by_areas graph = ap (λ (links : List Link). links ++ graph.core.passages.items) (across_all graph graph.core.crossings.items (row_list graph.core.rows))
+
+-- where any two members are joined a link leads from each to all others
+pub whole_links : (graph : Graph) (area : Area) (members : List ℕ) → IsWholeAcross area members → area_links graph (area, members) ≡ flat_map (λ (a : ℕ). map (inside_area graph area a) (filter (other_than a) members)) members
+whole_links graph area members whole = flat_map_within (λ (a : ℕ). map (inside_area graph area a) (filter (joined_across area members a) members)) (λ (a : ℕ). map (inside_area graph area a) (filter (other_than a) members)) members
+    (λ a h. ap (map (inside_area graph area a)) (all_across area members a whole h))
 
 -- ---- the areas by their numbers
 
@@ -85,4 +95,5 @@ is_area graph crossing row w unit there =
       rise = kept.rise;
       within = kept.within;
       short = kept.short;
+      whole = λ told. whole_across (unit_of core crossing) (walked_of crossing row);
     }

@@ -1,7 +1,6 @@
 -- Each link that a graph means goes across the unit of a row, or is one of those by relationships.
-use Rattle.std.proofs.Common.{◌≡◌, ◌≢◌, ℕ, zero, suc, not, IsTrue, List, [], ◌∷◌, map, filter, flat_map, Some, None, refl, sym, ap, ◌∙◌, subst, ◌⊎◌, inl, inr, true≢false, eq-eqb}
+use Rattle.std.proofs.Common.{◌≡◌, ℕ, zero, suc, IsTrue, List, [], ◌∷◌, map, filter, flat_map, Some, None, refl, sym, subst, ◌⊎◌, inl, inr}
 use Rattle.std.specs.Prelude.{Contains, slice_get}
-use Rattle.std.proofs.lemmas.Bool.{ne_eqb}
 use Rattle.std.proofs.lemmas.List.Elements.{Contains-append_left, Contains-append_right, Contains-append_cases}
 use Rattle.std.proofs.lemmas.Option.{same_Some}
 use Rattle.venue_types.specs.declared.kind.Kind.{Kind}
@@ -12,8 +11,7 @@ use Rattle.venue_nodes.proofs.Judged.{Contains-map}
 use Rattle.venue_nodes.proofs.Spread.{from_map}
 use Rattle.link_graph.specs.declared.parts.Core.{Core}
 use Rattle.link_graph.specs.declared.parts.Crossing.{Crossing}
-use Rattle.link_graph.specs.Cores.{way_in, link_across, links_across_from, links_across, links_across_all, links_in}
-use Rattle.link_graph.specs.Links.{are_joined}
+use Rattle.link_graph.specs.Cores.{way_in, joined_in, link_across, links_across_from, links_across, links_across_all, links_in}
 use Rattle.link_graph.proofs.Items.{from_flat_map, to_flat_map, from_then, to_then, from_filter, to_filter}
 
 -- one walks through the unit of the row, and the link leads from one of its members to another, as far as the way is and of the unit's kind
@@ -21,7 +19,7 @@ pub record GoesAcross (core : Core) (crossing : Crossing) (row : List ℕ) (link
   pub walked : IsTrue crossing.walked
   pub start : Contains row link.from
   pub finish : Contains row link.to
-  pub apart : link.from ≢ link.to
+  pub joined : IsTrue (joined_in crossing row link.from link.to)
   pub via : crossing.via ≡ link.via
   pub cost : way_in core link.from link.to ≡ link.cost
   pub kind : crossing.kind ≡ link.kind
@@ -37,23 +35,17 @@ pub record IsByRow (core : Core) (crossings : List Crossing) (rows : List (List 
 
 -- ---- across one unit
 
-joined_apart : (a b : ℕ) → IsTrue (are_joined a b) → a ≢ b
-joined_apart a b h e = true≢false (sym h ∙ ap not (eq-eqb a b e))
-
-apart_joined : (a b : ℕ) → a ≢ b → IsTrue (are_joined a b)
-apart_joined a b h = rw (ne_eqb a b h) refl
-
 pub goes_across : (core : Core) (crossing : Crossing) (row : List ℕ) (link : Link) → Contains (links_across core crossing row) link → GoesAcross core crossing row link
 goes_across core crossing row link h =
     let some = from_then crossing.walked (flat_map (links_across_from core crossing row) row) link h in
     let first = from_flat_map (links_across_from core crossing row) row link some.1 in
-    let second = from_map (link_across core crossing first.0) (filter (are_joined first.0) row) link first.2 in
-    let kept = from_filter (are_joined first.0) row second.0 second.1 in
+    let second = from_map (link_across core crossing first.0) (filter (joined_in crossing row first.0) row) link first.2 in
+    let kept = from_filter (joined_in crossing row first.0) row second.0 second.1 in
     subst (GoesAcross core crossing row) second.2 (record {
       walked = some.0;
       start = first.1;
       finish = kept.0;
-      apart = joined_apart first.0 second.0 kept.1;
+      joined = kept.1;
       via = refl;
       cost = refl;
       kind = refl;
@@ -69,9 +61,9 @@ parts_same a b via via' cost cost' kind kind' e f g = rw (e, f, g) refl
 pub across_goes : (core : Core) (crossing : Crossing) (row : List ℕ) (link : Link) → GoesAcross core crossing row link → Contains (links_across core crossing row) link
 across_goes core crossing row link h =
     let made = link_across core crossing link.from in
-    let others = filter (are_joined link.from) row in
+    let others = filter (joined_in crossing row link.from) row in
     let is : made link.to ≡ link = parts_same link.from link.to crossing.via link.via (way_in core link.from link.to) link.cost crossing.kind link.kind h.via h.cost h.kind in
-    let kept = to_filter (are_joined link.from) row link.to h.finish (apart_joined link.from link.to h.apart) in
+    let kept = to_filter (joined_in crossing row link.from) row link.to h.finish h.joined in
     let from_start : Contains (links_across_from core crossing row link.from) link = subst (λ (l : Link). Contains (map made others) l) is (Contains-map made others link.to kept) in
     to_then crossing.walked (flat_map (links_across_from core crossing row) row) link h.walked (to_flat_map (links_across_from core crossing row) row link.from link h.start from_start)
 

@@ -16,8 +16,7 @@ use Rattle.venue_nodes.proofs.Items.{member_at, at_member}
 use Rattle.venue_nodes.proofs.Spread.{from_map}
 use Rattle.link_graph.specs.declared.parts.Core.{Core}
 use Rattle.link_graph.specs.declared.parts.Crossing.{Crossing}
-use Rattle.link_graph.specs.Cores.{IsSoundCore, IsRow, IsPassage, network_in, links_in, link_across, links_across_from, links_across, links_across_all, leaving_at, across_count}
-use Rattle.link_graph.specs.Links.{are_joined}
+use Rattle.link_graph.specs.Cores.{IsSoundCore, IsRow, IsPassage, network_in, links_in, link_across, links_across_from, links_across, links_across_all, leaving_at, across_count, joined_in}
 use Rattle.link_graph.specs.Networks.{links_out}
 use Rattle.link_graph.specs.Leads.{starts_at}
 use Rattle.link_graph.proofs.Items.{from_flat_map, from_then, from_filter, to_filter}
@@ -29,7 +28,7 @@ filter_few : {X : Type 0} (t : X → Bool) (xs : List X) → length (filter t xs
 filter_few t xs = omega (arith, length-filter_both t (λ x. not (t x)) (λ x. refl) xs)
 
 from_few : (core : Core) (crossing : Crossing) (row : List ℕ) (a : ℕ) → length (links_across_from core crossing row a) ≤ length row
-from_few core crossing row a = omega (arith, length-map (filter (are_joined a) row) (link_across core crossing a), filter_few (are_joined a) row)
+from_few core crossing row a = omega (arith, length-map (filter (joined_in crossing row a) row) (link_across core crossing a), filter_few (joined_in crossing row a) row)
 
 when_few : {Y : Type 0} (b : Bool) (ys : List Y) (k : ℕ) → length ys ≤ k → length (cond b ys []) ≤ k
 when_few true ys k h = h
@@ -81,15 +80,15 @@ pub record IsAcross (core : Core) (crossings : List Crossing) (rows : List (List
   pub is_row : Contains rows row
   pub start : Contains row a
   pub finish : Contains row b
-  pub joined : IsTrue (are_joined a b)
+  pub joined : IsTrue (joined_in crossing row a b)
   pub is : link_across core crossing a b ≡ link
 
 of_row : (core : Core) (crossing : Crossing) (crossings : List Crossing) (row : List ℕ) (rows : List (List ℕ)) (link : Link) → Contains (links_across core crossing row) link → IsAcross core (crossing ∷ crossings) (row ∷ rows) link
 of_row core crossing crossings row rows link h =
     let some = from_then crossing.walked (flat_map (links_across_from core crossing row) row) link h in
     let first = from_flat_map (links_across_from core crossing row) row link some.1 in
-    let second = from_map (link_across core crossing first.0) (filter (are_joined first.0) row) link first.2 in
-    let kept = from_filter (are_joined first.0) row second.0 second.1 in
+    let second = from_map (link_across core crossing first.0) (filter (joined_in crossing row first.0) row) link first.2 in
+    let kept = from_filter (joined_in crossing row first.0) row second.0 second.1 in
     record {
       crossing = crossing;
       row = row;

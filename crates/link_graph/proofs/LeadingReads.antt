@@ -17,8 +17,8 @@ use Rattle.venue_nodes.proofs.Items.{member_at, at_map}
 use Rattle.link_graph.specs.declared.parts.Core.{Core}
 use Rattle.link_graph.specs.declared.parts.Crossing.{Crossing}
 use Rattle.link_graph.specs.declared.parts.Seat.{Seat}
-use Rattle.link_graph.specs.Cores.{IsSoundCore, network_in, spot_in, way_in, link_across, links_across_from, others_in, seats_at, leaving_at}
-use Rattle.link_graph.specs.Links.{are_joined}
+use Rattle.link_graph.specs.Cores.{IsSoundCore, network_in, spot_in, way_in, link_across, links_across_from, others_in, seats_at, leaving_at, joined_in, IsWholeIn, other_than}
+use Rattle.link_graph.proofs.Joined.{all_in}
 use Rattle.link_graph.specs.Leads.{links_of_row, passages_out, lower_than}
 use Rattle.link_graph.proofs.Lengths.{between_length, between_bound}
 use Rattle.link_graph.proofs.LeadingLists.{at_place, StandsOnce, other_before, other_behind}
@@ -67,7 +67,7 @@ passage_is core n k number link h read = h.leaves ∙ ap (λ (l : Link). Some l)
 abbrev pub IsOther : ℕ → ℕ → ℕ → Type 0
 IsOther k p at = ((k < p) × (at ≡ k)) ⊎ ((p ≤ k) × (at ≡ k + 1))
 
-other_at : (row : List ℕ) (n p k at : ℕ) → StandsOnce row n p → IsOther k p at → slice_get (filter (are_joined n) row) k ≡ slice_get row at
+other_at : (row : List ℕ) (n p k at : ℕ) → StandsOnce row n p → IsOther k p at → slice_get (filter (other_than n) row) k ≡ slice_get row at
 other_at row n p k at h (inl before) = other_before row n p k h before.0 ∙ ap (slice_get row) (sym before.1)
 other_at row n p k at h (inr behind) =
     let e : suc k ≡ at = let is : at ≡ k + 1 = behind.1 in omega (arith, is) in
@@ -81,19 +81,20 @@ walked_some : (b : Bool) (k count : ℕ) → k < cond b count 0 → (b ≡ true)
 walked_some true k count h = (refl, h)
 walked_some false k count h = absurd (omega (arith, h))
 
-pub across_lead : (core : Core) (n w p k at : ℕ) (crossing : Crossing) (row : List ℕ) → IsSeated core n w p → crossing ≡ get_or core.crossings.items w crossing → slice_get (row_list core.rows) w ≡ Some row → k < others_in core w → IsOther k p at
+pub across_lead : (core : Core) (n w p k at : ℕ) (crossing : Crossing) (row : List ℕ) → IsSeated core n w p → slice_get core.crossings.items w ≡ Some crossing → slice_get (row_list core.rows) w ≡ Some row → k < others_in core w → IsOther k p at
     → slice_get (links_of_row core n w) k ≡ Some (link_across core crossing n (get_or row at 0))
-across_lead core n w p k at crossing row h read there below other =
+across_lead core n w p k at crossing row h here there below other =
     let same_row : h.row ≡ row = same_Some h.row row (sym h.is_row ∙ there) in
-    let same_crossing : h.crossing ≡ crossing = sym (read ∙ get_or_from_slice_get core.crossings.items w h.crossing crossing h.is_crossing) in
-    let here : slice_get core.crossings.items w ≡ Some crossing = h.is_crossing ∙ ap (λ (c : Crossing). Some c) same_crossing in
+    let same_crossing : h.crossing ≡ crossing = same_Some h.crossing crossing (sym h.is_crossing ∙ here) in
     let once : StandsOnce row n p = subst (λ (r : List ℕ). StandsOnce r n p) same_row h.once in
     let some = walked_some crossing.walked k (length row - 1) (subst (λ (m : ℕ). k < m) (others_known core w crossing row here there) below) in
     let within = other_within k p at (length row) other some.1 in
-    let item : slice_get (filter (are_joined n) row) k ≡ Some (get_or row at 0) = other_at row n p k at once other ∙ slice_get-get_or row at 0 within in
+    let whole = subst (λ (c : Crossing). IsWholeIn c row) same_crossing (subst (λ (r : List ℕ). IsWholeIn h.crossing r) same_row h.whole) in
+    let others = all_in crossing row n whole (member_at row p n once.there) in
+    let item : slice_get (filter (joined_in crossing row n) row) k ≡ Some (get_or row at 0) = ap (λ (xs : List ℕ). slice_get xs k) others ∙ other_at row n p k at once other ∙ slice_get-get_or row at 0 within in
     ap (λ (ls : List Link). slice_get ls k) (row_known core n w crossing row here there)
     ∙ ap (λ (b : Bool). slice_get (cond b (links_across_from core crossing row n) []) k) some.0
-    ∙ at_map (link_across core crossing n) (filter (are_joined n) row) k (get_or row at 0) item
+    ∙ at_map (link_across core crossing n) (filter (joined_in crossing row n) row) k (get_or row at 0) item
 
 pub other_row_within : (core : Core) (n w p k at : ℕ) (row : List ℕ) → IsSeated core n w p → slice_get (row_list core.rows) w ≡ Some row → k < others_in core w → IsOther k p at → at < length row
 other_row_within core n w p k at row h there below other =

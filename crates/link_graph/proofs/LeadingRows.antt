@@ -14,8 +14,7 @@ use Rattle.venue_nodes.specs.Rows.{row_list}
 use Rattle.venue_nodes.specs.Standing.{standings}
 use Rattle.link_graph.specs.declared.parts.Core.{Core}
 use Rattle.link_graph.specs.declared.parts.Crossing.{Crossing}
-use Rattle.link_graph.specs.Cores.{IsSoundCore, link_across, links_across_from, links_across, links_across_all}
-use Rattle.link_graph.specs.Links.{are_joined}
+use Rattle.link_graph.specs.Cores.{IsSoundCore, link_across, links_across_from, links_across, links_across_all, joined_in}
 use Rattle.link_graph.specs.Leads.{starts_at, links_of_row}
 use Rattle.link_graph.proofs.LeadingLists.{filter-flat_map, filter-map_same, filter-cond, flat_map_same, flat_map_cond, flat_map_places}
 
@@ -27,7 +26,7 @@ start_same false f a n e = refl
 
 of_member : (core : Core) (crossing : Crossing) (row : List ℕ) (n a : ℕ) → filter (starts_at n) (links_across_from core crossing row a) ≡ cond (eqb a n) (links_across_from core crossing row n) []
 of_member core crossing row n a =
-    filter-map_same (starts_at n) (link_across core crossing a) (eqb a n) (λ b. refl) (filter (are_joined a) row)
+    filter-map_same (starts_at n) (link_across core crossing a) (eqb a n) (λ b. refl) (filter (joined_in crossing row a) row)
     ∙ start_same (eqb a n) (links_across_from core crossing row) a n refl
 
 of_row : (core : Core) (crossing : Crossing) (row : List ℕ) (n : ℕ)

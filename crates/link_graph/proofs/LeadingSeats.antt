@@ -20,8 +20,8 @@ use Rattle.venue_nodes.proofs.Spread.{from_map}
 use Rattle.link_graph.specs.declared.parts.Core.{Core}
 use Rattle.link_graph.specs.declared.parts.Crossing.{Crossing}
 use Rattle.link_graph.specs.declared.parts.Seat.{Seat}
-use Rattle.link_graph.specs.Cores.{IsSoundCore, IsRow, network_in, links_in, link_across, links_across_from, links_across_all, others_in, seats_from, seats_at}
-use Rattle.link_graph.specs.Links.{are_joined}
+use Rattle.link_graph.specs.Cores.{IsSoundCore, IsRow, network_in, links_in, link_across, links_across_from, links_across_all, others_in, seats_from, seats_at, joined_in, IsWholeIn}
+use Rattle.link_graph.proofs.Joined.{all_in}
 use Rattle.link_graph.specs.Networks.{links_out}
 use Rattle.link_graph.specs.Leads.{starts_at, links_of_row, links_of_seats, passages_out, AreSeats}
 use Rattle.link_graph.proofs.LeadingLists.{at_place, StandsOnce, one_dropped}
@@ -81,6 +81,7 @@ pub record IsSeated (core : Core) (n w place : ℕ) : Type 0 where
   pub is_row : slice_get (row_list core.rows) w ≡ Some row
   pub once : StandsOnce row n place
   pub kept : IsRow core row
+  pub whole : IsWholeIn crossing row
 
 pub seated_at : (core : Core) (n : ℕ) (m : Membership) → IsSoundCore core → Contains (standings n 0 (row_list core.rows)) m → IsSeated core n m.unit m.place
 seated_at core n m sound h =
@@ -99,6 +100,7 @@ seated_at core n m sound h =
       is_row = there;
       once = stands_once standing.row n m.place kept.rise standing.stands;
       kept = kept;
+      whole = sound.whole m.unit crossing.0 standing.row crossing.1 there;
     }
 
 -- ---- how many links
@@ -115,8 +117,9 @@ count_of false links k e = refl
 pub row_count : (core : Core) (n w place : ℕ) → IsSeated core n w place → others_in core w ≡ length (links_of_row core n w)
 row_count core n w place h =
     let dropped = one_dropped h.row n place h.once in
-    let long = length-map (filter (are_joined n) h.row) (link_across core h.crossing n) in
-    let many : length (links_across_from core h.crossing h.row n) ≡ length h.row - 1 = omega (arith, dropped, long) in
+    let long = length-map (filter (joined_in h.crossing h.row n) h.row) (link_across core h.crossing n) in
+    let others = ap length (all_in h.crossing h.row n h.whole (member_at h.row place n h.once.there)) in
+    let many : length (links_across_from core h.crossing h.row n) ≡ length h.row - 1 = omega (arith, dropped, long, others) in
     others_known core w h.crossing h.row h.is_crossing h.is_row
     ∙ sym (count_of h.crossing.walked (links_across_from core h.crossing h.row n) (length h.row - 1) many)
     ∙ sym (ap length (row_known core n w h.crossing h.row h.is_crossing h.is_row))

@@ -16,8 +16,7 @@ use Rattle.link_graph.specs.declared.parts.Crossing.{Crossing}
 use Rattle.link_graph.specs.declared.parts.Seat.{Seat}
 use Rattle.link_graph.specs.declared.stretches.Stretch.{Stretch}
 use Rattle.link_graph.specs.declared.stretches.Way.TheVariants.{Inside, Between}
-use Rattle.link_graph.specs.Cores.{IsSoundCore, IsCrossing, IsPassage, network_in, barred_in, link_across, links_across_from, others_in, seats_at, leaving_at, across_count, stretch_of, stretches_in}
-use Rattle.link_graph.specs.Links.{are_joined}
+use Rattle.link_graph.specs.Cores.{IsSoundCore, IsCrossing, IsPassage, network_in, barred_in, link_across, links_across_from, others_in, seats_at, leaving_at, across_count, stretch_of, stretches_in, joined_in}
 use Rattle.link_graph.specs.Networks.{AreStretches, Follow, GoesBy, IsSome, links_out}
 use Rattle.link_graph.specs.Leads.{starts_at, links_of_row, links_of_seats, passages_out, AreSeats}
 use Rattle.link_graph.proofs.Items.{from_then, from_filter}
@@ -147,39 +146,47 @@ some_of : (core : Core) (n : ℕ) (stretch : Stretch) → IsSoundCore core → I
 some_of core n stretch sound (of_seat i seat crossing there here is) = subst (λ (t : Stretch). IsSome t.way t.count) is (seat_some core 0 (seats_at core n) i seat (node_seats core n sound) there)
 some_of core n stretch sound (of_rest is) = subst (λ (t : Stretch). IsSome t.way t.count) is tt
 
--- a link across the unit of a row has its number and kind
-row_way : (core : Core) (n w : ℕ) (crossing : Crossing) (row : List ℕ) (k : ℕ) (link : Link) → slice_get core.crossings.items w ≡ Some crossing → slice_get (row_list core.rows) w ≡ Some row → slice_get (links_of_row core n w) k ≡ Some link
-    → (link.via ≡ crossing.via) × (link.kind ≡ crossing.kind)
-row_way core n w crossing row k link here there at =
+-- a link across the unit of a row is made for its end
+pub row_made : (core : Core) (n w : ℕ) (crossing : Crossing) (row : List ℕ) (k : ℕ) (link : Link) → slice_get core.crossings.items w ≡ Some crossing → slice_get (row_list core.rows) w ≡ Some row → slice_get (links_of_row core n w) k ≡ Some link
+    → link_across core crossing n link.to ≡ link
+row_made core n w crossing row k link here there at =
     let some = from_then crossing.walked (links_across_from core crossing row n) link (member_at (cond crossing.walked (links_across_from core crossing row n) []) k link (ap (λ (ls : List Link). slice_get ls k) (sym (row_known core n w crossing row here there)) ∙ at)) in
-    let made = from_map (link_across core crossing n) (filter (are_joined n) row) link some.1 in
-    (sym (ap (λ (l : Link). l.via) made.2), sym (ap (λ (l : Link). l.kind) made.2))
+    let made = from_map (link_across core crossing n) (filter (joined_in crossing row n) row) link some.1 in
+    subst (λ (b : ℕ). link_across core crossing n b ≡ link) (ap (λ (l : Link). l.to) made.2) made.2
 
-seat_way : (core : Core) (n place i : ℕ) (seat : Seat) (crossing : Crossing) (link : Link) → IsSoundCore core → slice_get (seats_at core n) i ≡ Some seat → slice_get core.crossings.items seat.row ≡ Some crossing
-    → seat.first ≤ place → place < seat.first + others_in core seat.row → slice_get (links_out (network_in core) n) place ≡ Some link
-    → GoesBy (network_in core) (Inside crossing.via crossing.kind (barred_in core crossing.via)) link
-unfolding network_in
-seat_way core n place i seat crossing link sound there here from to at =
+-- one of the places of a seat is one of its row
+pub seat_link : (core : Core) (n place i : ℕ) (seat : Seat) (link : Link) → IsSoundCore core → slice_get (seats_at core n) i ≡ Some seat → seat.first ≤ place → place < seat.first + others_in core seat.row
+    → slice_get (links_out (network_in core) n) place ≡ Some link → slice_get (links_of_row core n seat.row) (place - seat.first) ≡ Some link
+seat_link core n place i seat link sound there from to at =
     let seats = seats_at core n in
-    let seated = seat_seated core n seat sound (member_at seats i seat there) in
     let count = node_counted core n sound seat (member_at seats i seat there) in
     let found = in_seat core n 0 seats i seat (place - seat.first) place (node_seats core n sound) (node_counted core n sound) there (omega (arith, from, to)) (omega (arith, from)) in
     let item = at_place (links_of_row core n seat.row) (place - seat.first) (omega (arith, from, to, count)) in
     let known = found ∙ item.1 in
     let whole = ap (λ (ls : List Link). slice_get ls place) (links_out_are core n sound) ∙ at_left (links_of_seats core n seats) (passages_out core n) place (slice_get_within (links_of_seats core n seats) place item.0 known) ∙ known in
     let same : link ≡ item.0 = same_Some link item.0 (sym at ∙ whole) in
-    let here' : slice_get (links_of_row core n seat.row) (place - seat.first) ≡ Some link = item.1 ∙ ap (λ (l : Link). Some l) (sym same) in
-    let goes = row_way core n seat.row crossing seated.row (place - seat.first) link here seated.is_row here' in
+    item.1 ∙ ap (λ (l : Link). Some l) (sym same)
+
+seat_way : (core : Core) (n place i : ℕ) (seat : Seat) (crossing : Crossing) (link : Link) → IsSoundCore core → slice_get (seats_at core n) i ≡ Some seat → slice_get core.crossings.items seat.row ≡ Some crossing
+    → seat.first ≤ place → place < seat.first + others_in core seat.row → slice_get (links_out (network_in core) n) place ≡ Some link
+    → GoesBy (network_in core) (Inside crossing.via crossing.kind (barred_in core crossing.via)) link
+unfolding network_in
+seat_way core n place i seat crossing link sound there here from to at =
+    let seated = seat_seated core n seat sound (member_at (seats_at core n) i seat there) in
+    let made = row_made core n seat.row crossing seated.row (place - seat.first) link here seated.is_row (seat_link core n place i seat link sound there from to at) in
     let kept = All-contains (IsCrossing core) core.crossings.items crossing sound.crossings (member_at core.crossings.items seat.row crossing here) in
-    (goes.0, goes.1, refl, kept.unit)
+    (sym (ap (λ (l : Link). l.via) made), sym (ap (λ (l : Link). l.kind) made), refl, kept.unit)
+
+-- behind the last seat are those by relationships
+pub rest_link : (core : Core) (n place : ℕ) (link : Link) → IsSoundCore core → across_count core n ≤ place → slice_get (links_out (network_in core) n) place ≡ Some link → slice_get (passages_out core n) (place - across_count core n) ≡ Some link
+rest_link core n place link sound from at =
+    let across = across_long core n sound in
+    sym (ap (λ (ls : List Link). slice_get ls place) (links_out_are core n sound) ∙ at_right (links_of_seats core n (seats_at core n)) (passages_out core n) place (place - across_count core n) (omega (arith, from, across))) ∙ at
 
 rest_way : (core : Core) (n place : ℕ) (link : Link) → IsSoundCore core → across_count core n ≤ place → slice_get (links_out (network_in core) n) place ≡ Some link → GoesBy (network_in core) Between link
 unfolding network_in passages_out
 rest_way core n place link sound from at =
-    let across = across_long core n sound in
-    let there : slice_get (passages_out core n) (place - across_count core n) ≡ Some link =
-    sym (ap (λ (ls : List Link). slice_get ls place) (links_out_are core n sound) ∙ at_right (links_of_seats core n (seats_at core n)) (passages_out core n) place (place - across_count core n) (omega (arith, from, across))) ∙ at in
-    let passage = from_filter (starts_at n) core.passages.items link (member_at (passages_out core n) (place - across_count core n) link there) in
+    let passage = from_filter (starts_at n) core.passages.items link (member_at (passages_out core n) (place - across_count core n) link (rest_link core n place link sound from at)) in
     let kept = All-contains (IsPassage core) core.passages.items link sound.passages passage.0 in
     kept.via
 

@@ -1,5 +1,6 @@
 pub mod Lengths
 pub mod Items
+pub mod Joined
 pub mod Passages
 pub mod Sorts
 pub mod Ranges
@@ -27,6 +28,7 @@ pub mod AskingDoors
 pub mod AreaLinks
 pub mod RowLinks
 pub mod Detouring
+pub mod NewLinks
 pub use Rattle.venue_nodes.proofs.Places
 pub use Rattle.venue_nodes.proofs.Finding
 pub use Rattle.venue_nodes.proofs.Limiting

@@ -50,69 +50,70 @@ use Rattle.link_graph.proofs.MadeTrails.{passages_few}
 use Rattle.link_graph.proofs.MadeUnits.{walks, via_of, vias_rise, via_within, crossings_many, barred_is, units_are}
 use Rattle.link_graph.proofs.Passages.{of_relationship}
 use Rattle.link_graph.proofs.Ranges.{member_within, closables_count, passage_range}
+use Rattle.link_graph.proofs.Joined.{whole_in}
 
 -- what holds of each item holds of all
 all_of : {X : Type 0} (P : X → Type 0) (xs : List X) → ((x : X) → Contains xs x → P x) → All P xs
 all_of P xs each = λ k d h. each (get_or xs k d) (All-contains_itself xs k d h)
 
-pub nodes_close : (features : Features) (made : Nodes) → ((a b : Node) → Contains (nodes features) a → Contains (nodes features) b → IsCloseDoubled a.spot b.spot) → AreNodes features made → AreClose made
-nodes_close features made law are = record {
+pub nodes_close : (features : Features) (settings : Settings) (made : Nodes) → ((a b : Node) → Contains (nodes features settings) a → Contains (nodes features settings) b → IsCloseDoubled a.spot b.spot) → AreNodes features settings made → AreClose made
+nodes_close features settings made law are = record {
   close = λ a b h k. law a b (subst (λ (xs : List Node). Contains xs a) are.list h) (subst (λ (xs : List Node). Contains xs b) are.list k);
 }
 
 -- ---- rows
 
 -- the row is that of a unit of this index
-record IsUnitRow (features : Features) (border_tol : ℕ) (row : List ℕ) : Type 0 where
+record IsUnitRow (features : Features) (settings : Settings) (row : List ℕ) : Type 0 where
   k : ℕ
   u : UnitRow
   there : slice_get features.units k ≡ Some u
   passes : walks u ≡ true
-  is : members features border_tol u ≡ row
+  is : members features settings u ≡ row
 
-unit_row : (features : Features) (border_tol : ℕ) (rows : Rows) (row : List ℕ) → AreRowsOf features border_tol rows → Contains (row_list rows) row → IsUnitRow features border_tol row
-unit_row features border_tol rows row are h =
+unit_row : (features : Features) (settings : Settings) (rows : Rows) (row : List ℕ) → AreRowsOf features settings rows → Contains (row_list rows) row → IsUnitRow features settings row
+unit_row features settings rows row are h =
     let at = at_member (row_list rows) row h in
-    let number : slice_get (map (members features border_tol) (walkable_units features)) at.0 ≡ Some row = ap (λ (rs : List (List ℕ)). slice_get rs at.0) (sym are.members_are) ∙ at.1 in
-    let from = from_map (members features border_tol) (walkable_units features) at.0 row number in
+    let number : slice_get (map (members features settings) (walkable_units features)) at.0 ≡ Some row = ap (λ (rs : List (List ℕ)). slice_get rs at.0) (sym are.members_are) ∙ at.1 in
+    let from = from_map (members features settings) (walkable_units features) at.0 row number in
     let kept = kept_at walks 0 features.units at.0 from.0 from.1 in
     record { k = kept.k; u = from.0; there = kept.there; passes = kept.passes; is = from.2 }
 
-row_short : (features : Features) (border_tol : ℕ) (row : List ℕ) → IsUnitRow features border_tol row → Crowds features border_tol None → length row ≤ 4096
-row_short features border_tol row h crowds = elim (cases_lt 4096 (length row)) [
+row_short : (features : Features) (settings : Settings) (row : List ℕ) → IsUnitRow features settings row → Crowds features settings None → length row ≤ 4096
+row_short features settings row h crowds = elim (cases_lt 4096 (length row)) [
   | inl many ↦ absurd (crowds.0 h.k (record { unit = h.u; there = h.there; walkable = h.passes; many = subst (λ (r : List ℕ). 4096 < length r) (sym h.is) many }))
   | inr few ↦ few
 ]
 
-pub rows_roomy : (features : Features) (border_tol : ℕ) (rows : Rows) → AreRowsOf features border_tol rows → Crowds features border_tol None → AreRoomy (row_list rows)
-rows_roomy features border_tol rows are crowds = record {
-  each = all_of IsRoomy (row_list rows) (λ row h. row_short features border_tol row (unit_row features border_tol rows row are h) crowds);
-  squares = subst (λ n. n ≤ 20000000) (sym (squares_are features border_tol rows are)) crowds.1;
+pub rows_roomy : (features : Features) (settings : Settings) (rows : Rows) → AreRowsOf features settings rows → Crowds features settings None → AreRoomy (row_list rows)
+rows_roomy features settings rows are crowds = record {
+  each = all_of IsRoomy (row_list rows) (λ row h. row_short features settings row (unit_row features settings rows row are h) crowds);
+  squares = subst (λ n. n ≤ 20000000) (sym (squares_are features settings rows are)) crowds.1;
 }
 
-members_rise : (features : Features) (border_tol : ℕ) (u : UnitRow) → IsStrictlyIncreasing (members features border_tol u)
+members_rise : (features : Features) (settings : Settings) (u : UnitRow) → IsStrictlyIncreasing (members features settings u)
 unfolding members
-members_rise features border_tol u = IsStrictlyIncreasing-from_sorted _ (places_rise (is_member border_tol u) 0 (node_rows features))
+members_rise features settings u = IsStrictlyIncreasing-from_sorted _ (places_rise (is_member settings.border_tol u) 0 (node_rows features settings))
 
-row_within : (features : Features) (border_tol : ℕ) (list : List Node) (row : List ℕ) (m : ℕ) → IsUnitRow features border_tol row → list ≡ nodes features → Contains row m → m < length list
-row_within features border_tol list row m h same there =
-    subst (λ (xs : List Node). m < length xs) (sym same) (member_within features border_tol h.u m (subst (λ (r : List ℕ). Contains r m) (sym h.is) there))
+row_within : (features : Features) (settings : Settings) (list : List Node) (row : List ℕ) (m : ℕ) → IsUnitRow features settings row → list ≡ nodes features settings → Contains row m → m < length list
+row_within features settings list row m h same there =
+    subst (λ (xs : List Node). m < length xs) (sym same) (member_within features settings h.u m (subst (λ (r : List ℕ). Contains r m) (sym h.is) there))
 
-row_sound : (features : Features) (settings : Settings) (core : Core) (row : List ℕ) → IsMadeOf features settings core → Crowds features settings.border_tol None → Contains (row_list core.rows) row → IsRow core row
+row_sound : (features : Features) (settings : Settings) (core : Core) (row : List ℕ) → IsMadeOf features settings core → Crowds features settings None → Contains (row_list core.rows) row → IsRow core row
 row_sound features settings core row made crowds h =
-    let of_unit = unit_row features settings.border_tol core.rows row made.rows h in
+    let of_unit = unit_row features settings core.rows row made.rows h in
     record {
-      rise = subst (λ (r : List ℕ). IsStrictlyIncreasing r) of_unit.is (members_rise features settings.border_tol of_unit.u);
-      within = all_of (λ m. m < length (node_list core.nodes)) row (λ m k. row_within features settings.border_tol (node_list core.nodes) row m of_unit made.nodes.list k);
-      short = row_short features settings.border_tol row of_unit crowds;
+      rise = subst (λ (r : List ℕ). IsStrictlyIncreasing r) of_unit.is (members_rise features settings of_unit.u);
+      within = all_of (λ m. m < length (node_list core.nodes)) row (λ m k. row_within features settings (node_list core.nodes) row m of_unit made.nodes.list k);
+      short = row_short features settings row of_unit crowds;
     }
 
-pub rows_paired : (features : Features) (border_tol via : ℕ) (units : List UnitRow) (rows : Rows) (crossings read : List Crossing) → AreRowsOf features border_tol rows → units ≡ features.units → read ≡ crossings
+pub rows_paired : (features : Features) (settings : Settings) (via : ℕ) (units : List UnitRow) (rows : Rows) (crossings read : List Crossing) → AreRowsOf features settings rows → units ≡ features.units → read ≡ crossings
     → crossings ≡ crossings_from via units → length read ≡ length (row_list rows)
-rows_paired features border_tol via units rows crossings read are whole same made =
+rows_paired features settings via units rows crossings read are whole same made =
     ap (λ (cs : List Crossing). length cs) (same ∙ made ∙ ap (crossings_from via) whole)
     ∙ crossings_many via features.units
-    ∙ sym (length-map (walkable_units features) (members features border_tol))
+    ∙ sym (length-map (walkable_units features) (members features settings))
     ∙ ap (λ (rs : List (List ℕ)). length rs) (sym are.members_are)
 
 crossing_sound : (features : Features) (settings : Settings) (core : Core) (crossing : Crossing) → IsMadeOf features settings core → Contains core.crossings.items crossing → IsCrossing core crossing
@@ -130,14 +131,14 @@ crossing_sound features settings core crossing made h =
 -- ---- passages
 
 -- a link by a relationship is in range, and its way is no unit
-record IsTrail (features : Features) (link : Link) : Type 0 where
-  from : link.from < length (nodes features)
-  to : link.to < length (nodes features)
+record IsTrail (features : Features) (settings : Settings) (link : Link) : Type 0 where
+  from : link.from < length (nodes features settings)
+  to : link.to < length (nodes features settings)
   apart : link.from ≢ link.to
   via : link.via < first_unit features
   cost : link.cost ≤ 6700000
 
-trail_of : (features : Features) (settings : Settings) (link : Link) → Contains (passages_from features settings (length features.openings)) link → IsTrail features link
+trail_of : (features : Features) (settings : Settings) (link : Link) → Contains (passages_from features settings (length features.openings)) link → IsTrail features settings link
 trail_of features settings link h =
     let row = from_flat_map (relationship_links features settings) (enumerate_from (length features.openings) features.relationships) link h in
     let at = from_enumerate (length features.openings) features.relationships row.0 row.1 in
@@ -147,7 +148,7 @@ trail_of features settings link h =
     let within = slice_get_within features.relationships passage.k passage.row passage.there in
     record { from = range.from; to = range.to; apart = range.apart; via = omega (arith, via, within); cost = range.cost }
 
-pub passages_within : (features : Features) (settings : Settings) (list : List Node) (count : ℕ) (passages : List Link) → passages ≡ passages_from features settings (length features.openings) → list ≡ nodes features → count ≡ length list
+pub passages_within : (features : Features) (settings : Settings) (list : List Node) (count : ℕ) (passages : List Link) → passages ≡ passages_from features settings (length features.openings) → list ≡ nodes features settings → count ≡ length list
     → All (λ (link : Link). link.from < count) passages
 passages_within features settings list count passages made same many = all_of (λ (link : Link). link.from < count) passages (λ link h.
     let trail = trail_of features settings link (subst (λ (ls : List Link). Contains ls link) made h) in
@@ -175,9 +176,9 @@ few_passages features settings passages sound made =
 
 doors_sound : (features : Features) (settings : Settings) (core : Core) → IsMadeOf features settings core → AreDoors core
 doors_sound features settings core made = record {
-  count = doors_many features (find_closable core.nodes) core.doors.items (node_list core.nodes) made.doors made.nodes.list;
+  count = doors_many features settings (find_closable core.nodes) core.doors.items (node_list core.nodes) made.doors made.nodes.list;
   own = λ n node door at there.
-      door_own features (find_closable core.nodes) core.doors.items (node_list core.nodes) n node door made.doors made.nodes.list at there
+      door_own features settings (find_closable core.nodes) core.doors.items (node_list core.nodes) n node door made.doors made.nodes.list at there
       ∙ made.nodes.closable node.id
       ∙ ap (λ (ids : List FeatureId). number_among ids node.id) (sym made.nodes.closable_ids);
 }
@@ -192,7 +193,7 @@ seats_sound features settings core made =
         | inl under ↦ made.seats.each n under ∙ sym (seats_same core 0 (standings n 0 rows))
         | inr over ↦
             let past : length core.seats.items ≤ n = subst (λ m. m ≤ n) (sym made.seats.many) over in
-            let nowhere = stands_nowhere n count 0 rows over (λ row m h k. row_within features settings.border_tol (node_list core.nodes) row m (unit_row features settings.border_tol core.rows row made.rows h) made.nodes.list k) in
+            let nowhere = stands_nowhere n count 0 rows over (λ row m h k. row_within features settings (node_list core.nodes) row m (unit_row features settings core.rows row made.rows h) made.nodes.list k) in
             get_or_past core.seats.items n [] past ∙ ap (seats_from core 0) (sym nowhere)
       ];
       leaving_count = made.leaving.many;
@@ -219,16 +220,17 @@ apart_by ids own = λ i j d before within same.
 
 -- ---- all of it
 
-pub core_sound : (features : Features) (settings : Settings) (core : Core) → AreSound features → HaveOwnIds features → Crowds features settings.border_tol None
-    → ((a b : Node) → Contains (nodes features) a → Contains (nodes features) b → IsCloseDoubled a.spot b.spot) → IsMadeOf features settings core → IsSoundCore core
-core_sound features settings core sound own crowds law made =
+pub core_sound : (features : Features) (settings : Settings) (core : Core) → AreSound features → HaveOwnIds features → Crowds features settings None → length (nodes features settings) ≤ 400000
+    → ((a b : Node) → Contains (nodes features settings) a → Contains (nodes features settings) b → IsCloseDoubled a.spot b.spot) → IsMadeOf features settings core → IsSoundCore core
+core_sound features settings core sound own crowds few law made =
     let count = closables_count features in
     let ids = made.nodes.closable_ids in
     record {
       rows = all_of (IsRow core) (row_list core.rows) (λ row h. row_sound features settings core row made crowds h);
-      squares = (rows_roomy features settings.border_tol core.rows made.rows crowds).squares;
-      paired = rows_paired features settings.border_tol (first_unit features) features.units core.rows core.crossings.items core.crossings.items made.rows refl refl made.crossings;
+      squares = (rows_roomy features settings core.rows made.rows crowds).squares;
+      paired = rows_paired features settings (first_unit features) features.units core.rows core.crossings.items core.crossings.items made.rows refl refl made.crossings;
       crossings = all_of (IsCrossing core) core.crossings.items (λ crossing h. crossing_sound features settings core crossing made h);
+      whole = λ w crossing row unit there. whole_in crossing row;
       units_last = subst (λ (xs : List FeatureId). core.first_unit ≤ length xs) (sym ids) (omega (arith, count, made.first_unit_is));
       apart = subst (λ (cs : List Crossing). IsStrictlyIncreasing (map via_of cs)) (sym made.crossings) (vias_rise (first_unit features) features.units);
       passages = all_of (IsPassage core) core.passages.items (λ link h. passage_sound features settings core link made h);
@@ -238,7 +240,8 @@ core_sound features settings core sound own crowds law made =
       barred = barred_many features settings core made;
       numbered = λ id. made.nodes.closable id ∙ ap (λ (xs : List FeatureId). number_among xs id) (sym ids);
       once = subst (λ (xs : List FeatureId). AllPairs (λ a b. a ≢ b) xs) (sym ids) (apart_by (closables features) (closables_once features own));
-      close = (nodes_close features core.nodes law made.nodes).close;
+      few_nodes = subst (λ (xs : List Node). length xs ≤ 400000) (sym made.nodes.list) few;
+      close = (nodes_close features settings core.nodes law made.nodes).close;
       kx_range = subst (λ n. n ≤ 20000000) (sym made.kx_is) settings.kx_range;
       ky_range = subst (λ n. n ≤ 20000000) (sym made.ky_is) settings.ky_range;
     }
@@ -253,15 +256,15 @@ links_made features settings core made =
     ∙ units_are features settings core (first_unit features) features.units (record { nodes_are = made.nodes.list; kx_is = made.kx_is; ky_is = made.ky_is }))
     made.passages
 
-ends_made : (features : Features) (settings : Settings) (core : Core) (n : ℕ) → IsMadeOf features settings core → ends_in core n ≡ end_facts (end_at features n)
+ends_made : (features : Features) (settings : Settings) (core : Core) (n : ℕ) → IsMadeOf features settings core → ends_in core n ≡ end_facts (end_at features settings n)
 unfolding ends_in
-ends_made features settings core n made = asks_are features (find_closable core.nodes) core.doors.items n made.doors
+ends_made features settings core n made = asks_are features settings (find_closable core.nodes) core.doors.items n made.doors
 
 barred_made : (features : Features) (settings : Settings) (core : Core) (via : ℕ) → IsMadeOf features settings core → barred_in core via ≡ option_map_or (λ (u : UnitRow). u.restricted) (unit_by features via) false
 unfolding barred_in
 barred_made features settings core via made = ap (λ (bs : List Bool). get_or bs via false) made.barred ∙ barred_is (first_unit features) via features.units
 
-facts_made : (features : Features) (settings : Settings) (core : Core) (link : Link) → IsMadeOf features settings core → link_facts (network_in core) link ≡ facts_at features link
+facts_made : (features : Features) (settings : Settings) (core : Core) (link : Link) → IsMadeOf features settings core → link_facts (network_in core) link ≡ facts_at features settings link
 unfolding link_facts facts_at network_in
 facts_made features settings core link made =
     ap (λ (b : Bool). joined_facts link.kind b (ends_in core link.from) (ends_in core link.to)) (barred_made features settings core link.via made)

@@ -71,22 +71,22 @@ chain_is features find row between n a b c same middle none one two three =
     (three ∙ ap (λ (xs : List ℕ). b ++ xs) (places_same find place (one_or_none row.destination) same))
     ∙ sym (chain_parts place row)
 
-pub chain_all_within : (features : Features) (row : RelationshipRow) (c : List ℕ) → c ≡ chain features row → All (λ n. n < length (nodes features)) c
-chain_all_within features row c e =
-    subst (λ (xs : List ℕ). All (λ n. n < length (nodes features)) xs) (sym e)
-    (λ k d h. chain_within features row (get_or (chain features row) k d) (All-contains_itself (chain features row) k d h))
+pub chain_all_within : (features : Features) (settings : Settings) (row : RelationshipRow) (c : List ℕ) → c ≡ chain features row → All (λ n. n < length (nodes features settings)) c
+chain_all_within features settings row c e =
+    subst (λ (xs : List ℕ). All (λ n. n < length (nodes features settings)) xs) (sym e)
+    (λ k d h. chain_within features settings row (get_or (chain features row) k d) (All-contains_itself (chain features row) k d h))
 
 -- ---- a passage
 
 abbrev spot_at : Option Node → Spot
 spot_at found = elim found [ None ↦ record { x = pos 0; y = pos 0 } | Some node ↦ node.spot ]
 
-pub passage_is : (features : Features) (settings : Settings) (via : ℕ) (kind : Kind) (a b : ℕ) (m n : Node) (list : List Node) (way extra : ℕ) → list ≡ nodes features → slice_get list a ≡ Some m → slice_get list b ≡ Some n
+pub passage_is : (features : Features) (settings : Settings) (via : ℕ) (kind : Kind) (a b : ℕ) (m n : Node) (list : List Node) (way extra : ℕ) → list ≡ nodes features settings → slice_get list a ≡ Some m → slice_get list b ≡ Some n
     → way ≡ length_between m.spot n.spot settings.kx settings.ky → extra ≡ extra_of settings.extras kind
     → record { from = a; to = b; via = via; cost = way + extra; kind = kind } ≡ passage_link features settings via kind a b
 passage_is features settings via kind a b m n list way extra same here there long more =
-    let start : spot_of features a ≡ m.spot = ap spot_at (subst (λ (xs : List Node). slice_get xs a ≡ Some m) same here) in
-    let finish : spot_of features b ≡ n.spot = ap spot_at (subst (λ (xs : List Node). slice_get xs b ≡ Some n) same there) in
+    let start : spot_of features settings a ≡ m.spot = ap spot_at (subst (λ (xs : List Node). slice_get xs a ≡ Some m) same here) in
+    let finish : spot_of features settings b ≡ n.spot = ap spot_at (subst (λ (xs : List Node). slice_get xs b ≡ Some n) same there) in
     let made : ℕ → ℕ → Link = λ w x. record { from = a; to = b; via = via; cost = w + x; kind = kind } in
     ap₂ made (long ∙ ap₂ (λ (s t : Spot). length_between s t settings.kx settings.ky) (sym start) (sym finish)) more
 

@@ -22,10 +22,11 @@ use Rattle.venue_nodes.proofs.Items.{at_member, at_map}
 use Rattle.venue_nodes.proofs.Places.{places_rise, place_at}
 use Rattle.link_graph.specs.declared.parts.Core.{Core}
 use Rattle.link_graph.specs.declared.parts.Crossing.{Crossing}
-use Rattle.link_graph.specs.Cores.{way_in, links_across, links_across_all}
+use Rattle.link_graph.specs.Cores.{way_in, links_across, links_across_all, joined_in}
 use Rattle.link_graph.specs.Lengths.{length_between}
 use Rattle.link_graph.specs.Links.{spot_of, are_joined, inside_link, is_moving, unit_links, way}
 use Rattle.link_graph.specs.Making.{crossing_of, crossings_from, barred_from}
+use Rattle.link_graph.proofs.Joined.{filter_same, kept_so}
 
 abbrev pub walks : UnitRow → Bool
 walks row = is_walkable row.category
@@ -101,7 +102,7 @@ joined_same {X} {Y} f g (x ∷ xs) same = ap₂ (λ (ys zs : List Y). ys ++ zs) 
 
 -- the graph has the nodes and the settings
 pub record HasGround (features : Features) (settings : Settings) (core : Core) : Type 0 where
-  pub nodes_are : node_list core.nodes ≡ nodes features
+  pub nodes_are : node_list core.nodes ≡ nodes features settings
   pub kx_is : core.kx ≡ settings.kx
   pub ky_is : core.ky ≡ settings.ky
 
@@ -111,36 +112,38 @@ spot_at found = elim found [ None ↦ record { x = pos 0; y = pos 0 } | Some nod
 way_same : (features : Features) (settings : Settings) (core : Core) (a b : ℕ) → HasGround features settings core → way_in core a b ≡ way features settings a b
 way_same features settings core a b ground =
     ap (λ (ns : List Node). length_between (spot_at (slice_get ns a)) (spot_at (slice_get ns b)) core.kx core.ky) ground.nodes_are
-    ∙ ap₂ (λ (x y : ℕ). length_between (spot_of features a) (spot_of features b) x y) ground.kx_is ground.ky_is
+    ∙ ap₂ (λ (x y : ℕ). length_between (spot_of features settings a) (spot_of features settings b) x y) ground.kx_is ground.ky_is
 
 across_same : (features : Features) (settings : Settings) (core : Core) (via : ℕ) (u : UnitRow) (row : List ℕ) → HasGround features settings core
-    → flat_map (λ a. map (λ b. record { from = a; to = b; via = via; cost = way_in core a b; kind = unit_kind_of u.category }) (filter (are_joined a) row)) row
-    ≡ flat_map (λ a. map (inside_link features settings via u a) (filter (are_joined a) row)) row
+    → flat_map (λ a. map (λ b. record { from = a; to = b; via = via; cost = way_in core a b; kind = unit_kind_of u.category }) (filter (joined_in (crossing_of via u) row a) row)) row
+    ≡ flat_map (λ a. map (inside_link features settings via u a) (filter (are_joined features settings u a) row)) row
 across_same features settings core via u row ground =
-    joined_same _ _ row (λ a. mapped_same _ _ (filter (are_joined a) row) (λ b. ap (λ (n : ℕ). record { from = a; to = b; via = via; cost = n; kind = unit_kind_of u.category }) (way_same features settings core a b ground)))
+    joined_same _ _ row (λ a. ap (map (λ b. record { from = a; to = b; via = via; cost = way_in core a b; kind = unit_kind_of u.category }))
+    (filter_same (joined_in (crossing_of via u) row a) (are_joined features settings u a) row (λ b h. kept_so features settings u (crossing_of via u) row a b))
+    ∙ mapped_same _ _ (filter (are_joined features settings u a) row) (λ b. ap (λ (n : ℕ). record { from = a; to = b; via = via; cost = n; kind = unit_kind_of u.category }) (way_same features settings core a b ground)))
 
 unit_same : (features : Features) (settings : Settings) (core : Core) (via : ℕ) (u : UnitRow) → walks u ≡ true → HasGround features settings core
-    → links_across core (crossing_of via u) (members features settings.border_tol u) ≡ unit_links features settings (via, u)
+    → links_across core (crossing_of via u) (members features settings u) ≡ unit_links features settings (via, u)
 unit_same features settings core via u walked ground =
     let moving = not (is_moving (unit_kind_of u.category)) in
-    let inside = flat_map (λ a. map (inside_link features settings via u a) (filter (are_joined a) (members features settings.border_tol u))) (members features settings.border_tol u) in
-    ap (λ (ls : List Link). cond moving ls []) (across_same features settings core via u (members features settings.border_tol u) ground)
+    let inside = flat_map (λ a. map (inside_link features settings via u a) (filter (are_joined features settings u a) (members features settings u))) (members features settings u) in
+    ap (λ (ls : List Link). cond moving ls []) (across_same features settings core via u (members features settings u) ground)
     ∙ ap (λ (b : Bool). cond (b && moving) inside []) (sym walked)
 
 solid_none : (features : Features) (settings : Settings) (via : ℕ) (u : UnitRow) → walks u ≡ false → unit_links features settings (via, u) ≡ []
 solid_none features settings via u solid =
     let moving = not (is_moving (unit_kind_of u.category)) in
-    let inside = flat_map (λ a. map (inside_link features settings via u a) (filter (are_joined a) (members features settings.border_tol u))) (members features settings.border_tol u) in
+    let inside = flat_map (λ a. map (inside_link features settings via u a) (filter (are_joined features settings u a) (members features settings u))) (members features settings u) in
     ap (λ (b : Bool). cond (b && moving) inside []) solid
 
 units_step : (features : Features) (settings : Settings) (core : Core) (via : ℕ) (u : UnitRow) (us : List UnitRow) (b : Bool) → walks u ≡ b → HasGround features settings core
-    → links_across_all core (crossings_from (via + 1) us) (map (members features settings.border_tol) (filter walks us)) ≡ flat_map (unit_links features settings) (enumerate_from (via + 1) us)
-    → links_across_all core (cond b (crossing_of via u ∷ crossings_from (via + 1) us) (crossings_from (via + 1) us)) (map (members features settings.border_tol) (cond b (u ∷ filter walks us) (filter walks us)))
+    → links_across_all core (crossings_from (via + 1) us) (map (members features settings) (filter walks us)) ≡ flat_map (unit_links features settings) (enumerate_from (via + 1) us)
+    → links_across_all core (cond b (crossing_of via u ∷ crossings_from (via + 1) us) (crossings_from (via + 1) us)) (map (members features settings) (cond b (u ∷ filter walks us) (filter walks us)))
     ≡ unit_links features settings (via, u) ++ flat_map (unit_links features settings) (enumerate_from (via + 1) us)
 units_step features settings core via u us true e ground rest = ap₂ (λ (xs ys : List Link). xs ++ ys) (unit_same features settings core via u e ground) rest
 units_step features settings core via u us false e ground rest = rest ∙ ap (λ (xs : List Link). xs ++ flat_map (unit_links features settings) (enumerate_from (via + 1) us)) (sym (solid_none features settings via u e))
 
 pub units_are : (features : Features) (settings : Settings) (core : Core) (via : ℕ) (us : List UnitRow) → HasGround features settings core
-    → links_across_all core (crossings_from via us) (map (members features settings.border_tol) (filter walks us)) ≡ flat_map (unit_links features settings) (enumerate_from via us)
+    → links_across_all core (crossings_from via us) (map (members features settings) (filter walks us)) ≡ flat_map (unit_links features settings) (enumerate_from via us)
 units_are features settings core via [] ground = refl
 units_are features settings core via (u ∷ us) ground = units_step features settings core via u us (walks u) refl ground (units_are features settings core (via + 1) us ground)

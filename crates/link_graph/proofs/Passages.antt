@@ -60,12 +60,12 @@ of_whole_chain features settings via kind directed bound [] link k there = absur
 of_whole_chain features settings via kind directed bound (a ∷ rest) link k there =
     of_chain features settings via kind directed bound a rest link (k a (Contains-first a rest)) (λ c s. k c (Contains-later a rest c s)) there
 
-pub chain_within : (features : Features) (row : RelationshipRow) (c : ℕ) → Contains (chain features row) c → c < length (nodes features)
-chain_within features row c h =
+pub chain_within : (features : Features) (settings : Settings) (row : RelationshipRow) (c : ℕ) → Contains (chain features row) c → c < length (nodes features settings)
+chain_within features settings row c h =
     let place = λ (e : Element). place_of features e.reference.id in
     let at = at_member (chain features row) c h in
     let given = given_from place (elements row) at.0 c at.1 in
-    place_within features given.x.reference.id c given.gives
+    place_within features settings given.x.reference.id c given.gives
 
 -- the link leads by the relationship with this index from node to node
 pub record IsPassage (features : Features) (settings : Settings) (link : Link) : Type 0 where
@@ -73,7 +73,7 @@ pub record IsPassage (features : Features) (settings : Settings) (link : Link) :
   pub row : RelationshipRow
   pub kind : Kind
   pub there : slice_get features.relationships k ≡ Some row
-  pub between : IsBetween features settings (length features.openings + k) kind (length (nodes features)) link
+  pub between : IsBetween features settings (length features.openings + k) kind (length (nodes features settings)) link
 
 abbrev links_by : Features → Settings → (ℕ × RelationshipRow) → Option Kind → List Link
 links_by features settings row kind = elim kind [
@@ -84,8 +84,8 @@ links_by features settings row kind = elim kind [
 of_kind : (features : Features) (settings : Settings) (row : ℕ × RelationshipRow) (kind : Option Kind) (k : ℕ) (link : Link) → slice_get features.relationships k ≡ Some row.1 → row.0 ≡ length features.openings + k → Contains (links_by features settings row kind) link → IsPassage features settings link
 of_kind features settings row None k link there e h = absurd (Contains-nil link h)
 of_kind features settings row (Some kind) k link there e h =
-    let between = of_whole_chain features settings row.0 kind row.1.directed (length (nodes features)) (chain features row.1) link (chain_within features row.1) h in
-    record { k = k; row = row.1; kind = kind; there = there; between = subst (λ via. IsBetween features settings via kind (length (nodes features)) link) e between }
+    let between = of_whole_chain features settings row.0 kind row.1.directed (length (nodes features settings)) (chain features row.1) link (chain_within features settings row.1) h in
+    record { k = k; row = row.1; kind = kind; there = there; between = subst (λ via. IsBetween features settings via kind (length (nodes features settings)) link) e between }
 
 pub of_relationship : (features : Features) (settings : Settings) (row : ℕ × RelationshipRow) (k : ℕ) (link : Link) → slice_get features.relationships k ≡ Some row.1 → row.0 ≡ length features.openings + k → Contains (relationship_links features settings row) link → IsPassage features settings link
 of_relationship features settings row k link there e h = of_kind features settings row row.1.kind k link there e h

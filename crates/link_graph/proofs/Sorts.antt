@@ -24,18 +24,18 @@ pub record IsInside (features : Features) (settings : Settings) (link : Link) : 
   pub b : ℕ
   pub there : slice_get features.units k ≡ Some u
   pub walked : IsTrue (has_links u)
-  pub start : Contains (members features settings.border_tol u) a
-  pub finish : Contains (members features settings.border_tol u) b
-  pub joined : IsTrue (are_joined a b)
+  pub start : Contains (members features settings u) a
+  pub finish : Contains (members features settings u) b
+  pub joined : IsTrue (are_joined features settings u a b)
   pub is : inside_link features settings (first_unit features + k) u a b ≡ link
 
 of_unit : (features : Features) (settings : Settings) (row : ℕ × UnitRow) (k : ℕ) (link : Link) → slice_get features.units k ≡ Some row.1 → row.0 ≡ first_unit features + k → Contains (unit_links features settings row) link → IsInside features settings link
 of_unit features settings row k link there e h =
-    let standing = members features settings.border_tol row.1 in
+    let standing = members features settings row.1 in
     let some = from_then (has_links row.1) (flat_map (links_from features settings row.0 row.1) standing) link h in
     let first = from_flat_map (links_from features settings row.0 row.1) standing link some.1 in
-    let second = from_map (inside_link features settings row.0 row.1 first.0) (filter (are_joined first.0) standing) link first.2 in
-    let kept = from_filter (are_joined first.0) standing second.0 second.1 in
+    let second = from_map (inside_link features settings row.0 row.1 first.0) (filter (are_joined features settings row.1 first.0) standing) link first.2 in
+    let kept = from_filter (are_joined features settings row.1 first.0) standing second.0 second.1 in
     record {
       k = k;
       u = row.1;
@@ -53,11 +53,11 @@ pub inside_there : (features : Features) (settings : Settings) (link : Link) →
 unfolding links
 inside_there features settings link h =
     let via = first_unit features + h.k in
-    let standing = members features settings.border_tol h.u in
+    let standing = members features settings h.u in
     let made = inside_link features settings via h.u h.a in
-    let others = filter (are_joined h.a) standing in
+    let others = filter (are_joined features settings h.u h.a) standing in
     let from_start : Contains (links_from features settings via h.u h.a) link =
-    subst (λ l. Contains (map made others) l) h.is (Contains-map made others h.b (to_filter (are_joined h.a) standing h.b h.finish h.joined)) in
+    subst (λ l. Contains (map made others) l) h.is (Contains-map made others h.b (to_filter (are_joined features settings h.u h.a) standing h.b h.finish h.joined)) in
     let of_members = to_flat_map (links_from features settings via h.u) standing h.a link h.start from_start in
     let of_row = to_then (has_links h.u) (flat_map (links_from features settings via h.u) standing) link h.walked of_members in
     Contains-append_left

@@ -1,6 +1,6 @@
 //! The links across units, by the members between which one walks, and those by relationships.
 
-ghost use Rattle.std.specs.Prelude.{◌≡◌, ◌<◌, ◌≤◌, ◌++◌, length, slice_get};
+ghost use Rattle.std.specs.Prelude.{◌≡◌, ◌<◌, ◌≤◌, ◌++◌, IsTrue, length, slice_get};
 ghost use Rattle.std.specs.List.{flat_map};
 ghost use Rattle.venue_nodes.specs.Views.{closable_list};
 ghost use Rattle.link_graph.specs.Areas.{IsArea, area_links, areas, inside_area, passages, unit_of, walked_of};
@@ -21,6 +21,8 @@ pub struct Area {
     pub kind: Kind,
     /// Whether it is a restricted unit.
     pub restricted: bool,
+    /// Whether one walks straight between any two of its members.
+    pub whole: bool,
 }
 
 impl Graph {
@@ -40,6 +42,7 @@ impl Graph {
         requires { w < length (areas self.now) }
         ensures there { slice_get (areas self.now) w ≡ Some (result.0, result.1.now) }
         ensures area { IsArea (network self.now) result.0 result.1.now }
+        ensures whole { IsTrue result.0.whole }
     {
         let crossing = self.core.crossings[w as usize];
         (
@@ -89,6 +92,7 @@ fn unit(core: &Core, crossing: Crossing) -> Area
         via: crossing.via,
         kind: crossing.kind,
         restricted: core.barred[crossing.via as usize],
+        whole: true,
     }
 }
 

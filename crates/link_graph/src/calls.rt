@@ -6,6 +6,7 @@ ghost use Rattle.venue_nodes.specs.FeatureRows.{HaveOwnIds};
 ghost use Rattle.venue_nodes.specs.Sound.{AreSound};
 ghost use Rattle.plane_exact.specs.Figure.{AllClose};
 ghost use Rattle.venue_nodes.specs.Crowds.{Crowds};
+ghost use Rattle.venue_nodes.specs.Nodes.{nodes as nodes_of};
 ghost use Rattle.venue_nodes.specs.Numbering.{number_among};
 ghost use Rattle.venue_nodes.specs.Rows.{AreRowsOf};
 ghost use Rattle.venue_nodes.specs.Views.{AreNodes};
@@ -17,8 +18,9 @@ ghost use Rattle.link_graph.specs.Marking.{AreMarksOf, marked};
 use crate::graph::Graph;
 use crate::graph_core::core_of;
 use crate::marks::Marks;
+use crate::new_links::NewLink;
 use crate::stretches::Stretch;
-use crate::{link_facts, link_list, out_links, outlook};
+use crate::{link_facts, link_list, new_links, out_links, outlook};
 use imdf_access::EndFacts;
 use std::alloc::Global;
 use std::sync::ledger::Ledger;
@@ -27,10 +29,12 @@ use venue_types::{FeatureId, Features, Link, LinkFacts, List, Node, OutOfMemory,
 use walk_laws::Steps;
 
 impl Graph {
-    ghost use Rattle.std.specs.Prelude.{IfOk, Some, slice_get};
+    ghost use Rattle.std.specs.Prelude.{IfOk, IfSome, Some, slice_get};
     ghost use Rattle.venue_types.specs.declared.features.Features.{Features as AFeatures};
     ghost use Rattle.venue_types.specs.declared.link.Link.{Link as ALink};
     ghost use Rattle.venue_types.specs.declared.settings.Settings.{Settings as ASettings};
+    ghost use Rattle.link_graph.specs.declared.stretches.Stretch.{Stretch as AStretch};
+    ghost use Rattle.link_graph.specs.Detours.{AreKnown, HasLinkAcross, IsNewIn};
     ghost use Rattle.link_graph.specs.Networks.{IsFree, IsNetworkOf, link_facts, links_out};
 
     /// The graph of the features of a folder, over the nodes and the rows of members that were made of them, where units are roomy.
@@ -46,9 +50,10 @@ impl Graph {
         requires sound { AreSound features.now }
         requires own_ids { HaveOwnIds features.now }
         requires close { AllClose (judged_positions features.now) }
-        requires nodes { AreNodes features.now nodes }
-        requires rows { AreRowsOf features.now settings.now.border_tol rows }
-        requires roomy { Crowds features.now settings.now.border_tol None }
+        requires nodes { AreNodes features.now settings.now nodes }
+        requires rows { AreRowsOf features.now settings.now rows }
+        requires roomy { Crowds features.now settings.now None }
+        requires few { length (nodes_of features.now settings.now) ≤ 400000 }
         ensures { IfOk result (λ graph. IsNetworkOf features.now settings.now (network graph)) }
     {
         let core = core_of(alloc, features, nodes, rows, settings)?;
@@ -84,7 +89,7 @@ impl Graph {
     /// The table of its nodes and of what can be closed.
     #[tactic(auto, unfolding(crate::specs::Graphs::network, crate::specs::Cores::network_in))]
     pub fn node_table(&self) -> &Nodes
-        ensures { (features : AFeatures) (settings : ASettings) → IsNetworkOf features settings (network self.now) → AreNodes features result.now }
+        ensures { (features : AFeatures) (settings : ASettings) → IsNetworkOf features settings (network self.now) → AreNodes features settings result.now }
     {
         &self.core.nodes
     }
@@ -136,28 +141,6 @@ impl Graph {
         out_links::out_link(&self.core, n, place)
     }
 
-    /// That link, where from a node that costs `base` it leads to its end at less than is listed there, else nothing. Its length is computed
-    /// only where it is told. `least` has an entry for each node. Counts a step.
-    #[tactic(auto, unfolding(crate::specs::Graphs::network))]
-    pub fn lower_link<L: Ledger>(
-        &self,
-        n: u32,
-        place: u32,
-        base: u64,
-        least: &[u64],
-        steps: &mut Steps<L>,
-    ) -> Option<Link>
-        requires node { n < length (network self.now).nodes }
-        requires place { place < length (links_out (network self.now) n) }
-        requires entries { length least.now ≡ length (network self.now).nodes }
-        requires base { base < 2 ^ 42 }
-        ensures link { (link : ALink) → slice_get (links_out (network self.now) n) place ≡ Some link → result ≡ lower_of least.now base link }
-        ensures step { steps.new ≡ steps.old + 1 }
-    {
-        steps.tick();
-        out_links::lower_link(&self.core, n, place, base, least)
-    }
-
     /// All links, in their order. Takes 20 bytes a link.
     #[tactic(auto, unfolding(crate::specs::Graphs::network, crate::specs::Cores::network_in))]
     pub fn listed(&self, alloc: Global) -> Result<List<Link>, OutOfMemory>
@@ -192,6 +175,44 @@ impl Graph {
         ensures { slice_get ((network self.now).stretches n) k ≡ Some result }
     {
         outlook::stretch_at(&self.core, n, k)
+    }
+
+    /// The first of the links of a stretch of a node, from a place on, that isn't known from another node that has a link across the stretch's unit:
+    /// that doesn't lead there, and to whose end no link leads from there by that unit. Where no other node is given nothing is known.
+    /// Nothing where all are known. Takes the time of one look where any two members of the unit are joined.
+    #[tactic(auto, unfolding(crate::specs::Graphs::network))]
+    pub fn next_new(&self, n: u32, k: u32, known: Option<u32>, place: u32) -> Option<NewLink>
+        requires node { n < length (network self.now).nodes }
+        requires stretch { k < length ((network self.now).stretches n) }
+        requires known { (stretch : AStretch) → slice_get ((network self.now).stretches n) k ≡ Some stretch → HasLinkAcross (network self.now) stretch.way known }
+        ensures told { (stretch : AStretch) → slice_get ((network self.now).stretches n) k ≡ Some stretch → IfSome result (IsNewIn (network self.now) n stretch place) }
+        ensures passed { (stretch : AStretch) → slice_get ((network self.now).stretches n) k ≡ Some stretch → AreKnown (network self.now) n stretch known place result }
+    {
+        new_links::next_new(&self.core, n, k, known, place)
+    }
+
+    /// A link that was found in a stretch of a node, where from a node that costs `base` it leads to its end at less than is listed there, else
+    /// nothing. Its length is computed only where it is told, and its place isn't looked for. Counts a step.
+    #[tactic(auto, unfolding(crate::specs::Graphs::network))]
+    pub fn lower_new<L: Ledger>(
+        &self,
+        n: u32,
+        k: u32,
+        found: NewLink,
+        base: u64,
+        least: &[u64],
+        steps: &mut Steps<L>,
+    ) -> Option<Link>
+        requires node { n < length (network self.now).nodes }
+        requires stretch { k < length ((network self.now).stretches n) }
+        requires found { (stretch : AStretch) → slice_get ((network self.now).stretches n) k ≡ Some stretch → IsNewIn (network self.now) n stretch 0 found }
+        requires entries { length least.now ≡ length (network self.now).nodes }
+        requires base { base < 2 ^ 42 }
+        ensures link { (link : ALink) → slice_get (links_out (network self.now) n) found.place ≡ Some link → result ≡ lower_of least.now base link }
+        ensures step { steps.new ≡ steps.old + 1 }
+    {
+        steps.tick();
+        new_links::lower_new(&self.core, n, k, found, base, least)
     }
 
     /// What a node asks of who passes it.

@@ -3,7 +3,7 @@
 ghost use Rattle.std.specs.Prelude.{◌≡◌, ◌++◌, OnOk, IfOk, map, filter};
 ghost use Rattle.venue_types.specs.declared.features.UnitRow.{UnitRow as AUnit};
 ghost use Rattle.imdf_access.specs.Categories.{is_walkable};
-ghost use Rattle.venue_nodes.specs.Nodes.{NodeRow, unit as of_unit, node_rows};
+ghost use Rattle.venue_nodes.specs.Nodes.{NodeRow, unit as of_unit, place_node_rows};
 ghost use Rattle.venue_nodes.specs.Views.{find_closable};
 ghost use Rattle.link_graph.specs.Making.{door_of};
 
@@ -134,7 +134,7 @@ pub(crate) fn doors_of(
     features: &Features,
     nodes: &Nodes,
 ) -> Result<Vec<Door>, OutOfMemory>
-    ensures { IfOk result (λ doors. doors.items ≡ map (door_of (find_closable nodes.now)) (node_rows features.now)) }
+    ensures { IfOk result (λ doors. doors.items ≡ map (door_of (find_closable nodes.now)) (place_node_rows features.now)) }
 {
     let mut doors = Vec::new(alloc);
     add_doors(&mut doors, nodes, features.amenities.as_slice())?;

@@ -23,6 +23,7 @@ pub enum GraphFault {
 impl GraphFault {
     ghost use Rattle.std.specs.Prelude.{ℕ, IfSome, Some};
     ghost use Rattle.venue_types.specs.declared.features.Features.{Features as AFeatures};
+    ghost use Rattle.venue_types.specs.declared.settings.Settings.{Settings as ASettings};
     ghost use Rattle.rule_reports.specs.Reports.{IsReport};
     ghost use Rattle.venue_nodes.specs.Crowds.{Crowds};
     ghost use Rattle.venue_nodes.specs.Limits.{BreaksLimit};
@@ -31,7 +32,7 @@ impl GraphFault {
 
     /// That a limit on members is passed.
     pub(crate) fn of(crowding: Crowding) -> GraphFault
-        ensures { (features : AFeatures) (border_tol : ℕ) → Crowds features border_tol (Some crowding) → IsFault features border_tol result }
+        ensures { (features : AFeatures) (settings : ASettings) → Crowds features settings (Some crowding) → IsFault features settings result }
     {
         match crowding {
             Crowding::Members(k) => GraphFault::Members(k),
@@ -44,7 +45,7 @@ impl GraphFault {
     pub fn of_counts(alloc: Global, features: &Features, counts: &[usize]) -> GraphFault
         requires sound { AreSound features.now }
         requires own_ids { HaveOwnIds features.now }
-        ensures { (border_tol : ℕ) → TouchMany border_tol features.now.openings features.now.units counts.now → IsFault features.now border_tol result }
+        ensures { (settings : ASettings) → TouchMany settings.border_tol features.now.openings features.now.units counts.now → IsFault features.now settings result }
     {
         match crowding_by(alloc, features, counts) {
             Ok(crowding) => GraphFault::of(crowding),
@@ -55,7 +56,7 @@ impl GraphFault {
     /// What is found in the folder: the limit that is passed.
     pub fn findings(self, alloc: Global) -> Result<List<Finding>, OutOfMemory>
         ensures some { IfOk result (λ findings. findings ≢ []) }
-        ensures all { IfOk result (λ findings. (features : AFeatures) (border_tol : ℕ) → IsFault features border_tol self → IsReport (BreaksLimit features border_tol) findings) }
+        ensures all { IfOk result (λ findings. (features : AFeatures) (settings : ASettings) → IsFault features settings self → IsReport (BreaksLimit features settings) findings) }
     {
         match self.crowding() {
             Some(crowding) => {
@@ -68,7 +69,7 @@ impl GraphFault {
 
     // The limit that is passed, if one is.
     fn crowding(self) -> Option<Crowding>
-        ensures { IfSome result (λ crowding. (features : AFeatures) (border_tol : ℕ) → IsFault features border_tol self → Crowds features border_tol (Some crowding)) }
+        ensures { IfSome result (λ crowding. (features : AFeatures) (settings : ASettings) → IsFault features settings self → Crowds features settings (Some crowding)) }
     {
         match self {
             GraphFault::Members(k) => Some(Crowding::Members(k)),

@@ -13,7 +13,7 @@ ghost use Rattle.link_graph.specs.Faults.{IsFault};
 use crate::faults::GraphFault;
 use crate::graph::Graph;
 use std::alloc::Global;
-use venue_nodes::{Nodes, Rows, first_crowding};
+use venue_nodes::{Nodes, Rows, few_law, first_crowding};
 use venue_types::{Features, Settings, Touches};
 
 impl Graph {
@@ -32,14 +32,15 @@ impl Graph {
         requires close { AllClose (judged_positions features.now) }
         requires touches { AreTouches settings.now.border_tol features.now touches.now }
         ensures graph { IfOk result (λ graph. IsNetworkOf features.now settings.now (network graph)) }
-        ensures kept { IfOk result (λ _. Crowds features.now settings.now.border_tol None) }
-        ensures fault { IfErr result (IsFault features.now settings.now.border_tol) }
+        ensures kept { IfOk result (λ _. Crowds features.now settings.now None) }
+        ensures fault { IfErr result (IsFault features.now settings.now) }
     {
+        few_law();
         let rows = Rows::of(alloc, features, settings, touches)?;
         match first_crowding(&rows) {
             Some(crowding) => Err(GraphFault::of(crowding)),
             None => {
-                let nodes = Nodes::of(alloc, features)?;
+                let nodes = Nodes::of(alloc, features, settings)?;
                 Ok(Graph::of(alloc, features, nodes, rows, settings)?)
             }
         }

@@ -1,11 +1,12 @@
 //! From the nodes and the rows of members to what a graph keeps.
 
-ghost use Rattle.std.specs.Prelude.{IfOk, None};
+ghost use Rattle.std.specs.Prelude.{◌≤◌, IfOk, None, length};
 ghost use Rattle.venue_nodes.specs.Figures.{judged_positions};
 ghost use Rattle.venue_nodes.specs.FeatureRows.{HaveOwnIds};
 ghost use Rattle.venue_nodes.specs.Sound.{AreSound};
 ghost use Rattle.plane_exact.specs.Figure.{AllClose};
 ghost use Rattle.venue_nodes.specs.Crowds.{Crowds};
+ghost use Rattle.venue_nodes.specs.Nodes.{nodes as nodes_of};
 ghost use Rattle.venue_nodes.specs.Rows.{AreRowsOf};
 ghost use Rattle.venue_nodes.specs.Views.{AreNodes};
 ghost use Rattle.link_graph.specs.Cores.{IsSoundCore, network_in};
@@ -23,6 +24,7 @@ use venue_nodes::{Nodes, Rows, spot_law};
 use venue_types::{Features, OutOfMemory, Settings};
 
 // Its parts, one after another.
+#[tactic(auto, unfolding(venue_nodes::specs::Nodes::node_rows))]
 fn made_of(
     alloc: Global,
     features: &Features,
@@ -32,9 +34,9 @@ fn made_of(
 ) -> Result<Core, OutOfMemory>
     requires sound { AreSound features.now }
     requires close { AllClose (judged_positions features.now) }
-    requires nodes { AreNodes features.now nodes }
-    requires rows { AreRowsOf features.now settings.now.border_tol rows }
-    requires roomy { Crowds features.now settings.now.border_tol None }
+    requires nodes { AreNodes features.now settings.now nodes }
+    requires rows { AreRowsOf features.now settings.now rows }
+    requires roomy { Crowds features.now settings.now None }
     ensures { IfOk result (IsMadeOf features.now settings.now) }
 {
     spot_law();
@@ -77,9 +79,10 @@ pub(crate) fn core_of(
     requires sound { AreSound features.now }
     requires own_ids { HaveOwnIds features.now }
     requires close { AllClose (judged_positions features.now) }
-    requires nodes { AreNodes features.now nodes }
-    requires rows { AreRowsOf features.now settings.now.border_tol rows }
-    requires roomy { Crowds features.now settings.now.border_tol None }
+    requires nodes { AreNodes features.now settings.now nodes }
+    requires rows { AreRowsOf features.now settings.now rows }
+    requires roomy { Crowds features.now settings.now None }
+    requires few { length (nodes_of features.now settings.now) ≤ 400000 }
     ensures sound { IfOk result IsSoundCore }
     ensures network { IfOk result (λ core. IsNetworkOf features.now settings.now (network_in core)) }
 {

@@ -2,8 +2,9 @@
 
 ghost use Rattle.std.specs.Prelude.{◌≡◌, ◌<◌, MatchOption, Contains, Some, length, slice_get};
 ghost use Rattle.std.specs.List.Sorted.{IsNonDecreasingBy};
+ghost use Rattle.link_graph.specs.declared.parts.Crossing.{Crossing as ACrossing};
 ghost use Rattle.link_graph.specs.declared.parts.Seat.{Seat as ASeat};
-ghost use Rattle.link_graph.specs.Cores.{IsSoundCore, network_in, others_in, seats_at, leaving_at, across_count};
+ghost use Rattle.link_graph.specs.Cores.{IsSoundCore, link_across, network_in, others_in, seats_at, leaving_at, across_count};
 ghost use Rattle.link_graph.specs.Leads.{HasNoSeat, IsLastSeat, lead_link, links_of_row, passages_out};
 ghost use Rattle.link_graph.specs.Networks.{links_out};
 
@@ -28,14 +29,14 @@ pub(crate) fn lead_at(core: &Core, n: u32, place: u32) -> Lead
     ensures { slice_get (links_out (network_in core.now) n) place ≡ Some (lead_link core.now n result) }
 {
     match last_seat(core.seats[n as usize].as_slice(), place) {
-        None => passage(core, n, place),
+        None => Lead::Passage(passage(core, n, place)),
         Some(seat) => {
             let behind = place - seat.first;
             let count = others(core, seat.row);
             if behind < count {
                 across(core, n, &seat, behind)
             } else {
-                passage(core, n, behind - count)
+                Lead::Passage(passage(core, n, behind - count))
             }
         }
     }
@@ -85,20 +86,30 @@ fn across(core: &Core, n: u32, seat: &Seat, k: u32) -> Lead
     requires k { k < others_in core.now seat.now.row }
     ensures { slice_get (links_of_row core.now n seat.now.row) k ≡ Some (lead_link core.now n result) }
 {
-    let row = core.rows.row(seat.row);
-    let at = if k < seat.place { k } else { k + 1 };
     Lead::Across {
         crossing: core.crossings[seat.row as usize],
-        to: row[at as usize],
+        to: end_across(core, n, seat, k),
     }
 }
 
-// One of the links by relationships.
-fn passage(core: &Core, n: u32, k: u32) -> Lead
+/// Where one of the links across the unit of a seat leads.
+pub(crate) fn end_across(core: &Core, n: u32, seat: &Seat, k: u32) -> u32
+    requires sound { IsSoundCore core.now }
+    requires seat { Contains (seats_at core.now n) seat.now }
+    requires k { k < others_in core.now seat.now.row }
+    ensures { (crossing : ACrossing) → slice_get core.now.crossings.items seat.now.row ≡ Some crossing → slice_get (links_of_row core.now n seat.now.row) k ≡ Some (link_across core.now crossing n result) }
+{
+    let row = core.rows.row(seat.row);
+    let at = if k < seat.place { k } else { k + 1 };
+    row[at as usize]
+}
+
+/// One of the links by relationships.
+pub(crate) fn passage(core: &Core, n: u32, k: u32) -> Link
     requires sound { IsSoundCore core.now }
     requires k { k < length (leaving_at core.now n) }
-    ensures { slice_get (passages_out core.now n) k ≡ Some (lead_link core.now n result) }
+    ensures { slice_get (passages_out core.now n) k ≡ Some result }
 {
     let number = core.leaving[n as usize].as_slice()[k as usize];
-    Lead::Passage(core.passages[number as usize])
+    core.passages[number as usize]
 }

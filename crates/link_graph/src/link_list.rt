@@ -1,9 +1,9 @@
 //! All links, in their order.
 
-ghost use Rattle.std.specs.Prelude.{◌≡◌, ◌<◌, ◌≤◌, ◌*◌, ◌-◌, ◌++◌, if◌then◌else◌, IfOk, OnOk, All, filter, length, map, slice_index_or};
+ghost use Rattle.std.specs.Prelude.{◌≡◌, ◌<◌, ◌≤◌, ◌*◌, ◌-◌, ◌++◌, if◌then◌else◌, IfOk, OnOk, All, Contains, filter, length, map, slice_index_or};
 ghost use Rattle.venue_nodes.specs.Rows.{row_list};
 ghost use Rattle.venue_nodes.specs.Views.{node_list};
-ghost use Rattle.link_graph.specs.Cores.{IsSoundCore, link_across, links_across, links_across_from, links_in};
+ghost use Rattle.link_graph.specs.Cores.{IsSoundCore, IsWholeIn, link_across, links_across, links_across_from, links_in};
 
 use crate::parts::{Core, Crossing};
 use crate::ways::across_link;
@@ -28,7 +28,7 @@ pub(crate) fn listed(alloc: Global, core: &Core) -> Result<List<Link>, OutOfMemo
     Ok(List::from_vec(links))
 }
 
-// Adds the links across the unit of a row.
+// Adds the links across the unit of a row in which any two members are joined.
 fn add_across(
     core: &Core,
     crossing: Crossing,
@@ -37,6 +37,7 @@ fn add_across(
 ) -> Result<(), OutOfMemory>
     requires sound { IsSoundCore core.now }
     requires within { All (λ m. m < length (node_list core.now.nodes)) row.now }
+    requires whole { IsWholeIn crossing row.now }
     ensures { OnOk result (links.new.items ≡ links.old.items ++ links_across core.now crossing row.now) }
 {
     if crossing.walked {
@@ -47,7 +48,7 @@ fn add_across(
     Ok(())
 }
 
-// Adds the links from a member of a row to its others.
+// Adds the links from a member of such a row to its others.
 fn add_from(
     core: &Core,
     crossing: Crossing,
@@ -58,6 +59,8 @@ fn add_from(
     requires sound { IsSoundCore core.now }
     requires from { a < length (node_list core.now.nodes) }
     requires within { All (λ m. m < length (node_list core.now.nodes)) row.now }
+    requires start { Contains row.now a }
+    requires whole { IsWholeIn crossing row.now }
     ensures { OnOk result (links.new.items ≡ links.old.items ++ links_across_from core.now crossing row.now a) }
 {
     for b in row {

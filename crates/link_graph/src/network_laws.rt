@@ -1,6 +1,6 @@
 //! What holds of every graph's network.
 
-ghost use Rattle.std.specs.Prelude.{◌≡◌, ◌≢◌, ℕ, ◌<◌, ◌≤◌, ◌^◌, ◌↔◌, List, Contains, length, AllPairs, Some, slice_get};
+ghost use Rattle.std.specs.Prelude.{◌≡◌, ◌≢◌, ℕ, ◌+◌, ◌<◌, ◌≤◌, ◌^◌, ◌↔◌, List, Contains, length, AllPairs, Some, slice_get};
 ghost use Rattle.venue_types.specs.declared.feature_id.FeatureId.{FeatureId};
 ghost use Rattle.venue_types.specs.declared.features.Features.{Features};
 ghost use Rattle.venue_types.specs.declared.link.Link.{Link};
@@ -9,7 +9,6 @@ ghost use Rattle.venue_types.specs.declared.settings.Settings.{Settings};
 ghost use Rattle.imdf_access.specs.Access.{IsAllowed};
 ghost use Rattle.imdf_access.specs.Parts.{MayGo, PassesFacts};
 ghost use Rattle.link_graph.specs.Networks.{Network, AreStretches, IsNetworkOf, IsPassable, link_facts, links_out};
-ghost use Rattle.link_graph.specs.Detours.{HasDetour};
 ghost use Rattle.link_graph.specs.Graphs.{network};
 ghost use Rattle.link_graph.specs.Usable.{IsUsable};
 
@@ -43,11 +42,13 @@ impl Graph {
         ensures { (n : ℕ) → n < length (network self.now).nodes → AreStretches (network self.now) n }
     {}
 
-    /// Where two links that can be passed lead across one unit from a to b and from b to c, c is a, or a link across the unit that can be
-    /// passed leads from a to c and costs no more than both.
+    /// Where two links that can be passed lead across one unit from a to b and from b to c, a link across the unit from a to c can be passed,
+    /// and costs no more than both.
     pub fn detour_law(&self)
-        ensures { (closed : List FeatureId) (profile : Profile) (first second : Link) → IsPassable (network self.now) closed profile first → IsPassable (network self.now) closed profile second
-            → second.from ≡ first.to → second.via ≡ first.via → (network self.now).first_unit ≤ first.via → HasDetour (network self.now) closed profile first second }
+        ensures { (closed : List FeatureId) (profile : Profile) (first second across : Link) → IsPassable (network self.now) closed profile first → IsPassable (network self.now) closed profile second
+            → second.from ≡ first.to → second.via ≡ first.via → (network self.now).first_unit ≤ first.via
+            → Contains (network self.now).links across → across.from ≡ first.from → across.to ≡ second.to → across.via ≡ first.via
+            → IsPassable (network self.now) closed profile across × (across.cost ≤ first.cost + second.cost) }
     {
         plane_exact::detour_law();
     }

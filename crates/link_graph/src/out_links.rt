@@ -1,11 +1,9 @@
 //! The links out of a node, each made when it is asked for.
 
 ghost use Rattle.std.specs.Prelude.{◌≡◌, ◌<◌, ◌^◌, Some, length, slice_get};
-ghost use Rattle.venue_types.specs.declared.link.Link.{Link as ALink};
 ghost use Rattle.venue_nodes.specs.Views.{node_list};
 ghost use Rattle.link_graph.specs.Cores.{IsSoundCore, link_across, network_in};
 ghost use Rattle.link_graph.specs.Leads.{lower_than};
-ghost use Rattle.link_graph.specs.Lower.{lower_of};
 ghost use Rattle.link_graph.specs.Networks.{links_out};
 
 use crate::leads::{Lead, across_end, lead_at};
@@ -37,26 +35,8 @@ pub(crate) fn out_link(core: &Core, n: u32, place: u32) -> Link
     }
 }
 
-/// That link, where it leads to its end at a cost below the one that is listed.
-#[tactic(auto, unfolding(crate::specs::Cores::network_in))]
-pub(crate) fn lower_link(core: &Core, n: u32, place: u32, base: u64, least: &[u64]) -> Option<Link>
-    requires sound { IsSoundCore core.now }
-    requires node { n < length (network_in core.now).nodes }
-    requires place { place < length (links_out (network_in core.now) n) }
-    requires entries { length least.now ≡ length (network_in core.now).nodes }
-    requires base { base < 2 ^ 42 }
-    ensures { (link : ALink) → slice_get (links_out (network_in core.now) n) place ≡ Some link → result ≡ lower_of least.now base link }
-{
-    match lead_at(core, n, place) {
-        Lead::Across { crossing, to } => {
-            lower_across(core, crossing, n, to, base, least[to as usize])
-        }
-        Lead::Passage(link) => lower_passage(link, base, least[link.to as usize]),
-    }
-}
-
 // The link across a unit, if it leads to its end below the entry. Only then is its length computed.
-fn lower_across(
+pub(crate) fn lower_across(
     core: &Core,
     crossing: Crossing,
     a: u32,
@@ -77,8 +57,8 @@ fn lower_across(
     }
 }
 
-// The link by a relationship, if it leads to its end below the entry.
-fn lower_passage(link: Link, base: u64, entry: u64) -> Option<Link>
+/// The link by a relationship, if it leads to its end below the entry.
+pub(crate) fn lower_passage(link: Link, base: u64, entry: u64) -> Option<Link>
     requires { base < 2 ^ 42 }
     ensures { result ≡ lower_than entry base link }
 {

@@ -80,8 +80,8 @@ impl Ground<'_> {
     // The link by a passage.
     fn passage(&self, trail: Trail, a: u32, b: u32) -> Link
         requires ground { IsGround self.now }
-        requires from { a < length (nodes_of self.now.features.now) }
-        requires to { b < length (nodes_of self.now.features.now) }
+        requires from { a < length (nodes_of self.now.features.now self.now.settings.now) }
+        requires to { b < length (nodes_of self.now.features.now self.now.settings.now) }
         ensures { result ≡ passage_link self.now.features.now self.now.settings.now trail.via trail.kind a b }
     {
         length_between_law();
@@ -107,8 +107,8 @@ impl Ground<'_> {
         b: u32,
     ) -> Result<(), OutOfMemory>
         requires ground { IsGround self.now }
-        requires from { a < length (nodes_of self.now.features.now) }
-        requires to { b < length (nodes_of self.now.features.now) }
+        requires from { a < length (nodes_of self.now.features.now self.now.settings.now) }
+        requires to { b < length (nodes_of self.now.features.now self.now.settings.now) }
         ensures { OnOk result (links.new.items ≡ links.old.items ++ pair_links self.now.features.now self.now.settings.now trail.via trail.kind trail.directed a b) }
     {
         if a == b {
@@ -130,8 +130,8 @@ impl Ground<'_> {
         rest: &[u32],
     ) -> Result<(), OutOfMemory>
         requires ground { IsGround self.now }
-        requires from { first < length (nodes_of self.now.features.now) }
-        requires within { All (λ n. n < length (nodes_of self.now.features.now)) rest.now }
+        requires from { first < length (nodes_of self.now.features.now self.now.settings.now) }
+        requires within { All (λ n. n < length (nodes_of self.now.features.now self.now.settings.now)) rest.now }
         ensures { OnOk result (links.new.items ≡ links.old.items ++ chain_links self.now.features.now self.now.settings.now trail.via trail.kind trail.directed first rest.now) }
     {
         let mut last = first;
@@ -150,7 +150,7 @@ impl Ground<'_> {
         chain: &[u32],
     ) -> Result<(), OutOfMemory>
         requires ground { IsGround self.now }
-        requires within { All (λ n. n < length (nodes_of self.now.features.now)) chain.now }
+        requires within { All (λ n. n < length (nodes_of self.now.features.now self.now.settings.now)) chain.now }
         ensures { OnOk result (links.new.items ≡ links.old.items ++ whole_chain_links self.now.features.now self.now.settings.now trail.via trail.kind trail.directed chain.now) }
     {
         match chain {
@@ -163,7 +163,7 @@ impl Ground<'_> {
     fn chain(&self, alloc: Global, row: &RelationshipRow) -> Result<Vec<u32>, OutOfMemory>
         requires { IsGround self.now }
         ensures chain { IfOk result (λ chain. chain.items ≡ chain_of self.now.features.now row.now) }
-        ensures within { IfOk result (λ chain. All (λ n. n < length (nodes_of self.now.features.now)) chain.items) }
+        ensures within { IfOk result (λ chain. All (λ n. n < length (nodes_of self.now.features.now self.now.settings.now)) chain.items) }
     {
         let mut chain = Vec::new(alloc);
         add_end(&mut chain, self.nodes, row.origin)?;

@@ -12,9 +12,8 @@ use Rattle.venue_types.specs.declared.settings.Profile.{Profile}
 use Rattle.imdf_access.specs.Access.{IsAllowed}
 use Rattle.link_graph.specs.declared.areas.Area.{Area}
 use Rattle.link_graph.specs.declared.graph.Graph.{Graph}
-use Rattle.link_graph.specs.Areas.{area_links, areas, inside_area, passages}
+use Rattle.link_graph.specs.Areas.{area_links, areas, inside_area, passages, joined_across}
 use Rattle.link_graph.specs.Graphs.{network}
-use Rattle.link_graph.specs.Links.{are_joined}
 use Rattle.link_graph.specs.Networks.{Network, link_facts}
 use Rattle.link_graph.proofs.Items.{from_flat_map}
 use Rattle.route_certificate.specs.declared.table.TableLink.{TableLink}
@@ -94,9 +93,9 @@ rows_pieces graph profile (area ∷ some) = rows_joined (network graph) profile 
 -- all links across a unit have its number
 all_inside : (graph : Graph) (P : Link → Type 0) (area : Area × List ℕ) → ((a b : ℕ) → P (inside_area graph area.0 a b)) → AllByRecursion P (area_links graph area)
 all_inside graph P area holds =
-    all_pieces P (λ (a : ℕ). map (inside_area graph area.0 a) (filter (are_joined a) area.1)) area.1
-    (all_at_all (λ (a : ℕ). AllByRecursion P (map (inside_area graph area.0 a) (filter (are_joined a) area.1)))
-    (λ a. all_mapped P (inside_area graph area.0 a) (filter (are_joined a) area.1) (all_at_all (λ (b : ℕ). P (inside_area graph area.0 a b)) (holds a) (filter (are_joined a) area.1)))
+    all_pieces P (λ (a : ℕ). map (inside_area graph area.0 a) (filter (joined_across area.0 area.1 a) area.1)) area.1
+    (all_at_all (λ (a : ℕ). AllByRecursion P (map (inside_area graph area.0 a) (filter (joined_across area.0 area.1 a) area.1)))
+    (λ a. all_mapped P (inside_area graph area.0 a) (filter (joined_across area.0 area.1 a) area.1) (all_at_all (λ (b : ℕ). P (inside_area graph area.0 a b)) (holds a) (filter (joined_across area.0 area.1 a) area.1)))
     area.1)
 
 via_of : (given : Network) (link other : Link) → link_row given link ≡ link_row given other → id_at given.closables link.via ≡ id_at given.closables other.via

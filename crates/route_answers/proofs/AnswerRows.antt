@@ -35,10 +35,10 @@ pub record IsRowOfUsable (features : Features) (settings : Settings) (profile : 
 
 usable : (features : Features) (settings : Settings) (profile : Profile) (link : Link) → Contains (allowed_links features settings profile) link → MayUse features settings profile link
 usable features settings profile link listed =
-    let is = from_filter (λ (l : Link). is_allowed profile (facts_at features l)) (links features settings) link listed in
+    let is = from_filter (λ (l : Link). is_allowed profile (facts_at features settings l)) (links features settings) link listed in
     record {
       there = is.0;
-      allowed = (allowed_is profile (facts_at features link)).0 is.1;
+      allowed = (allowed_is profile (facts_at features settings link)).0 is.1;
       free = record {
         way = λ closed. Contains-nil closed.0 closed.2;
         start = λ closed. Contains-nil closed.0.id closed.2;

@@ -6,10 +6,11 @@ use Rattle.venue_types.specs.declared.link.Link.{Link}
 use Rattle.venue_types.specs.declared.settings.Profile.{Profile}
 use Rattle.link_graph.specs.declared.areas.Area.{Area}
 use Rattle.link_graph.specs.declared.graph.Graph.{Graph}
-use Rattle.link_graph.specs.Areas.{area_links, inside_area}
+use Rattle.link_graph.specs.Areas.{IsWholeAcross, area_links, inside_area, joined_across}
 use Rattle.link_graph.specs.Graphs.{network}
-use Rattle.link_graph.specs.Links.{are_joined}
+use Rattle.link_graph.specs.Cores.{other_than}
 use Rattle.link_graph.specs.Networks.{Network}
+use Rattle.link_graph.proofs.AreaLinks.{whole_links}
 use Rattle.route_certificate.specs.declared.table.TableLink.{TableLink}
 use Rattle.route_answers.specs.Adding.{pair_row, rows_from}
 use Rattle.route_answers.specs.Passing.{passes_by, passes_node, passes_link, link_row, rows_of}
@@ -79,17 +80,18 @@ across_test law graph profile area barred way from a crossed start b =
     ∙ ap (λ (v : Bool). v && (passes_node (network graph) profile a && to)) crossed
     ∙ ap (λ (v : Bool). way && (v && to)) start
 
-pub crossed_rows : PartsLaw → (graph : Graph) (profile : Profile) (area : Area) (members : List ℕ) → (network graph).barred area.via ≡ area.restricted → passes_by profile area.kind area.restricted ≡ true
+pub crossed_rows : PartsLaw → (graph : Graph) (profile : Profile) (area : Area) (members : List ℕ) → IsWholeAcross area members → (network graph).barred area.via ≡ area.restricted → passes_by profile area.kind area.restricted ≡ true
     → rows_of (network graph) profile (area_links graph (area, members))
     ≡ flat_map (rows_from graph area (filter (passes_node (network graph) profile) members)) (filter (passes_node (network graph) profile) members)
 unfolding rows_of rows_from
-crossed_rows law graph profile area members barred crossed =
+crossed_rows law graph profile area members whole barred crossed =
     let r = link_row (network graph) in
     let t = passes_link (network graph) profile in
     let ok = passes_node (network graph) profile in
-    from_all r t (λ (a : ℕ). map (inside_area graph area a) (filter (are_joined a) members)) (λ (a : ℕ). map (pair_row graph area a) (filter (are_joined a) (filter ok members))) ok
-    (λ a start. from_one (inside_area graph area a) r t (are_joined a) ok (across_test law graph profile area barred true true a crossed start) members)
-    (λ a start. from_none (inside_area graph area a) r t (across_test law graph profile area barred true false a crossed start) (filter (are_joined a) members))
+    ap (λ (links : List Link). map r (filter t links)) (whole_links graph area members whole)
+    ∙ from_all r t (λ (a : ℕ). map (inside_area graph area a) (filter (other_than a) members)) (λ (a : ℕ). map (pair_row graph area a) (filter (other_than a) (filter ok members))) ok
+    (λ a start. from_one (inside_area graph area a) r t (other_than a) ok (across_test law graph profile area barred true true a crossed start) members)
+    (λ a start. from_none (inside_area graph area a) r t (across_test law graph profile area barred true false a crossed start) (filter (other_than a) members))
     members
 
 pub closed_rows : PartsLaw → (graph : Graph) (profile : Profile) (area : Area) (members : List ℕ) → (network graph).barred area.via ≡ area.restricted → passes_by profile area.kind area.restricted ≡ false
@@ -98,6 +100,6 @@ unfolding rows_of
 closed_rows law graph profile area members barred closed =
     let r = link_row (network graph) in
     let t = passes_link (network graph) profile in
-    none_all r t (λ (a : ℕ). map (inside_area graph area a) (filter (are_joined a) members))
-    (λ a. from_none (inside_area graph area a) r t (across_test law graph profile area barred false (passes_node (network graph) profile a) a closed refl) (filter (are_joined a) members))
+    none_all r t (λ (a : ℕ). map (inside_area graph area a) (filter (joined_across area members a) members))
+    (λ a. from_none (inside_area graph area a) r t (across_test law graph profile area barred false (passes_node (network graph) profile a) a closed refl) (filter (joined_across area members a) members))
     members

@@ -82,7 +82,7 @@ module _ (law : PassesUsable) (features : Features) (settings : Settings) (given
       → IsTold features settings profile search is → IsRouteAnswer features settings profile from to (record { from = from; to = to; claim = is })
   answer_good from_within to_within search is answer small told =
       let good = claim_good search is answer small told in
-      let many : count ≡ length (nodes features) = ap length net.nodes_are in
+      let many : count ≡ length (nodes features settings) = ap length net.nodes_are in
       record {
         starts = refl;
         ends = refl;

@@ -12,7 +12,7 @@ use Rattle.venue_types.specs.declared.link.Link.{Link}
 use Rattle.venue_types.specs.declared.settings.Profile.{Profile}
 use Rattle.link_graph.specs.declared.areas.Area.{Area}
 use Rattle.link_graph.specs.declared.graph.Graph.{Graph}
-use Rattle.link_graph.specs.Areas.{area_links, areas, passages}
+use Rattle.link_graph.specs.Areas.{area_links, areas, passages, IsWholeAcross}
 use Rattle.link_graph.specs.Graphs.{network}
 use Rattle.link_graph.specs.Networks.{Network}
 use Rattle.route_certificate.specs.declared.table.TableLink.{TableLink}
@@ -46,12 +46,12 @@ rows_few given profile links =
 -- ---- of areas
 
 -- a row for each pair of members that pass
-pub crossed_count : PartsLaw → (graph : Graph) (profile : Profile) (area : Area) (members : List ℕ) → (network graph).barred area.via ≡ area.restricted → passes_by profile area.kind area.restricted ≡ true → IsStrictlyIncreasing members
+pub crossed_count : PartsLaw → (graph : Graph) (profile : Profile) (area : Area) (members : List ℕ) → IsWholeAcross area members → (network graph).barred area.via ≡ area.restricted → passes_by profile area.kind area.restricted ≡ true → IsStrictlyIncreasing members
     → length (rows_of (network graph) profile (area_links graph (area, members))) ≡ length (filter (passes_node (network graph) profile) members) * (length (filter (passes_node (network graph) profile) members) - 1)
 unfolding rows_from
-crossed_count law graph profile area members barred crossed rise =
+crossed_count law graph profile area members whole barred crossed rise =
     let passed = filter (passes_node (network graph) profile) members in
-    ap (λ (rows : List TableLink). length rows) (crossed_rows law graph profile area members barred crossed)
+    ap (λ (rows : List TableLink). length rows) (crossed_rows law graph profile area members whole barred crossed)
     ∙ pair_count (pair_row graph area) passed (IsStrictlyIncreasing-filter (passes_node (network graph) profile) members rise)
 
 pub areas_counted : (graph : Graph) (profile : Profile) (w : ℕ) (area : Area × List ℕ) (n m sum : ℕ) → slice_get (areas graph) w ≡ Some area → n ≡ length (rows_of (network graph) profile (flat_map (area_links graph) (take w (areas graph))))

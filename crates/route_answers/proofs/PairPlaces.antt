@@ -7,7 +7,7 @@ use Rattle.std.proofs.lemmas.Bool.{cases_lt}
 use Rattle.std.proofs.lemmas.List.{length-take-le}
 use Rattle.std.proofs.lemmas.List.Kept.{IsStrictlyIncreasing-filter}
 use Rattle.std.proofs.lemmas.Option.{same_Some, slice_get-map, slice_get_within}
-use Rattle.link_graph.specs.Links.{are_joined}
+use Rattle.link_graph.specs.Cores.{other_than}
 use Rattle.route_certificate.specs.declared.table.TableLink.{TableLink}
 use Rattle.route_answers.specs.Places.{IsFirstPlace}
 use Rattle.route_answers.proofs.Everywhere.{all_at_all, all_by, all_front, all_mapped, all_pieces}
@@ -37,28 +37,28 @@ first_to f is a ys k b up at = record {
 
 -- the pairs from lesser numbers start elsewhere
 lacks_pairs : (f : ℕ → ℕ → TableLink) → IsRowOf f → (xs front : List ℕ) (a b : ℕ) → AllByRecursion (λ (y : ℕ). y < a) front
-    → Lacks (flat_map (λ (c : ℕ). map (f c) (filter (are_joined c) xs)) front) (f a b)
+    → Lacks (flat_map (λ (c : ℕ). map (f c) (filter (other_than c) xs)) front) (f a b)
 lacks_pairs f is xs front a b less =
-    all_pieces (λ (row : TableLink). row ≢ f a b) (λ (c : ℕ). map (f c) (filter (are_joined c) xs)) front
-    (all_by (λ (c : ℕ). c < a) (λ (c : ℕ). Lacks (map (f c) (filter (are_joined c) xs)) (f a b))
-    (λ c below. all_mapped (λ (row : TableLink). row ≢ f a b) (f c) (filter (are_joined c) xs)
+    all_pieces (λ (row : TableLink). row ≢ f a b) (λ (c : ℕ). map (f c) (filter (other_than c) xs)) front
+    (all_by (λ (c : ℕ). c < a) (λ (c : ℕ). Lacks (map (f c) (filter (other_than c) xs)) (f a b))
+    (λ c below. all_mapped (λ (row : TableLink). row ≢ f a b) (f c) (filter (other_than c) xs)
     (all_at_all (λ (d : ℕ). f c d ≢ f a b)
     (λ d e. let same : c ≡ a = sym (is.from c d) ∙ ap (λ (row : TableLink). row.from) e ∙ is.from a b in omega (arith, below, same))
-    (filter (are_joined c) xs)))
+    (filter (other_than c) xs)))
     front less)
 
 -- by the place of its first, and of its second among the others
-pair_by : (f : ℕ → ℕ → TableLink) → IsRowOf f → (xs : List ℕ) (i a b k : ℕ) → IsStrictlyIncreasing xs → slice_get xs i ≡ Some a → slice_get (filter (are_joined a) xs) k ≡ Some b
-    → IsFirstPlace (flat_map (λ (c : ℕ). map (f c) (filter (are_joined c) xs)) xs) (f a b) (i * (length xs - 1) + k)
+pair_by : (f : ℕ → ℕ → TableLink) → IsRowOf f → (xs : List ℕ) (i a b k : ℕ) → IsStrictlyIncreasing xs → slice_get xs i ≡ Some a → slice_get (filter (other_than a) xs) k ≡ Some b
+    → IsFirstPlace (flat_map (λ (c : ℕ). map (f c) (filter (other_than c) xs)) xs) (f a b) (i * (length xs - 1) + k)
 pair_by f is xs i a b k rise here there =
-    let g : ℕ → List TableLink = λ c. map (f c) (filter (are_joined c) xs) in
+    let g : ℕ → List TableLink = λ c. map (f c) (filter (other_than c) xs) in
     let front = even g (length xs - 1) (take i xs) (all_front (λ (c : ℕ). length (g c) ≡ length xs - 1) i xs (each_less f xs rise)) in
     let count : length (take i xs) ≡ i = length-take-le i xs (let within = slice_get_within xs i a here in omega (arith, within)) in
     moved (flat_map g xs) (f a b) (length (flat_map g (take i xs)) + k) (i * (length xs - 1) + k)
     (ap (λ (n : ℕ). n + k) (front ∙ ap (λ (n : ℕ). n * (length xs - 1)) count))
     (first_piece g xs i a (f a b) k here
     (lacks_pairs f is xs (take i xs) a b (lesser_before xs i a (rises_from xs rise) here))
-    (first_to f is a (filter (are_joined a) xs) k b (rises_from (filter (are_joined a) xs) (IsStrictlyIncreasing-filter (are_joined a) xs rise)) there))
+    (first_to f is a (filter (other_than a) xs) k b (rises_from (filter (other_than a) xs) (IsStrictlyIncreasing-filter (other_than a) xs rise)) there))
 
 -- numbers that differ stand at places that do
 ends_differ : (xs : List ℕ) (i j a b : ℕ) → slice_get xs i ≡ Some a → slice_get xs j ≡ Some b → a ≢ b → j ≤ i → j < i
@@ -73,7 +73,7 @@ ends_differ xs i j a b here there differ most =
 -- by the places of both
 pub first_pair : (f : ℕ → ℕ → TableLink) → IsRowOf f → (xs : List ℕ) (i j a b place : ℕ) → IsStrictlyIncreasing xs → slice_get xs i ≡ Some a → slice_get xs j ≡ Some b → a ≢ b
     → (j ≤ i → place ≡ i * (length xs - 1) + j) → (i < j → place ≡ i * (length xs - 1) + (j - 1))
-    → IsFirstPlace (flat_map (λ (c : ℕ). map (f c) (filter (are_joined c) xs)) xs) (f a b) place
+    → IsFirstPlace (flat_map (λ (c : ℕ). map (f c) (filter (other_than c) xs)) xs) (f a b) place
 first_pair f is xs i zero a b place rise here there differ before behind =
     let place_is = before (omega arith) in
     moved _ (f a b) _ place (sym place_is)

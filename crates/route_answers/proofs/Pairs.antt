@@ -9,7 +9,7 @@ use Rattle.std.proofs.lemmas.List.{length-map}
 use Rattle.std.proofs.lemmas.List.Elements.{recursion_from_All}
 use Rattle.std.proofs.lemmas.List.Kept.{AllPairs-from_increasing}
 use Rattle.std.proofs.lemmas.Option.{same_Some, slice_get-get_or}
-use Rattle.link_graph.specs.Links.{are_joined}
+use Rattle.link_graph.specs.Cores.{other_than}
 use Rattle.route_certificate.specs.declared.table.TableLink.{TableLink}
 
 -- each differs from those behind it
@@ -30,26 +30,26 @@ at_item P (y ∷ xs) zero x all there = subst P (same_Some y x there) all.0
 at_item P (y ∷ xs) (suc k) x all there = at_item P xs k x all.1 there
 
 -- a number that isn't there leaves all
-none_less : (a : ℕ) (xs : List ℕ) → AllByRecursion (λ (y : ℕ). a ≢ y) xs → length (filter (are_joined a) xs) ≡ length xs
+none_less : (a : ℕ) (xs : List ℕ) → AllByRecursion (λ (y : ℕ). a ≢ y) xs → length (filter (other_than a) xs) ≡ length xs
 none_less a [] all = refl
 none_less a (x ∷ xs) all =
-    ap (λ (b : Bool). length (cond (not b) (x ∷ filter (are_joined a) xs) (filter (are_joined a) xs))) (ne_eqb a x all.0)
+    ap (λ (b : Bool). length (cond (not b) (x ∷ filter (other_than a) xs) (filter (other_than a) xs))) (ne_eqb a x all.0)
     ∙ (let rest = none_less a xs all.1 in omega (arith, rest))
 
 -- one that is there leaves all but one
-one_less : (xs : List ℕ) (k a : ℕ) → Apart xs → slice_get xs k ≡ Some a → length (filter (are_joined a) xs) + 1 ≡ length xs
+one_less : (xs : List ℕ) (k a : ℕ) → Apart xs → slice_get xs k ≡ Some a → length (filter (other_than a) xs) + 1 ≡ length xs
 one_less [] k a is there = absurd (let no_item : None ≡ Some a = there in cc)
 one_less (x ∷ xs) zero a is there =
     let same : x ≡ a = same_Some x a there in
-    let left : length (filter (are_joined a) (x ∷ xs)) ≡ length (filter (are_joined a) xs) =
-    ap (λ (b : Bool). length (cond (not b) (x ∷ filter (are_joined a) xs) (filter (are_joined a) xs))) (eq-eqb a x (sym same)) in
-    let rest : length (filter (are_joined a) xs) ≡ length xs = none_less a xs (subst (λ (z : ℕ). AllByRecursion (λ (y : ℕ). z ≢ y) xs) same is.0) in
+    let left : length (filter (other_than a) (x ∷ xs)) ≡ length (filter (other_than a) xs) =
+    ap (λ (b : Bool). length (cond (not b) (x ∷ filter (other_than a) xs) (filter (other_than a) xs))) (eq-eqb a x (sym same)) in
+    let rest : length (filter (other_than a) xs) ≡ length xs = none_less a xs (subst (λ (z : ℕ). AllByRecursion (λ (y : ℕ). z ≢ y) xs) same is.0) in
     omega (arith, left, rest)
 one_less (x ∷ xs) (suc k) a is there =
     let other : x ≢ a = at_item (λ (y : ℕ). x ≢ y) xs k a is.0 there in
-    let kept : length (filter (are_joined a) (x ∷ xs)) ≡ length (x ∷ filter (are_joined a) xs) =
-    ap (λ (b : Bool). length (cond (not b) (x ∷ filter (are_joined a) xs) (filter (are_joined a) xs))) (ne_eqb a x (λ e. other (sym e))) in
-    let rest : length (filter (are_joined a) xs) + 1 ≡ length xs = one_less xs k a is.1 there in
+    let kept : length (filter (other_than a) (x ∷ xs)) ≡ length (x ∷ filter (other_than a) xs) =
+    ap (λ (b : Bool). length (cond (not b) (x ∷ filter (other_than a) xs) (filter (other_than a) xs))) (ne_eqb a x (λ e. other (sym e))) in
+    let rest : length (filter (other_than a) xs) + 1 ≡ length xs = one_less xs k a is.1 there in
     omega (arith, kept, rest)
 
 -- pieces that are as long as each other
@@ -63,14 +63,14 @@ even g n (x ∷ xs) all =
     omega (arith, both, rest, first, product)
 
 -- each goes with all the others
-pub each_less : (f : ℕ → ℕ → TableLink) (xs : List ℕ) → IsStrictlyIncreasing xs → AllByRecursion (λ (a : ℕ). length (map (f a) (filter (are_joined a) xs)) ≡ length xs - 1) xs
+pub each_less : (f : ℕ → ℕ → TableLink) (xs : List ℕ) → IsStrictlyIncreasing xs → AllByRecursion (λ (a : ℕ). length (map (f a) (filter (other_than a) xs)) ≡ length xs - 1) xs
 each_less f xs rise =
     let differ = apart xs (AllPairs-from_increasing xs rise) in
-    recursion_from_All (λ (a : ℕ). length (map (f a) (filter (are_joined a) xs)) ≡ length xs - 1) xs (λ k d below.
+    recursion_from_All (λ (a : ℕ). length (map (f a) (filter (other_than a) xs)) ≡ length xs - 1) xs (λ k d below.
     let a : ℕ = get_or xs k d in
-    let mapped = length-map (filter (are_joined a) xs) (f a) in
+    let mapped = length-map (filter (other_than a) xs) (f a) in
     let less = one_less xs k a differ (slice_get-get_or xs k d below) in
     omega (arith, mapped, less))
 
-pub pair_count : (f : ℕ → ℕ → TableLink) (xs : List ℕ) → IsStrictlyIncreasing xs → length (flat_map (λ (a : ℕ). map (f a) (filter (are_joined a) xs)) xs) ≡ length xs * (length xs - 1)
-pair_count f xs rise = even (λ (a : ℕ). map (f a) (filter (are_joined a) xs)) (length xs - 1) xs (each_less f xs rise)
+pub pair_count : (f : ℕ → ℕ → TableLink) (xs : List ℕ) → IsStrictlyIncreasing xs → length (flat_map (λ (a : ℕ). map (f a) (filter (other_than a) xs)) xs) ≡ length xs * (length xs - 1)
+pair_count f xs rise = even (λ (a : ℕ). map (f a) (filter (other_than a) xs)) (length xs - 1) xs (each_less f xs rise)

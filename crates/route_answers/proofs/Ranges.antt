@@ -48,7 +48,7 @@ filter_most test (x ∷ xs) = let most = kept_most (test x) x (filter test xs) (
 
 rows_most : (features : Features) (settings : Settings) (profile : Profile) → length (table_of features settings profile).links ≤ length (links features settings)
 rows_most features settings profile =
-    let most = filter_most (λ (l : Link). is_allowed profile (facts_at features l)) (links features settings) in
+    let most = filter_most (λ (l : Link). is_allowed profile (facts_at features settings l)) (links features settings) in
     let same = length-map (allowed_links features settings profile) (row_of features) in
     omega (arith, most, same)
 

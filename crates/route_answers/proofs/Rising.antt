@@ -7,7 +7,7 @@ use Rattle.std.proofs.lemmas.Bool.{ne_eqb, cases_lt, lt-ltb, le-ltb}
 use Rattle.std.proofs.lemmas.List.Elements.{recursion_from_All}
 use Rattle.std.proofs.lemmas.List.Kept.{AllPairs-from_increasing}
 use Rattle.std.proofs.lemmas.Option.{same_Some, slice_get_read}
-use Rattle.link_graph.specs.Links.{are_joined}
+use Rattle.link_graph.specs.Cores.{other_than}
 use Rattle.route_answers.proofs.Everywhere.{of_item}
 
 abbrev pub Rises : List ℕ → Type 0
@@ -45,21 +45,21 @@ lesser_before (x ∷ xs) (suc i) a up at = (of_item (λ (y : ℕ). x < y) xs i a
 
 -- ---- all but one of numbers that rise
 
-all_others : (a : ℕ) (xs : List ℕ) → AllByRecursion (λ (y : ℕ). a < y) xs → filter (are_joined a) xs ≡ xs
+all_others : (a : ℕ) (xs : List ℕ) → AllByRecursion (λ (y : ℕ). a < y) xs → filter (other_than a) xs ≡ xs
 all_others a [] up = refl
 all_others a (x ∷ xs) up =
     let less = up.0 in
-    ap (λ (b : Bool). cond (not b) (x ∷ filter (are_joined a) xs) (filter (are_joined a) xs)) (ne_eqb a x (λ e. omega (arith, less, e)))
+    ap (λ (b : Bool). cond (not b) (x ∷ filter (other_than a) xs) (filter (other_than a) xs)) (ne_eqb a x (λ e. omega (arith, less, e)))
     ∙ ap (λ (rest : List ℕ). x ∷ rest) (all_others a xs up.1)
 
-is_other : (a x : ℕ) (xs : List ℕ) → a ≢ x → filter (are_joined a) (x ∷ xs) ≡ x ∷ filter (are_joined a) xs
-is_other a x xs differ = ap (λ (b : Bool). cond (not b) (x ∷ filter (are_joined a) xs) (filter (are_joined a) xs)) (ne_eqb a x differ)
+is_other : (a x : ℕ) (xs : List ℕ) → a ≢ x → filter (other_than a) (x ∷ xs) ≡ x ∷ filter (other_than a) xs
+is_other a x xs differ = ap (λ (b : Bool). cond (not b) (x ∷ filter (other_than a) xs) (filter (other_than a) xs)) (ne_eqb a x differ)
 
-is_same : (a x : ℕ) (xs : List ℕ) → a ≡ x → filter (are_joined a) (x ∷ xs) ≡ filter (are_joined a) xs
-is_same a x xs same = ap (λ (b : Bool). cond (not b) (x ∷ filter (are_joined a) xs) (filter (are_joined a) xs)) (eq-eqb a x same)
+is_same : (a x : ℕ) (xs : List ℕ) → a ≡ x → filter (other_than a) (x ∷ xs) ≡ filter (other_than a) xs
+is_same a x xs same = ap (λ (b : Bool). cond (not b) (x ∷ filter (other_than a) xs) (filter (other_than a) xs)) (eq-eqb a x same)
 
 -- one before it keeps its place
-pub other_before : (xs : List ℕ) (i j a b : ℕ) → Rises xs → slice_get xs i ≡ Some a → slice_get xs j ≡ Some b → j < i → slice_get (filter (are_joined a) xs) j ≡ Some b
+pub other_before : (xs : List ℕ) (i j a b : ℕ) → Rises xs → slice_get xs i ≡ Some a → slice_get xs j ≡ Some b → j < i → slice_get (filter (other_than a) xs) j ≡ Some b
 other_before [] i j a b up here there below = absurd (let no_item : None ≡ Some a = here in cc)
 other_before (x ∷ xs) zero j a b up here there below = absurd (omega (arith, below))
 other_before (x ∷ xs) (suc i) zero a b up here there below =
@@ -71,7 +71,7 @@ other_before (x ∷ xs) (suc i) (suc j) a b up here there below =
     ∙ other_before xs i j a b up.1 here there (omega (arith, below))
 
 -- one behind it moves one up
-pub other_behind : (xs : List ℕ) (i j a b : ℕ) → Rises xs → slice_get xs i ≡ Some a → slice_get xs (suc j) ≡ Some b → i ≤ j → slice_get (filter (are_joined a) xs) j ≡ Some b
+pub other_behind : (xs : List ℕ) (i j a b : ℕ) → Rises xs → slice_get xs i ≡ Some a → slice_get xs (suc j) ≡ Some b → i ≤ j → slice_get (filter (other_than a) xs) j ≡ Some b
 other_behind [] i j a b up here there below = absurd (let no_item : None ≡ Some a = here in cc)
 other_behind (x ∷ xs) zero j a b up here there below =
     let same : x ≡ a = same_Some x a here in

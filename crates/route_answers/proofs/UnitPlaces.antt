@@ -1,17 +1,17 @@
 -- Where the row of a link across a unit stands among those of the unit.
 use Rattle.std.proofs.Common.{◌≡◌, ◌≢◌, ℕ, ◌+◌, ◌*◌, ◌-◌, ◌<◌, ◌≤◌, Bool, true, false, not, ◌&&◌, eqb, List, [], ◌∷◌, length, map, filter, Some, refl, sym, ap, ◌∙◌, subst, true≢false, eq-eqb, cond, inl, inr}
-use Rattle.std.specs.Prelude.{Contains, slice_get, nat_lt}
+use Rattle.std.specs.Prelude.{Contains, IsTrue, slice_get, nat_lt}
 use Rattle.std.proofs.lemmas.List.Kept.{IsStrictlyIncreasing-filter}
 use Rattle.venue_types.specs.declared.link.Link.{Link}
 use Rattle.venue_types.specs.declared.settings.Profile.{Profile}
 use Rattle.imdf_access.specs.Access.{IsAllowed}
 use Rattle.link_graph.specs.declared.areas.Area.{Area}
 use Rattle.link_graph.specs.declared.graph.Graph.{Graph}
-use Rattle.link_graph.specs.Areas.{IsArea, area_links, inside_area}
+use Rattle.link_graph.specs.Areas.{IsArea, area_links, inside_area, joined_across}
 use Rattle.link_graph.specs.Graphs.{network}
-use Rattle.link_graph.specs.Links.{are_joined}
 use Rattle.link_graph.specs.Networks.{Network, link_facts}
-use Rattle.link_graph.proofs.Items.{from_flat_map}
+use Rattle.link_graph.proofs.Items.{from_flat_map, from_filter}
+use Rattle.link_graph.proofs.Joined.{joined_across_apart}
 use Rattle.rule_reports.proofs.Members.{Contains-nil, Contains-first, Contains-later, Contains-cons_cases}
 use Rattle.route_certificate.specs.declared.table.TableLink.{TableLink}
 use Rattle.route_answers.specs.Adding.{pair_row, rows_from}
@@ -43,24 +43,12 @@ from_map h (b ∷ xs) x there = elim (Contains-cons_cases (h b) (map h xs) x the
   | inr later ↦ let rest = from_map h xs x later in (rest.0, Contains-later b xs rest.0 rest.1, rest.2)
 ]
 
-others_step : (a x : ℕ) (xs : List ℕ) (b : ℕ) (same : Bool) → eqb a x ≡ same → Contains (cond (not same) (x ∷ filter (are_joined a) xs) (filter (are_joined a) xs)) b → (Contains (filter (are_joined a) xs) b → Contains xs b × (a ≢ b))
-    → Contains (x ∷ xs) b × (a ≢ b)
-others_step a x xs b true e there rest = let later = rest there in (Contains-later x xs b later.0, later.1)
-others_step a x xs b false e there rest = elim (Contains-cons_cases x (filter (are_joined a) xs) b there) [
-  | inl here ↦ (subst (Contains (x ∷ xs)) here (Contains-first x xs), λ same. true≢false (sym (eq-eqb a x (same ∙ sym here)) ∙ e))
-  | inr there ↦ let later = rest there in (Contains-later x xs b later.0, later.1)
-]
-
-from_others : (a : ℕ) (xs : List ℕ) (b : ℕ) → Contains (filter (are_joined a) xs) b → Contains xs b × (a ≢ b)
-from_others a [] b there = absurd (Contains-nil b there)
-from_others a (x ∷ xs) b there = others_step a x xs b (eqb a x) refl there (from_others a xs b)
-
 pub inside : (graph : Graph) (area : Area) (members : List ℕ) (link : Link) → Contains (area_links graph (area, members)) link → IsInside graph area members link
 inside graph area members link there =
-    let start = from_flat_map (λ (a : ℕ). map (inside_area graph area a) (filter (are_joined a) members)) members link there in
-    let end = from_map (inside_area graph area start.0) (filter (are_joined start.0) members) link start.2 in
-    let other = from_others start.0 members end.0 end.1 in
-    is_inside graph area members start.0 end.0 link start.1 other.0 other.1 end.2
+    let start = from_flat_map (λ (a : ℕ). map (inside_area graph area a) (filter (joined_across area members a) members)) members link there in
+    let end = from_map (inside_area graph area start.0) (filter (joined_across area members start.0) members) link start.2 in
+    let other = from_filter (joined_across area members start.0) members end.0 end.1 in
+    is_inside graph area members start.0 end.0 link start.1 other.0 (joined_across_apart area members start.0 end.0 other.1) end.2
 
 -- ---- what the profile passes of it
 
@@ -120,11 +108,11 @@ row_ends : (graph : Graph) (area : Area) → IsRowOf (pair_row graph area)
 unfolding link_row
 row_ends graph area = record { from = λ a b. refl; to = λ a b. refl }
 
-pub unit_place : PartsLaw → (graph : Graph) (profile : Profile) (area : Area) (members : List ℕ) (link : Link) (count start end place : ℕ) → IsArea (network graph) area members → IsInside graph area members link
+pub unit_place : PartsLaw → (graph : Graph) (profile : Profile) (area : Area) (members : List ℕ) (link : Link) (count start end place : ℕ) → IsArea (network graph) area members → IsTrue area.whole → IsInside graph area members link
     → IsAllowed profile (link_facts (network graph) link) → count ≡ length (filter (passes_node (network graph) profile) members) → AreRanks (passes_node (network graph) profile) members link start end
     → (end ≤ start → place ≡ start * (count - 1) + end) → (start < end → place ≡ start * (count - 1) + (end - 1)) → StandsFirst (network graph) profile (area_links graph (area, members)) link place
 unfolding rows_from
-unit_place law graph profile area members link count start end place is_area is_link allowed count_is are before behind =
+unit_place law graph profile area members link count start end place is_area whole is_link allowed count_is are before behind =
     let given = network graph in
     let ok = passes_node given profile in
     let xs = filter ok members in
@@ -133,4 +121,4 @@ unit_place law graph profile area members link count start end place is_area is_
     (λ h. before h ∙ ap (λ (n : ℕ). start * (n - 1) + end) count_is)
     (λ h. behind h ∙ ap (λ (n : ℕ). start * (n - 1) + (end - 1)) count_is) in
     subst (λ (row : TableLink). IsFirstPlace (rows_of given profile (area_links graph (area, members))) row place) (ap (link_row given) is_link.is)
-    (subst (λ (rows : List TableLink). IsFirstPlace rows (pair_row graph area link.from link.to) place) (sym (crossed_rows law graph profile area members is_area.barred pass.way)) stands)
+    (subst (λ (rows : List TableLink). IsFirstPlace rows (pair_row graph area link.from link.to) place) (sym (crossed_rows law graph profile area members (is_area.whole whole) is_area.barred pass.way)) stands)

@@ -35,6 +35,6 @@ pub rows_are : (features : Features) (settings : Settings) (given : Network) (pr
 unfolding rows_of passes_link
 rows_are features settings given profile is =
     ap (λ (all : List Link). map (link_row given) (filter (passes_link given profile) all)) is.links_are
-    ∙ ap (λ (some : List Link). map (link_row given) some) (chosen_same (passes_link given profile) (λ (link : Link). is_allowed profile (facts_at features link)) (links features settings)
+    ∙ ap (λ (some : List Link). map (link_row given) some) (chosen_same (passes_link given profile) (λ (link : Link). is_allowed profile (facts_at features settings link)) (links features settings)
     (λ link there. ap (λ (facts : LinkFacts). is_allowed profile facts) (is.facts_are link there)))
     ∙ mapped_same (link_row given) (row_of features) (allowed_links features settings profile) (λ link. row_same features settings given link is)

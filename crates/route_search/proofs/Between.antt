@@ -162,8 +162,8 @@ module _ (given : Network) (IsLink : Link → Type 0) (nodes node : ℕ) (old ne
   relaxed_hung : (n : ℕ) → IsReached new n → HangsOn given new node n → IsRelaxedFrom IsLink new n
   relaxed_hung n is hangs second is_second at =
       let step : IsStep IsLink new n hangs.link = subst (λ (o : Option Link). ComesBy IsLink new n o) hangs.by (scanned.amid.tree.comes n is) in
-      let (same, unit) = hangs.quiet second (there second is_second) at in
-      detour_relaxed given IsLink new n hangs.link second detours step (subst (IsRelaxedFrom IsLink new) (sym hangs.from) relaxed_here) is_second at same unit
+      let (same, unit, known) = hangs.quiet second (there second is_second) at in
+      detour_relaxed given IsLink new n hangs.link second detours step (subst (IsRelaxedFrom IsLink new) (sym hangs.from) relaxed_here) is_second at same unit known
 
   pub closed : IsBetween IsLink nodes new
   closed = record {

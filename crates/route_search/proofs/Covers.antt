@@ -1,5 +1,5 @@
 -- Stretches and places of the links out of a node.
-use Rattle.std.proofs.Common.{◌≡◌, ℕ, suc, ◌+◌, ◌<◌, ◌≤◌, Bool, true, false, cond, List, [], ◌∷◌, length, filter, ◌↔◌, Some, IsTrue, refl, subst, ◌∙◌, arith, inl, inr}
+use Rattle.std.proofs.Common.{◌≡◌, ℕ, suc, ◌+◌, ◌<◌, ◌≤◌, Bool, true, false, cond, List, [], ◌∷◌, length, filter, ◌↔◌, Some, None, IsTrue, refl, subst, ◌∙◌, arith, inl, inr}
 use Rattle.std.specs.Prelude.{Contains, slice_get, ◌==◌}
 use Rattle.std.proofs.lemmas.Bool.{cases_lt}
 use Rattle.std.proofs.lemmas.Bool.Decides.{nat_tests}
@@ -11,7 +11,8 @@ use Rattle.link_graph.specs.declared.stretches.Stretch.{Stretch}
 use Rattle.link_graph.specs.declared.stretches.Way.{Way}
 use Rattle.link_graph.specs.declared.stretches.Way.TheVariants.{Inside, Between}
 use Rattle.link_graph.specs.Networks.{Network, Follow, GoesBy, AreStretches, links_out}
-use Rattle.route_search.specs.Scans.{IsOwn, IsQuiet}
+use Rattle.link_graph.specs.Detours.{AreKnown}
+use Rattle.route_search.specs.Scans.{IsAcross, IsOwn, IsQuiet}
 
 -- ---- stretches
 
@@ -43,20 +44,30 @@ out_place given n link member is at = let (low, place, here) = member.0 is in (p
 
 -- ---- quiet nodes
 
-own_way : (given : Network) (via count place first : ℕ) (way : Way) (link : Link) → IsOwn via way count → first ≤ place → place < first + count → GoesBy given way link
-    → (link.via ≡ via) × (given.first_unit ≤ via)
-own_way given via count place first (Inside own kind restricted) link same low high goes = (goes.0 ∙ same, subst (λ (k : ℕ). given.first_unit ≤ k) same goes.3)
-own_way given via count place first Between link none low high goes = absurd (omega (arith, none))
+-- a link that goes a way across a unit goes by its number, and that is a unit's
+pub across_way : (given : Network) (via : ℕ) (way : Way) (link : Link) → IsAcross via way → GoesBy given way link → (link.via ≡ via) × (given.first_unit ≤ via)
+across_way given via (Inside own kind restricted) link same goes = (goes.0 ∙ same, subst (λ (k : ℕ). given.first_unit ≤ k) same goes.3)
+across_way given via Between link never goes = absurd never
 
-pub quiet : (given : Network) (via n : ℕ) → AreStretches given n
+-- a stretch across the unit of which all is known
+pub own_known : (given : Network) (via a n : ℕ) (stretch : Stretch) → AreStretches given n → Contains (given.stretches n) stretch → IsAcross via stretch.way
+    → AreKnown given n stretch (Some a) stretch.first None → IsOwn given via a n stretch
+own_known given via a n stretch are one across known place link low high here =
+    let (same, unit) = across_way given via stretch.way link across (are.of_way stretch place link one low high here) in
+    (same, unit, known place link low (low, high) here)
+
+-- a stretch without links
+pub own_empty : (given : Network) (via a n : ℕ) (stretch : Stretch) → stretch.count ≡ 0 → IsOwn given via a n stretch
+own_empty given via a n stretch none place link low high here = absurd (omega (arith, none))
+
+pub quiet : (given : Network) (via a n : ℕ) → AreStretches given n
     → ((link : Link) → Contains given.links link ↔ (link.from < length given.nodes) × (place : ℕ) × (slice_get (links_out given link.from) place ≡ Some link))
-    → ((j : ℕ) (stretch : Stretch) → slice_get (given.stretches n) j ≡ Some stretch → IsOwn via stretch.way stretch.count) → IsQuiet given via n
-quiet given via n are member own link is at =
+    → ((j : ℕ) (stretch : Stretch) → slice_get (given.stretches n) j ≡ Some stretch → IsOwn given via a n stretch) → IsQuiet given via a n
+quiet given via a n are member own link is at =
     let (place, here) = out_place given n link (member link) is at in
     let within = slice_get_within (links_out given n) place link here in
     let (k, stretch, is_k, first, last) = covered 0 (length (links_out given n)) place (given.stretches n) are.cover (omega arith) within in
-    own_way given via stretch.count place stretch.first stretch.way link (own k stretch is_k) first last
-    (are.of_way stretch place link (member_at (given.stretches n) k stretch is_k) first last here)
+    own k stretch is_k place link first last here
 
 -- ---- how many links leave a node
 

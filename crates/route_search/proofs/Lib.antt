@@ -6,6 +6,7 @@ pub mod LastPlaces
 pub mod Lowered
 pub mod Scanned
 pub mod Detours
+pub mod Along
 pub mod Looked
 pub mod Walked
 pub mod Sums

@@ -46,7 +46,7 @@ cost-set_other costs i n c other = get_or-set_other costs i n c no_cost other
 module _ (given : Network) (IsLink : Link → Type 0) (nodes : ℕ) (old new : State) (link : Link) (waits : Bool)
     (amid : IsAmid given IsLink nodes link.from old) (is : IsLink link) (to : link.to < nodes) (small : link.cost ≤ 6700000)
     (cheap : cost_in old link.from + link.cost < cost_in old link.to) (lowered : IsLowered old new link waits)
-    (quiet : waits ≡ false → IsQuiet given link.via link.to) where
+    (quiet : waits ≡ false → IsQuiet given link.via link.from link.to) where
   abbrev next : Last
   next = record { by = Some link; depth = (last_in old link.from).depth + 1 }
 

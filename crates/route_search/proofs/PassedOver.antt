@@ -1,5 +1,5 @@
 -- Links that aren't looked at.
-use Rattle.std.proofs.Common.{◌≡◌, ℕ, ◌<◌, ◌≤◌, Bool, true, List, length, Option, Some, sym, subst}
+use Rattle.std.proofs.Common.{◌≡◌, ℕ, ◌<◌, ◌≤◌, Bool, true, List, length, Some, sym, subst}
 use Rattle.std.specs.Prelude.{slice_get, slice_index_or}
 use Rattle.venue_types.specs.declared.kind.Kind.{Kind}
 use Rattle.venue_types.specs.declared.link.Link.{Link}
@@ -13,22 +13,16 @@ use Rattle.link_graph.specs.Marking.{marked}
 use Rattle.link_graph.specs.Networks.{Network, GoesBy, IsPassable}
 use Rattle.link_graph.proofs.AskingItems.{at_place}
 use Rattle.link_graph.proofs.AskingMarks.{to_chosen}
-use Rattle.route_search.specs.Scans.{IsVia, IsPassedOver}
+use Rattle.route_search.specs.Scans.{IsPassedOver}
 
 goes_inside : (given : Network) (way : Way) (via : ℕ) (kind : Kind) (restricted : Bool) (link : Link) → way ≡ Inside via kind restricted → GoesBy given way link
     → GoesBy given (Inside via kind restricted) link
 goes_inside given way via kind restricted link is goes = subst (λ (w : Way). GoesBy given w link) is goes
 
-pub over_again : (given : Network) (IsLink : Link → Type 0) (last : Option Link) (way : Way) (via : ℕ) (kind : Kind) (restricted : Bool) → way ≡ Inside via kind restricted
-    → IsVia last via → IsPassedOver given IsLink last way
-over_again given IsLink last way via kind restricted is again link goes is_link =
-    let inside = goes_inside given way via kind restricted link is goes in
-    (subst (λ (k : ℕ). IsVia last k) (sym inside.0) again, subst (λ (k : ℕ). given.first_unit ≤ k) (sym inside.0) inside.3)
-
-pub over_marked : (given : Network) (marks : List ProfileSet) (profile : Profile) (number : ℕ) (last : Option Link) (way : Way) (via : ℕ) (kind : Kind) (restricted : Bool) → way ≡ Inside via kind restricted
-    → via < length given.closables → has number (slice_index_or marks via nobody) ≡ true → IsPassedOver given (IsPassable given (marked given marks number) profile) last way
+pub over_marked : (given : Network) (marks : List ProfileSet) (profile : Profile) (number : ℕ) (way : Way) (via : ℕ) (kind : Kind) (restricted : Bool) → way ≡ Inside via kind restricted
+    → via < length given.closables → has number (slice_index_or marks via nobody) ≡ true → IsPassedOver given (IsPassable given (marked given marks number) profile) way
 unfolding marked
-over_marked given marks profile number last way via kind restricted is within on link goes is_link =
+over_marked given marks profile number way via kind restricted is within on link goes is_link =
     let inside = goes_inside given way via kind restricted link is goes in
     let (id, at) = at_place given.closables via within in
     let closed = to_chosen (has number) nobody (has_nobody number) marks given.closables via id at on in

@@ -7,6 +7,7 @@ use Rattle.link_graph.specs.declared.stretches.Stretch.{Stretch}
 use Rattle.link_graph.specs.declared.stretches.Way.{Way}
 use Rattle.link_graph.specs.declared.stretches.Way.TheVariants.{Inside, Between}
 use Rattle.link_graph.specs.Networks.{Network, Follow, AreStretches, GoesBy, IsSome, links_out}
+use Rattle.route_search.specs.declared.node_stretch.NodeStretch.{NodeStretch}
 use Rattle.route_search.specs.declared.state.State.{State}
 use Rattle.route_search.specs.Scans.{IsScanned, IsStretchOf, IsMarkable}
 use Rattle.route_search.proofs.Items.{drop_at}
@@ -26,10 +27,10 @@ module _ (given : Network) (IsLink : Link → Type 0) (nodes node k old_steps st
   next : (stretch.first ≡ walked.at) × Follow (walked.at + stretch.count) (length (links_out given node)) (drop (suc k) (given.stretches node))
   next = subst (λ (ss : List Stretch). Follow walked.at (length (links_out given node)) ss) (drop_at (given.stretches node) k stretch is) walked.follow
 
-  pub walked_stretch : IsStretchOf given node stretch
-  walked_stretch =
+  pub walked_stretch : node < length given.nodes → IsStretchOf given (record { node = node; k = k; stretch = stretch })
+  walked_stretch node_within =
       let (first, rest) = next in
-      record { one = member_at (given.stretches node) k stretch is; within = omega (arith, first, follow_end _ _ _ rest) }
+      record { node = node_within; here = is; within = omega (arith, first, follow_end _ _ _ rest) }
 
   pub walked_more : (new_steps : ℕ) (new : State) → IsScanned given IsLink nodes node stretch.first stretch.count state new → new_steps ≤ steps + stretch.count
       → IsWalked given IsLink nodes node (k + 1) old_steps new_steps old new
@@ -46,9 +47,8 @@ module _ (given : Network) (IsLink : Link → Type 0) (nodes node k old_steps st
 pub walked_steps : (given : Network) (IsLink : Link → Type 0) (nodes node k old_steps steps : ℕ) (old new : State) (stretch : Stretch) → IsWalked given IsLink nodes node k old_steps steps old new
     → slice_get (given.stretches node) k ≡ Some stretch → steps + stretch.count ≤ old_steps + length (links_out given node)
 walked_steps given IsLink nodes node k old_steps steps old new stretch walked is =
-    let one = walked_stretch given IsLink nodes node k old_steps steps old new stretch walked is in
-    let first = (next given IsLink nodes node k old_steps steps old new stretch walked is).0 in
-    omega (arith, one.within, walked.steps, first)
+    let (first, rest) = next given IsLink nodes node k old_steps steps old new stretch walked is in
+    omega (arith, follow_end _ _ _ rest, walked.steps, first)
 
 -- ---- the number of a unit that has links
 
@@ -57,9 +57,10 @@ markable_way given (Inside via kind restricted) count some has =
     let (link, goes, low) = has some in subst (λ (k : ℕ). k < length given.closables) goes.0 low
 markable_way given Between count some has = tt
 
-pub markable : (given : Network) (node : ℕ) (stretch : Stretch) → AreStretches given node → IsStretchOf given node stretch
-    → ((link : Link) → Contains given.links link → link.via < length given.closables) → IsMarkable given stretch.way
-markable given node stretch are one low =
-    markable_way given stretch.way stretch.count (are.some stretch one.one) (λ some.
-    (let (link, here) = get_some (links_out given node) stretch.first (omega (arith, one.within)) in
-    (link, are.of_way stretch stretch.first link one.one (omega arith) (omega arith) here, low link (out_member given node stretch.first link here).0)))
+pub markable : (given : Network) (at : NodeStretch) → AreStretches given at.node → IsStretchOf given at
+    → ((link : Link) → Contains given.links link → link.via < length given.closables) → IsMarkable given at.stretch.way
+markable given at are is low =
+    let one = member_at (given.stretches at.node) at.k at.stretch is.here in
+    markable_way given at.stretch.way at.stretch.count (are.some at.stretch one) (λ some.
+    (let (link, here) = get_some (links_out given at.node) at.stretch.first (omega (arith, is.within)) in
+    (link, are.of_way at.stretch at.stretch.first link one (omega arith) (omega arith) here, low link (out_member given at.node at.stretch.first link here).0)))

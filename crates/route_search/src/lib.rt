@@ -10,6 +10,7 @@ mod handed;
 mod labels;
 mod lasts;
 mod node_scan;
+mod node_stretch;
 mod passed_links;
 mod queue;
 mod quiet;

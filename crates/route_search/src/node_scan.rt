@@ -1,17 +1,19 @@
 //! The links of a node that is settled.
 
 ghost use Rattle.std.specs.Prelude.{◌≡◌, ◌+◌, ◌<◌, ◌≤◌, OnOk, Contains, length};
+ghost use Rattle.link_graph.specs.Detours.{IsNewIn};
 ghost use Rattle.link_graph.specs.Graphs.{network};
 ghost use Rattle.route_search.specs.Scans.{AreMarked, Followed, IsStretchOf, Regarded, Regards, node_count, out_count_of};
 ghost use Rattle.route_search.specs.States.{cost_in};
 
 use crate::ends::Ends;
-use crate::passed_links::{can_leave, can_pass, is_passed_over};
+use crate::node_stretch::NodeStretch;
+use crate::passed_links::{can_leave, can_pass, is_passed_over, known_start};
 use crate::quiet::has_to_wait;
 use crate::relaxation::lower;
 use crate::state::State;
 use crate::ways::Ways;
-use link_graph::Stretch;
+use link_graph::NewLink;
 use std::sync::ledger::Ledger;
 use venue_types::{Link, OutOfMemory};
 use walk_laws::Steps;
@@ -32,83 +34,80 @@ fn follow<E: Ends>(ways: &Ways, ends: &E, link: &Link, state: &mut State) -> Res
     lower(state, link, waits)
 }
 
-// Looks at the link at one place.
+// Looks at a link that was found in a stretch.
 fn look<L: Ledger, E: Ends>(
     ways: &Ways,
     ends: &E,
-    node: u32,
-    place: u32,
+    at: &NodeStretch,
+    found: NewLink,
     state: &mut State,
     steps: &mut Steps<L>,
 ) -> Result<(), OutOfMemory>
     requires marks { AreMarked ways.now }
-    requires node { node < node_count ways.now.graph.now }
-    requires place { place < out_count_of ways.now.graph.now node }
-    requires amid { Regards ways.now node state.old }
-    ensures scanned { OnOk result (Regarded ways.now node place 1 state.old state.new) }
+    requires stretch { IsStretchOf (network ways.now.graph.now) at.now }
+    requires found { IsNewIn (network ways.now.graph.now) at.now.node at.now.stretch 0 found }
+    requires amid { Regards ways.now at.now.node state.old }
+    ensures scanned { OnOk result (Regarded ways.now at.now.node found.place 1 state.old state.new) }
     ensures step { steps.new ≡ steps.old + 1 }
 {
     ways.graph.member_law();
     ways.graph.range_law();
-    let cost = state.costs[node as usize];
+    let cost = state.costs[at.node as usize];
     match ways
         .graph
-        .lower_link(node, place, cost, &state.costs, steps)
+        .lower_new(at.node, at.k, found, cost, &state.costs, steps)
     {
         Some(link) => follow(ways, ends, &link, state),
         None => Ok(()),
     }
 }
 
-// Looks at the links of one stretch.
+// Looks at the links of one stretch, but for those that are known from the start of the last link to the node.
 fn look_along<L: Ledger, E: Ends>(
     ways: &Ways,
     ends: &E,
-    node: u32,
-    stretch: &Stretch,
+    at: &NodeStretch,
     state: &mut State,
     steps: &mut Steps<L>,
 ) -> Result<(), OutOfMemory>
     requires marks { AreMarked ways.now }
-    requires node { node < node_count ways.now.graph.now }
-    requires stretch { IsStretchOf (network ways.now.graph.now) node stretch.now }
-    requires amid { Regards ways.now node state.old }
-    ensures scanned { OnOk result (Regarded ways.now node stretch.now.first stretch.now.count state.old state.new) }
-    ensures steps { steps.new ≤ steps.old + stretch.now.count }
+    requires stretch { IsStretchOf (network ways.now.graph.now) at.now }
+    requires amid { Regards ways.now at.now.node state.old }
+    ensures scanned { OnOk result (Regarded ways.now at.now.node at.now.stretch.first at.now.stretch.count state.old state.new) }
+    ensures steps { steps.new ≤ steps.old + at.now.stretch.count }
 {
+    ways.graph.stretch_law();
     ways.graph.range_law();
-    for turn in 0..stretch.count {
-        let place = stretch.first + turn;
-        look(ways, ends, node, place, state, steps)?;
+    ways.graph.detour_law();
+    let known = known_start(state.lasts.get(at.node).by, at.stretch.way);
+    let mut place = at.stretch.first;
+    'links: while let Some(found) = ways.graph.next_new(at.node, at.k, known, place) {
+        look(ways, ends, at, found, state, steps)?;
+        place = found.place + 1;
     }
     Ok(())
 }
 
-// Looks at the links of one stretch, or passes it over.
+// Looks at the links of one stretch, or passes them all over.
 fn scan_stretch<L: Ledger, E: Ends>(
     ways: &Ways,
     ends: &E,
-    node: u32,
-    stretch: &Stretch,
+    at: &NodeStretch,
     state: &mut State,
     steps: &mut Steps<L>,
 ) -> Result<(), OutOfMemory>
     requires marks { AreMarked ways.now }
-    requires node { node < node_count ways.now.graph.now }
-    requires stretch { IsStretchOf (network ways.now.graph.now) node stretch.now }
-    requires amid { Regards ways.now node state.old }
-    ensures scanned { OnOk result (Regarded ways.now node stretch.now.first stretch.now.count state.old state.new) }
-    ensures steps { steps.new ≤ steps.old + stretch.now.count }
+    requires stretch { IsStretchOf (network ways.now.graph.now) at.now }
+    requires amid { Regards ways.now at.now.node state.old }
+    ensures scanned { OnOk result (Regarded ways.now at.now.node at.now.stretch.first at.now.stretch.count state.old state.new) }
+    ensures steps { steps.new ≤ steps.old + at.now.stretch.count }
 {
     ways.graph.stretch_law();
-    ways.graph.member_law();
     ways.graph.range_law();
-    let last = state.lasts.get(node).by;
-    if is_passed_over(ways, last, stretch.way) {
-        ways.graph.detour_law();
+    if is_passed_over(ways, at.stretch.way) {
         return Ok(());
     }
-    look_along(ways, ends, node, stretch, state, steps)
+    look_along(ways, ends, at, state, steps)
 }
 
 // Looks at the links of a node, stretch by stretch.
@@ -128,13 +127,15 @@ fn scan_stretches<L: Ledger, E: Ends>(
     ways.graph.stretch_law();
     for k in 0..ways.graph.stretches(node) {
         let stretch = ways.graph.stretch(node, k);
-        scan_stretch(ways, ends, node, &stretch, state, steps)?;
+        let at = NodeStretch { node, k, stretch };
+        scan_stretch(ways, ends, &at, state, steps)?;
     }
     Ok(())
 }
 
 /// Looks at the links of a node that is settled now. Passes over those that can't be passed by the node or by the way that they go,
-/// and those across the unit by which the node was reached, since what they lead to is known from the start of its last link.
+/// and of those across the unit by which the node was reached the ones that lead back to the start of its last link, or to where a
+/// link leads from there by that unit.
 pub(crate) fn scan<L: Ledger, E: Ends>(
     ways: &Ways,
     ends: &E,

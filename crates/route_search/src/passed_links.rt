@@ -1,10 +1,10 @@
 //! Which links out of a node aren't looked at.
 
-ghost use Rattle.std.specs.Prelude.{◌≡◌, ◌↔◌, ◌<◌, IsTrue, Contains, length};
+ghost use Rattle.std.specs.Prelude.{◌≡◌, ◌↔◌, ◌<◌, ℕ, IsTrue, Some, Contains, length};
 ghost use Rattle.venue_types.specs.declared.link.Link.{Link as ALink};
 ghost use Rattle.link_graph.specs.Graphs.{network};
 ghost use Rattle.link_graph.specs.Networks.{GoesBy};
-ghost use Rattle.route_search.specs.Scans.{AreMarked, CanPass, IsMarkable, IsPassedOver, IsVia, node_count};
+ghost use Rattle.route_search.specs.Scans.{AreMarked, CanPass, IsAcross, IsKnownStart, IsMarkable, IsPassedOver, node_count};
 
 use crate::ways::Ways;
 use imdf_access::{allows, passes_end, passes_way};
@@ -32,21 +32,11 @@ pub(crate) fn can_leave(ways: &Ways, node: u32) -> bool
         && ways.graph.is_node_free(node, ways.marks, ways.number)
 }
 
-// Whether the last link of a walk goes by this number.
-fn is_again(last: Option<Link>, via: u32) -> bool
-    ensures { IsTrue result ↔ IsVia last via }
-{
-    match last {
-        Some(last) => last.via == via,
-        None => false,
-    }
-}
-
-/// Whether the links that go this way can't be passed, or are of the unit by which the node was reached.
-pub(crate) fn is_passed_over(ways: &Ways, last: Option<Link>, way: Way) -> bool
+/// Whether the links that go this way can't be passed, since it is closed or not granted.
+pub(crate) fn is_passed_over(ways: &Ways, way: Way) -> bool
     requires way { IsMarkable (network ways.now.graph.now) way }
     requires marks { AreMarked ways.now }
-    ensures { IsTrue result → IsPassedOver (network ways.now.graph.now) (CanPass ways.now) last way }
+    ensures { IsTrue result → IsPassedOver (network ways.now.graph.now) (CanPass ways.now) way }
 {
     match way {
         Way::Inside {
@@ -55,10 +45,35 @@ pub(crate) fn is_passed_over(ways: &Ways, last: Option<Link>, way: Way) -> bool
             restricted,
         } => {
             network_parts_law();
-            is_again(last, via)
-                || ways.marks.is_marked(via, ways.number)
-                || !passes_way(ways.profile, kind, restricted)
+            ways.marks.is_marked(via, ways.number) || !passes_way(ways.profile, kind, restricted)
         }
         Way::Between => false,
+    }
+}
+
+// Whether the way goes across the unit of this number.
+fn is_across(way: Way, via: u32) -> bool
+    ensures { IsTrue result ↔ IsAcross via way }
+{
+    match way {
+        Way::Inside { via: own, .. } => own == via,
+        Way::Between => false,
+    }
+}
+
+/// The node from which links that go this way may be known: the start of the last link of the walk to where they start, if that link goes
+/// this way across a unit.
+pub(crate) fn known_start(last: Option<Link>, way: Way) -> Option<u32>
+    ensures { (a : ℕ) → result ≡ Some a ↔ IsKnownStart last way a }
+{
+    match last {
+        Some(last) => {
+            if is_across(way, last.via) {
+                Some(last.from)
+            } else {
+                None
+            }
+        }
+        None => None,
     }
 }

@@ -38,7 +38,7 @@ fn judge(rt: &impl Abort, nodes: &Nodes) {
 fn a_station_has_its_nodes(rt: HostRuntime) -> Result<(), Fail> {
     let venue = venue_of(rt.alloc(), &[])?;
     every_venue(&venue);
-    let nodes = Nodes::of(rt.alloc(), venue.features())?;
+    let nodes = Nodes::of(rt.alloc(), venue.features(), venue.settings())?;
     judge(&rt, &nodes);
     Ok(())
 }

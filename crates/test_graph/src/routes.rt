@@ -6,6 +6,7 @@ mod graphs;
 mod made_reaches;
 mod made_venues;
 mod nearest;
+mod new_links;
 mod reach_rows;
 mod reaches;
 mod search_rows;

@@ -39,18 +39,18 @@ module _ (features : Features) (settings : Settings) where
       → IsReport (IsPlaneBroken features settings.contain_tol) findings → IsReport (IsLaterBroken features settings) findings
   plane_report findings names some report =
       First-goes_on finding_cmp (IsMisnamed features) (IsGroundBroken features settings) findings names
-      (First-stops finding_cmp (IsPlaneBroken features settings.contain_tol) (BreaksLimit features settings.border_tol) findings some report)
+      (First-stops finding_cmp (IsPlaneBroken features settings.contain_tol) (BreaksLimit features settings) findings some report)
 
   -- they find nothing either, and the last phase has this
   pub limit_report : (findings : List Finding) → IsReport (IsMisnamed features) [] → IsReport (IsPlaneBroken features settings.contain_tol) []
-      → IsReport (BreaksLimit features settings.border_tol) findings → IsReport (IsLaterBroken features settings) findings
+      → IsReport (BreaksLimit features settings) findings → IsReport (IsLaterBroken features settings) findings
   limit_report findings names plane report =
       First-goes_on finding_cmp (IsMisnamed features) (IsGroundBroken features settings) findings names
-      (First-goes_on finding_cmp (IsPlaneBroken features settings.contain_tol) (BreaksLimit features settings.border_tol) findings plane report)
+      (First-goes_on finding_cmp (IsPlaneBroken features settings.contain_tol) (BreaksLimit features settings) findings plane report)
 
   -- none finds anything
   pub silent : IsReport (IsMisnamed features) [] → IsReport (IsPlaneBroken features settings.contain_tol) []
-      → IsReport (BreaksLimit features settings.border_tol) [] → (x : Finding) → ¬ IsLaterBroken features settings x
+      → IsReport (BreaksLimit features settings) [] → (x : Finding) → ¬ IsLaterBroken features settings x
   silent names plane limits = nothing (IsLaterBroken features settings) [] refl (limit_report [] names plane limits)
 
   -- where the phases on the plane find nothing, the folder isn't spread

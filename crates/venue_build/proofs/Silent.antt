@@ -17,7 +17,7 @@ module _ (features : Features) (settings : Settings) (unbroken : (x : Finding) �
 
   -- nor do those on the plane
   plane_silent : (x : Finding) → ¬ IsPlaneBroken features settings.contain_tol x
-  plane_silent = first_silent (IsPlaneBroken features settings.contain_tol) (BreaksLimit features settings.border_tol) ground_silent
+  plane_silent = first_silent (IsPlaneBroken features settings.contain_tol) (BreaksLimit features settings) ground_silent
 
   pub named : (x : Finding) → ¬ IsMisnamed features x
   named = first_silent (IsMisnamed features) (IsGroundBroken features settings) unbroken
@@ -28,8 +28,8 @@ module _ (features : Features) (settings : Settings) (unbroken : (x : Finding) �
   pub placed : (x : Finding) → ¬ IsMisplaced features settings.contain_tol x
   placed = second_silent (BreaksSpread features) (IsMisplaced features settings.contain_tol) plane_silent
 
-  pub roomy : (x : Finding) → ¬ BreaksLimit features settings.border_tol x
-  roomy = second_silent (IsPlaneBroken features settings.contain_tol) (BreaksLimit features settings.border_tol) ground_silent
+  pub roomy : (x : Finding) → ¬ BreaksLimit features settings x
+  roomy = second_silent (IsPlaneBroken features settings.contain_tol) (BreaksLimit features settings) ground_silent
 
   -- a spread would be a finding of the third phase
   pub not_spread : ¬ IsSpread features

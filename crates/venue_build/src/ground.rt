@@ -39,7 +39,7 @@ pub(crate) fn ground_of(
     requires own_ids { HaveOwnIds features.now }
     requires close { AllClose (judged_positions features.now) }
     ensures ground { IfOk result (IsGround features.now settings.now) }
-    ensures fault { IfErr result (IsFault features.now settings.now.border_tol) }
+    ensures fault { IfErr result (IsFault features.now settings.now) }
 {
     match touches(alloc, features, settings)? {
         Matches::Many(counts) => Err(GraphFault::of_counts(alloc, features, counts.as_slice())),

@@ -34,7 +34,7 @@ pub fn every_venue(venue: &Venue)
     ensures named { (x : Finding) → ¬ IsMisnamed venue.now.features x }
     ensures close { (x : Finding) → ¬ BreaksSpread venue.now.features x }
     ensures placed { (x : Finding) → ¬ IsMisplaced venue.now.features venue.now.settings.contain_tol x }
-    ensures roomy { (x : Finding) → ¬ BreaksLimit venue.now.features venue.now.settings.border_tol x }
+    ensures roomy { (x : Finding) → ¬ BreaksLimit venue.now.features venue.now.settings x }
 {
     venue.valid_law();
 }

@@ -4,6 +4,7 @@ use Rattle.std.specs.Prelude.{IfOk, IfSome}
 use Rattle.venue_types.specs.declared.feature_id.FeatureId.{FeatureId}
 use Rattle.venue_types.specs.declared.settings.Profile.{Profile}
 use Rattle.venue_types.specs.declared.features.Features.{Features}
+use Rattle.venue_types.specs.declared.settings.Settings.{Settings}
 use Rattle.route_answers.specs.Nodes.{nodes, place_of}
 use Rattle.line_forms.specs.Lines.{line}
 use Rattle.route_certificate.specs.Answers.{answer_text}
@@ -62,10 +63,10 @@ is_routed (Some fs) base folder name from to m venue (Ok a) told is printed =
     routed_for fs base folder name from to venue a (profile_named venue.settings name) (venue_as fs base folder m venue told is) refl printed
 
 -- a place that was found is a node
-pub place_below : ((features : Features) (id : FeatureId) (n : ℕ) → place_of features id ≡ Some n → n < length (nodes features)) → (features : Features) (id : FeatureId) (found : Option ℕ)
-    → found ≡ place_of features id → IfSome found (λ n. n < length (nodes features))
-place_below law features id None e = tt
-place_below law features id (Some n) e = law features id n (sym e)
+pub place_below : ((features : Features) (settings : Settings) (id : FeatureId) (n : ℕ) → place_of features id ≡ Some n → n < length (nodes features settings))
+    → (features : Features) (settings : Settings) (id : FeatureId) (found : Option ℕ) → found ≡ place_of features id → IfSome found (λ n. n < length (nodes features settings))
+place_below law features settings id None e = tt
+place_below law features settings id (Some n) e = law features settings id n (sym e)
 
 -- what is printed for a profile is what is printed for its name
 pub routed_named : (venue : Venue) (name : List ℕ) (from to : FeatureId) (profile : Profile) (r : Result Printout ReadFault) → Some profile ≡ profile_named venue.settings name

@@ -92,7 +92,7 @@ proved_of : Truth → (venue : Venue) (profile : Profile) (a b : ℕ) (answer : 
     → table ≡ table_text (table_of venue.features venue.settings profile) → text ≡ answer_text answer → IsRouteAnswer venue.features venue.settings profile a b answer → IsProvedBy table text
 proved_of law venue profile a b answer table text fits is-table is-answer right =
     let links = table_of venue.features venue.settings profile in
-    let count : length (nodes venue.features) ≡ length links.nodes = sym (length-map (nodes venue.features) (λ (node : Node). node.id)) in
+    let count : length (nodes venue.features venue.settings) ≡ length links.nodes = sym (length-map (nodes venue.features venue.settings) (λ (node : Node). node.id)) in
     record {
       links = links;
       given = answer;

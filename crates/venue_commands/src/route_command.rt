@@ -34,7 +34,7 @@ fn status_of(claim: &Claim) -> Status
 // The node at which a place of the venue is.
 fn node_of(venue: &Venue, id: FeatureId) -> Option<u32>
     ensures node { result ≡ place_of venue.now.features id }
-    ensures within { IfSome result (λ n. n < length (nodes venue.now.features)) }
+    ensures within { IfSome result (λ n. n < length (nodes venue.now.features venue.now.settings)) }
 {
     number_law();
     venue.graph().node_of(id)
@@ -48,8 +48,8 @@ fn answered(
     a: u32,
     b: u32,
 ) -> Result<Printout, OutOfMemory>
-    requires a_node { a < length (nodes venue.now.features) }
-    requires b_node { b < length (nodes venue.now.features) }
+    requires a_node { a < length (nodes venue.now.features venue.now.settings) }
+    requires b_node { b < length (nodes venue.now.features venue.now.settings) }
     ensures told { IfOk result (IsAnswered venue.now profile.now a b) }
     ensures plain { IfOk result (λ answer. IsPrinted answer.status) }
 {

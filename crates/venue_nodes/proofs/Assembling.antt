@@ -6,10 +6,11 @@ use Rattle.venue_types.specs.declared.feature_id.FeatureId.{FeatureId}
 use Rattle.venue_types.specs.declared.features.Features.{Features}
 use Rattle.venue_types.specs.declared.features.OccupantRow.{OccupantRow}
 use Rattle.venue_types.specs.declared.link.Node.{Node}
+use Rattle.venue_types.specs.declared.settings.Settings.{Settings}
 use Rattle.venue_nodes.specs.declared.nodes.Nodes.{Nodes}
 use Rattle.venue_nodes.specs.declared.numbers.Numbers.{Numbers}
 use Rattle.venue_nodes.specs.Identity.{is_same}
-use Rattle.venue_nodes.specs.Nodes.{nodes, node_number, place_of, closables}
+use Rattle.venue_nodes.specs.Nodes.{place_nodes, node_rows, nodes, node_number, place_of, closables}
 use Rattle.venue_nodes.specs.Numbering.{number_among}
 use Rattle.venue_nodes.specs.Views.{number_of, node_list, find_place, closable_list, find_closable, AreNodes}
 use Rattle.venue_nodes.proofs.Finding.{number_map, by_number, occupant_place, number_same}
@@ -19,34 +20,33 @@ pub record Number (ids : List FeatureId) (numbers : Numbers) : Type 0 where
   pub number : (id : FeatureId) → number_of numbers id ≡ number_among ids id
 
 -- what the parts are
-pub record AreParts (features : Features) (made : Nodes) : Type 0 where
-  pub list : made.list.items ≡ nodes features
-  pub numbers : Number (map (λ (node : Node). node.id) made.list.items) made.numbers
+pub record AreParts (features : Features) (settings : Settings) (made : Nodes) : Type 0 where
+  pub list : made.list.items ≡ nodes features settings
+  pub numbers : Number (map (λ (node : Node). node.id) (place_nodes features)) made.numbers
   pub occupants : Number (map (λ (row : OccupantRow). row.id) features.occupants) made.occupants
   pub anchors : made.anchors.items ≡ map (λ (row : OccupantRow). row.anchor) features.occupants
   pub closable_ids : made.closable_ids.items ≡ closables features
   pub closable_numbers : Number made.closable_ids.items made.closable_numbers
 
-numbered : (features : Features) (made : Nodes) → AreParts features made → (id : FeatureId) → number_of made.numbers id ≡ node_number features id
-numbered features made parts id =
-    parts.numbers.number id ∙ number_map (λ (node : Node). node.id) made.list.items id ∙ ap (λ (list : List Node). position_from (λ (node : Node). is_same node.id id) 0 list) parts.list
+numbered : (features : Features) (settings : Settings) (made : Nodes) → AreParts features settings made → (id : FeatureId) → number_of made.numbers id ≡ node_number features id
+numbered features settings made parts id = parts.numbers.number id ∙ number_map (λ (node : Node). node.id) (place_nodes features) id
 
-place_found : (features : Features) (made : Nodes) → AreParts features made → (id : FeatureId) → find_place made id ≡ place_of features id
+place_found : (features : Features) (settings : Settings) (made : Nodes) → AreParts features settings made → (id : FeatureId) → find_place made id ≡ place_of features id
 unfolding find_place place_of
-place_found features made parts id =
+place_found features settings made parts id =
     let occupant : number_of made.occupants id ≡ position_from (λ (row : OccupantRow). is_same row.id id) 0 features.occupants = parts.occupants.number id ∙ number_map (λ (row : OccupantRow). row.id) features.occupants id in
     let f = number_of made.numbers in
     let g = node_number features in
     ap (by_number f (f id) made.anchors.items) occupant
     ∙ ap (λ (anchors : List FeatureId). by_number f (f id) anchors (position_from (λ (row : OccupantRow). is_same row.id id) 0 features.occupants)) parts.anchors
-    ∙ number_same f g (f id) (g id) (map (λ (row : OccupantRow). row.anchor) features.occupants) (position_from (λ (row : OccupantRow). is_same row.id id) 0 features.occupants) (numbered features made parts) (numbered features made parts id)
+    ∙ number_same f g (f id) (g id) (map (λ (row : OccupantRow). row.anchor) features.occupants) (position_from (λ (row : OccupantRow). is_same row.id id) 0 features.occupants) (numbered features settings made parts) (numbered features settings made parts id)
     ∙ occupant_place g (g id) (λ (row : OccupantRow). is_same row.id id) features.occupants
 
-pub are_nodes : (features : Features) (made : Nodes) → AreParts features made → AreNodes features made
+pub are_nodes : (features : Features) (settings : Settings) (made : Nodes) → AreParts features settings made → AreNodes features settings made
 unfolding node_list closable_list find_closable
-are_nodes features made parts = record {
+are_nodes features settings made parts = record {
   list = parts.list;
-  place = place_found features made parts;
+  place = place_found features settings made parts;
   closable_ids = parts.closable_ids;
   closable = λ id. parts.closable_numbers.number id ∙ ap (λ (ids : List FeatureId). number_among ids id) parts.closable_ids;
 }
@@ -63,3 +63,11 @@ short_ids f xs ys ids read r e s few =
 
 pub short_list : {X : Type 0} (xs ys : List X) → xs ≡ ys → length ys ≤ 100000 → length xs ≤ 400000
 short_list xs ys e few = let a : length xs ≡ length ys = ap length e in omega arith
+
+pub short_nodes : {X : Type 0} (xs ys : List X) → xs ≡ ys → length ys ≤ 100000 → length xs ≤ 1100000
+short_nodes xs ys e few = let a : length xs ≡ length ys = ap length e in omega arith
+
+-- what is made of these features' nodes
+pub all_nodes : (features : Features) (settings : Settings) (list : List Node) → list ≡ place_nodes features → list ≡ nodes features settings
+unfolding nodes node_rows place_nodes
+all_nodes features settings list e = e

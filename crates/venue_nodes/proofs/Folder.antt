@@ -13,12 +13,13 @@ use Rattle.venue_types.specs.declared.features.AnchorRow.{AnchorRow}
 use Rattle.venue_types.specs.declared.features.OpeningRow.{OpeningRow}
 use Rattle.venue_types.specs.declared.features.UnitRow.{UnitRow}
 use Rattle.venue_types.specs.declared.link.Touches as touching
+use Rattle.venue_types.specs.declared.settings.Settings.{Settings}
 use Rattle.plane_exact.specs.Opening.{Touches, HaveTouch, AreTouches}
 use Rattle.feature_rows.specs.Rows.{feature_count}
 use Rattle.feature_rows.specs.Indexes.{AreOnce}
 use Rattle.venue_nodes.specs.Identity.{is_same}
 use Rattle.venue_nodes.specs.Touching.{does_touch}
-use Rattle.venue_nodes.specs.Nodes.{NodeRow, amenity, anchor, opening, unit, node_rows, walkable_units}
+use Rattle.venue_nodes.specs.Nodes.{NodeRow, amenity, anchor, opening, unit, place_node_rows, node_rows, walkable_units}
 use Rattle.venue_nodes.specs.Members.{is_member, members, places_where}
 use Rattle.venue_nodes.specs.Naming.{names, numbers, row_in, can_walk, unit_id, ids_at, named_by, node_bound}
 use Rattle.venue_nodes.proofs.Items.{given_from, given_to, map_twice}
@@ -88,19 +89,19 @@ touch_back features border_tol touches known o row door at_row at_door k u at_un
 
 -- ---- a unit's row
 
-pub row_is : (features : Features) (border_tol : ℕ) (touches : touching.Touches) → IsTouched features border_tol touches → (k : ℕ) (u : UnitRow) → slice_get features.units k ≡ Some u
-    → row_in (named_by features touches.rows (map unit_id (filter can_walk features.units))) u.id ≡ members features border_tol u
-unfolding members node_rows
-row_is features border_tol touches known k u at_unit =
+pub row_is : (features : Features) (settings : Settings) (touches : touching.Touches) → IsTouched features settings.border_tol touches → (k : ℕ) (u : UnitRow) → slice_get features.units k ≡ Some u
+    → row_in (named_by features touches.rows (map unit_id (filter can_walk features.units))) u.id ≡ members features settings u
+unfolding members node_rows place_node_rows
+row_is features settings touches known k u at_unit =
     let t : List FeatureId → Bool = λ ids. names ids u.id in
-    let s : NodeRow → Bool = is_member border_tol u in
+    let s : NodeRow → Bool = is_member settings.border_tol u in
     let R : List FeatureId → NodeRow → Type 0 = λ x y. t x ≡ s y in
     let ways = filter can_walk features.units in
     let one : AllZip R (map (λ (row : AmenityRow). row.units) features.amenities) (map amenity features.amenities) = zip_maps t s (λ (row : AmenityRow). row.units) amenity features.amenities (λ r. refl) in
     let two : AllZip R (map (λ (row : AnchorRow). row.unit ∷ []) features.anchors) (map anchor features.anchors) = zip_maps t s (λ (row : AnchorRow). row.unit ∷ []) anchor features.anchors (λ r. or_false (is_same r.unit u.id)) in
     let three : AllZip R (map (ids_at features.units) touches.rows) (map opening features.openings) =
     zip_two t s (ids_at features.units) opening touches.rows features.openings known.are.rows
-    (λ o row door a b. same_test (names (ids_at features.units row) u.id) (does_touch border_tol door u) (touch_into features border_tol touches known o row door a b k u at_unit) (touch_back features border_tol touches known o row door a b k u at_unit)) in
+    (λ o row door a b. same_test (names (ids_at features.units row) u.id) (does_touch settings.border_tol door u) (touch_into features settings.border_tol touches known o row door a b k u at_unit) (touch_back features settings.border_tol touches known o row door a b k u at_unit)) in
     let four : AllZip R (map (λ (id : FeatureId). id ∷ []) (map unit_id ways)) (map unit ways) =
     subst (λ (xs : List (List FeatureId)). AllZip R xs (map unit ways)) (sym (map_twice (λ (id : FeatureId). id ∷ []) unit_id ways))
     (zip_maps t s (λ (row : UnitRow). row.id ∷ []) unit ways (λ r. or_false (is_same r.id u.id))) in
@@ -117,14 +118,14 @@ map_same_in : {A B : Type 0} (f g : A → B) (xs : List A) → ((w : ℕ) (x : A
 map_same_in f g [] e = refl
 map_same_in {A} {B} f g (x ∷ xs) e = ap (λ (y : B). y ∷ map f xs) (e 0 x refl) ∙ ap (λ (ys : List B). g x ∷ ys) (map_same_in f g xs (λ w y at. e (suc w) y at))
 
-pub rows_are : (features : Features) (border_tol : ℕ) (touches : touching.Touches) → IsTouched features border_tol touches
-    → map (row_in (named_by features touches.rows (map unit_id (filter can_walk features.units)))) (map unit_id (filter can_walk features.units)) ≡ map (members features border_tol) (walkable_units features)
-rows_are features border_tol touches known =
+pub rows_are : (features : Features) (settings : Settings) (touches : touching.Touches) → IsTouched features settings.border_tol touches
+    → map (row_in (named_by features touches.rows (map unit_id (filter can_walk features.units)))) (map unit_id (filter can_walk features.units)) ≡ map (members features settings) (walkable_units features)
+rows_are features settings touches known =
     let ways = filter can_walk features.units in
     let ids = map unit_id ways in
     map_twice (row_in (named_by features touches.rows ids)) unit_id ways
-    ∙ map_same_in (λ (u : UnitRow). row_in (named_by features touches.rows ids) u.id) (members features border_tol) ways
-    (λ w u at. let kept = kept_at can_walk 0 features.units w u at in row_is features border_tol touches known kept.k u kept.there)
+    ∙ map_same_in (λ (u : UnitRow). row_in (named_by features touches.rows ids) u.id) (members features settings) ways
+    (λ w u at. let kept = kept_at can_walk 0 features.units w u at in row_is features settings touches known kept.k u kept.there)
 
 -- ---- how many nodes
 

@@ -10,7 +10,7 @@ use Rattle.venue_types.specs.declared.features.RelationshipRow.{RelationshipRow}
 use Rattle.venue_types.specs.declared.features.UnitRow.{UnitRow}
 use Rattle.venue_types.specs.declared.link.Node.{Node}
 use Rattle.imdf_access.specs.Categories.{is_walkable}
-use Rattle.venue_nodes.specs.Nodes.{amenity, anchor, opening, unit, node_of_row, node_rows, nodes, closables, walkable_units}
+use Rattle.venue_nodes.specs.Nodes.{amenity, anchor, opening, unit, node_of_row, place_node_rows, place_nodes, closables, walkable_units}
 
 map_map : {X Y Z : Type 0} (f : Y → Z) (g : X → Y) (xs : List X) → map f (map g xs) ≡ map (λ x. f (g x)) xs
 map_map f g [] = refl
@@ -42,8 +42,8 @@ pub nodes_joined : (features : Features) (n a b d e : List Node) (am : List Amen
     → am ≡ features.amenities → bs ≡ features.anchors → os ≡ features.openings → us ≡ features.units → n ≡ []
     → a ≡ n ++ map (λ row. node_of_row (amenity row)) am → b ≡ a ++ map (λ row. node_of_row (anchor row)) bs → d ≡ b ++ map (λ row. node_of_row (opening row)) os
     → e ≡ d ++ map (λ row. node_of_row (unit row)) (filter (λ (row : UnitRow). is_walkable row.category) us)
-    → e ≡ nodes features
-unfolding nodes node_rows
+    → e ≡ place_nodes features
+unfolding place_nodes place_node_rows
 nodes_joined features n a b d e am bs os us p q r s none one two three four =
     let front = three_joined n a b d _ _ _ none (one ∙ ap (λ xs. n ++ map (λ row. node_of_row (amenity row)) xs) p) (two ∙ ap (λ xs. a ++ map (λ row. node_of_row (anchor row)) xs) q) (three ∙ ap (λ xs. b ++ map (λ row. node_of_row (opening row)) xs) r) in
     four

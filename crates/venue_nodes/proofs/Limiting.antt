@@ -15,6 +15,7 @@ use Rattle.venue_types.specs.declared.finding.Finding.{Finding}
 use Rattle.imdf_access.specs.Categories.{is_walkable}
 use Rattle.venue_types.specs.declared.folder_file.File.TheVariants as file
 use Rattle.venue_types.specs.FolderFiles.{file_number}
+use Rattle.venue_types.specs.declared.settings.Settings.{Settings}
 use Rattle.rule_reports.specs.Reports.{IsReport}
 use Rattle.venue_nodes.specs.declared.limits.Crowding.{Crowding}
 use Rattle.venue_nodes.specs.declared.limits.Crowding.TheVariants.{Members, Squares}
@@ -61,19 +62,19 @@ sum_mapped f g [] = refl
 sum_mapped f g (x ∷ xs) =
     sum_by-cons g (f x) (map f xs) ∙ ap (λ (n : ℕ). g (f x) + n) (sum_mapped f g xs) ∙ sym (sum_by-cons (λ y. g (f y)) x xs)
 
-pub squares_are : (features : Features) (border_tol : ℕ) (rows : Rows) → AreRowsOf features border_tol rows → sum_by square_of (row_list rows) ≡ square_sum features border_tol
-squares_are features border_tol rows are = ap (sum_by square_of) are.members_are ∙ sum_mapped (members features border_tol) square_of (walkable_units features)
+pub squares_are : (features : Features) (settings : Settings) (rows : Rows) → AreRowsOf features settings rows → sum_by square_of (row_list rows) ≡ square_sum features settings
+squares_are features settings rows are = ap (sum_by square_of) are.members_are ∙ sum_mapped (members features settings) square_of (walkable_units features)
 
 -- ---- the first crowded unit
 
 -- a crowded unit has a row that is too long
-crowded_row : (features : Features) (border_tol : ℕ) (rows : Rows) (k : ℕ) → AreRowsOf features border_tol rows → IsCrowded features border_tol k
+crowded_row : (features : Features) (settings : Settings) (rows : Rows) (k : ℕ) → AreRowsOf features settings rows → IsCrowded features settings k
     → (w : ℕ) × (row : List ℕ) × (slice_get (row_list rows) w ≡ Some row) × (4096 < length row) × (slice_get (unit_indexes rows) w ≡ Some k)
-crowded_row features border_tol rows k are crowd =
+crowded_row features settings rows k are crowd =
     let number = number_of walks 0 features.units k crowd.unit crowd.there crowd.walkable in
     let is : 0 + k ≡ k = omega arith in
-    let row = members features border_tol crowd.unit in
-    let at : slice_get (map (members features border_tol) (walkable_units features)) number.w ≡ Some row = at_map (members features border_tol) (walkable_units features) number.w crowd.unit number.is_kept in (
+    let row = members features settings crowd.unit in
+    let at : slice_get (map (members features settings) (walkable_units features)) number.w ≡ Some row = at_map (members features settings) (walkable_units features) number.w crowd.unit number.is_kept in (
       number.w,
       row,
       subst (λ (rs : List (List ℕ)). slice_get rs number.w ≡ Some row) (sym are.members_are) at,
@@ -81,17 +82,17 @@ crowded_row features border_tol rows k are crowd =
       subst (λ (ps : List ℕ). slice_get ps number.w ≡ Some k) (sym are.units_are) (number.placed ∙ ap (λ (m : ℕ). Some m) is),
     )
 
-pub none_crowded : (features : Features) (border_tol : ℕ) (rows : Rows) → AreRowsOf features border_tol rows → All IsRoomy (row_list rows) → NoneCrowded features border_tol
-none_crowded features border_tol rows are all k crowd =
-    let r = crowded_row features border_tol rows k are crowd in
+pub none_crowded : (features : Features) (settings : Settings) (rows : Rows) → AreRowsOf features settings rows → All IsRoomy (row_list rows) → NoneCrowded features settings
+none_crowded features settings rows are all k crowd =
+    let r = crowded_row features settings rows k are crowd in
     let few : length r.1 ≤ 4096 = roomy_at (row_list rows) r.0 r.1 all r.2 in
     let many : 4096 < length r.1 = r.3 in
     omega arith
 
-pub first_crowded : (features : Features) (border_tol : ℕ) (rows : Rows) (w k : ℕ) → AreRowsOf features border_tol rows → IsFirstFull (row_list rows) w → slice_get (unit_indexes rows) w ≡ Some k
-    → LimitBreaks S5 features border_tol k
-first_crowded features border_tol rows w k are first at =
-    let from = from_map (members features border_tol) (walkable_units features) w first.row (subst (λ (rs : List (List ℕ)). slice_get rs w ≡ Some first.row) are.members_are first.there) in
+pub first_crowded : (features : Features) (settings : Settings) (rows : Rows) (w k : ℕ) → AreRowsOf features settings rows → IsFirstFull (row_list rows) w → slice_get (unit_indexes rows) w ≡ Some k
+    → LimitBreaks S5 features settings k
+first_crowded features settings rows w k are first at =
+    let from = from_map (members features settings) (walkable_units features) w first.row (subst (λ (rs : List (List ℕ)). slice_get rs w ≡ Some first.row) are.members_are first.there) in
     let kept = kept_at walks 0 features.units w from.0 from.1 in
     let place : slice_get (places_where walks 0 features.units) w ≡ Some k = subst (λ (ps : List ℕ). slice_get ps w ≡ Some k) are.units_are at in
     let same : 0 + kept.k ≡ k = same_Some (0 + kept.k) k (sym kept.placed ∙ place) in
@@ -104,7 +105,7 @@ first_crowded features border_tol rows w k are first at =
         many = subst (λ (row : List ℕ). 4096 < length row) (sym from.2) full;
       },
       λ j under crowd.
-          let r = crowded_row features border_tol rows j are crowd in
+          let r = crowded_row features settings rows j are crowd in
           let there : slice_get (places_where walks 0 features.units) r.0 ≡ Some j = subst (λ (ps : List ℕ). slice_get ps r.0 ≡ Some j) are.units_are r.4 in
           let before : r.0 < w = lesser_number (places_where walks 0 features.units) r.0 w j k (places_rise walks 0 features.units) there place under in
           let few : length r.1 ≤ 4096 = first.before r.0 r.1 before r.2 in
@@ -118,9 +119,9 @@ no_rule_before_S5 : (before : LimitRule) → rule_number (rule_of before) < rule
 no_rule_before_S5 S5 under = omega arith
 no_rule_before_S5 S6 under = omega arith
 
-only_S5_before_S6 : (features : Features) (border_tol : ℕ) → NoneCrowded features border_tol → (before : LimitRule) (k : ℕ) → rule_number (rule_of before) < rule_number (rule_of S6) → ¬ LimitBreaks before features border_tol k
-only_S5_before_S6 features border_tol none S5 k under breaks = none k breaks.0
-only_S5_before_S6 features border_tol none S6 k under breaks = omega arith
+only_S5_before_S6 : (features : Features) (settings : Settings) → NoneCrowded features settings → (before : LimitRule) (k : ℕ) → rule_number (rule_of before) < rule_number (rule_of S6) → ¬ LimitBreaks before features settings k
+only_S5_before_S6 features settings none S5 k under breaks = none k breaks.0
+only_S5_before_S6 features settings none S6 k under breaks = omega arith
 
 same_finding : (x y : Finding) → x.rule ≡ y.rule → x.file ≡ y.file → x.index ≡ y.index → x.member ≡ y.member → x ≡ y
 same_finding x y rule file index member =
@@ -134,8 +135,8 @@ only_one x y h = let at = at_member (x ∷ []) y h in one_at x y at.0 at.1
     one_at x y zero e = same_Some x y e
     one_at x y (suc k) e = absurd (cc)
 
-breaks_members : (features : Features) (border_tol k : ℕ) → LimitBreaks S5 features border_tol k → BreaksLimit features border_tol (limit_finding (Members k))
-breaks_members features border_tol k crowd = record {
+breaks_members : (features : Features) (settings : Settings) (k : ℕ) → LimitBreaks S5 features settings k → BreaksLimit features settings (limit_finding (Members k))
+breaks_members features settings k crowd = record {
   rule = S5;
   number = refl;
   breaks = crowd;
@@ -144,18 +145,18 @@ breaks_members features border_tol k crowd = record {
   at_member = refl;
 }
 
-breaks_squares : (features : Features) (border_tol : ℕ) → NoneCrowded features border_tol → 20000000 < square_sum features border_tol → BreaksLimit features border_tol (limit_finding Squares)
-breaks_squares features border_tol none many = record {
+breaks_squares : (features : Features) (settings : Settings) → NoneCrowded features settings → 20000000 < square_sum features settings → BreaksLimit features settings (limit_finding Squares)
+breaks_squares features settings none many = record {
   rule = S6;
   number = refl;
   breaks = (many, refl);
-  first = only_S5_before_S6 features border_tol none;
+  first = only_S5_before_S6 features settings none;
   in_file = refl;
   at_member = refl;
 }
 
-one_first : (features : Features) (border_tol k j : ℕ) → LimitBreaks S5 features border_tol k → LimitBreaks S5 features border_tol j → j ≡ k
-one_first features border_tol k j here there = elim (cases_lt k j) [
+one_first : (features : Features) (settings : Settings) (k j : ℕ) → LimitBreaks S5 features settings k → LimitBreaks S5 features settings j → j ≡ k
+one_first features settings k j here there = elim (cases_lt k j) [
   | inl before ↦ absurd (there.1 k before here.0)
   | inr behind ↦ elim (cases_lt j k) [
     | inl under ↦ absurd (here.1 j under there.0)
@@ -163,19 +164,19 @@ one_first features border_tol k j here there = elim (cases_lt k j) [
   ]
 ]
 
-told_members : (features : Features) (border_tol k : ℕ) (x : Finding) → LimitBreaks S5 features border_tol k → (rule : LimitRule) → x.rule ≡ rule_number (rule_of rule) → LimitBreaks rule features border_tol x.index
-    → ((before : LimitRule) (j : ℕ) → rule_number (rule_of before) < rule_number (rule_of rule) → ¬ LimitBreaks before features border_tol j) → x.file ≡ file_number file.Unit → x.member ≡ 0 → x ≡ limit_finding (Members k)
-told_members features border_tol k x crowd S5 number breaks first in_file at_member = same_finding x (limit_finding (Members k)) number in_file (one_first features border_tol k x.index crowd breaks) at_member
-told_members features border_tol k x crowd S6 number breaks first in_file at_member = absurd (first S5 k (omega arith) crowd)
+told_members : (features : Features) (settings : Settings) (k : ℕ) (x : Finding) → LimitBreaks S5 features settings k → (rule : LimitRule) → x.rule ≡ rule_number (rule_of rule) → LimitBreaks rule features settings x.index
+    → ((before : LimitRule) (j : ℕ) → rule_number (rule_of before) < rule_number (rule_of rule) → ¬ LimitBreaks before features settings j) → x.file ≡ file_number file.Unit → x.member ≡ 0 → x ≡ limit_finding (Members k)
+told_members features settings k x crowd S5 number breaks first in_file at_member = same_finding x (limit_finding (Members k)) number in_file (one_first features settings k x.index crowd breaks) at_member
+told_members features settings k x crowd S6 number breaks first in_file at_member = absurd (first S5 k (omega arith) crowd)
 
-told_squares : (features : Features) (border_tol : ℕ) (x : Finding) → NoneCrowded features border_tol → (rule : LimitRule) → x.rule ≡ rule_number (rule_of rule) → LimitBreaks rule features border_tol x.index
+told_squares : (features : Features) (settings : Settings) (x : Finding) → NoneCrowded features settings → (rule : LimitRule) → x.rule ≡ rule_number (rule_of rule) → LimitBreaks rule features settings x.index
     → x.file ≡ file_number file.Unit → x.member ≡ 0 → x ≡ limit_finding Squares
-told_squares features border_tol x none S5 number breaks in_file at_member = absurd (none x.index breaks.0)
-told_squares features border_tol x none S6 number breaks in_file at_member = same_finding x (limit_finding Squares) number in_file breaks.1 at_member
+told_squares features settings x none S5 number breaks in_file at_member = absurd (none x.index breaks.0)
+told_squares features settings x none S6 number breaks in_file at_member = same_finding x (limit_finding Squares) number in_file breaks.1 at_member
 
-told_nothing : (features : Features) (border_tol : ℕ) (x : Finding) → NoneCrowded features border_tol → square_sum features border_tol ≤ 20000000 → (rule : LimitRule) → LimitBreaks rule features border_tol x.index → ⊥
-told_nothing features border_tol x none few S5 breaks = none x.index breaks.0
-told_nothing features border_tol x none few S6 breaks = let many : 20000000 < square_sum features border_tol = breaks.0 in omega arith
+told_nothing : (features : Features) (settings : Settings) (x : Finding) → NoneCrowded features settings → square_sum features settings ≤ 20000000 → (rule : LimitRule) → LimitBreaks rule features settings x.index → ⊥
+told_nothing features settings x none few S5 breaks = none x.index breaks.0
+told_nothing features settings x none few S6 breaks = let many : 20000000 < square_sum features settings = breaks.0 in omega arith
 
 listed_one : {P : Finding → Type 0} (x : Finding) → P x → ((y : Finding) → P y → y ≡ x) → IsReport P (x ∷ [])
 unfolding IsStrictlySortedBy
@@ -193,13 +194,13 @@ listed_none none = record {
   whole = λ y p. absurd (none y p);
 }
 
-pub report : (features : Features) (border_tol : ℕ) (limit : Option Crowding) → Crowds features border_tol limit → IsReport (BreaksLimit features border_tol) (option_to_list (option_map limit_finding limit))
-report features border_tol None crowds = listed_none (λ y b. told_nothing features border_tol y crowds.0 crowds.1 b.rule b.breaks)
-report features border_tol (Some (Members k)) crowds = listed_one (limit_finding (Members k)) (breaks_members features border_tol k crowds) (λ y b. told_members features border_tol k y crowds b.rule b.number b.breaks b.first b.in_file b.at_member)
-report features border_tol (Some Squares) crowds = listed_one (limit_finding Squares) (breaks_squares features border_tol crowds.0 crowds.1) (λ y b. told_squares features border_tol y crowds.0 b.rule b.number b.breaks b.in_file b.at_member)
+pub report : (features : Features) (settings : Settings) (limit : Option Crowding) → Crowds features settings limit → IsReport (BreaksLimit features settings) (option_to_list (option_map limit_finding limit))
+report features settings None crowds = listed_none (λ y b. told_nothing features settings y crowds.0 crowds.1 b.rule b.breaks)
+report features settings (Some (Members k)) crowds = listed_one (limit_finding (Members k)) (breaks_members features settings k crowds) (λ y b. told_members features settings k y crowds b.rule b.number b.breaks b.first b.in_file b.at_member)
+report features settings (Some Squares) crowds = listed_one (limit_finding Squares) (breaks_squares features settings crowds.0 crowds.1) (λ y b. told_squares features settings y crowds.0 b.rule b.number b.breaks b.in_file b.at_member)
 
 pub told_one : (none found : List Finding) (x y : Finding) → none ≡ [] → x ≡ y → found ≡ none ++ x ∷ [] → found ≡ y ∷ []
 told_one none found x y empty is pushed = pushed ∙ ap (λ (xs : List Finding). xs ++ x ∷ []) empty ∙ ap (λ (z : Finding). z ∷ []) is
 
-pub limits_told : (features : Features) (border_tol : ℕ) (x : Finding) → Crowds features border_tol None → ¬ BreaksLimit features border_tol x
-limits_told features border_tol x crowds breaks = told_nothing features border_tol x crowds.0 crowds.1 breaks.rule breaks.breaks
+pub limits_told : (features : Features) (settings : Settings) (x : Finding) → Crowds features settings None → ¬ BreaksLimit features settings x
+limits_told features settings x crowds breaks = told_nothing features settings x crowds.0 crowds.1 breaks.rule breaks.breaks

@@ -20,6 +20,7 @@ use Rattle.venue_types.specs.declared.features.AmenityRow.{AmenityRow}
 use Rattle.venue_types.specs.declared.features.AnchorRow.{AnchorRow}
 use Rattle.venue_types.specs.declared.features.OpeningRow.{OpeningRow}
 use Rattle.venue_types.specs.declared.features.UnitRow.{UnitRow}
+use Rattle.venue_types.specs.declared.settings.Settings.{Settings}
 use Rattle.plane_exact.specs.Opening.{Touches}
 use Rattle.imdf_access.specs.Categories.{is_walkable}
 use Rattle.venue_nodes.specs.TouchCounts.{HasFull, IsTouchedBy, TouchMany, walked_sum}
@@ -28,7 +29,7 @@ use Rattle.venue_nodes.specs.declared.members.Rows.{Rows}
 use Rattle.venue_nodes.specs.Crowds.{Crowds, IsFirstOver, IsOver}
 use Rattle.venue_nodes.specs.Identity.{is_same}
 use Rattle.venue_nodes.specs.Touching.{does_touch}
-use Rattle.venue_nodes.specs.Nodes.{NodeRow, amenity, anchor, opening, unit, node_rows}
+use Rattle.venue_nodes.specs.Nodes.{NodeRow, amenity, anchor, opening, unit, place_node_rows, node_rows}
 use Rattle.venue_nodes.specs.Limits.{IsCrowded, square_sum}
 use Rattle.venue_nodes.specs.Rows.{AreNamedRows, row_list, unit_indexes}
 use Rattle.venue_nodes.specs.Members.{is_member, members, places_where}
@@ -62,12 +63,12 @@ abbrev pub touching : ℕ → UnitRow → OpeningRow → Bool
 touching border_tol u row = does_touch border_tol row u
 
 -- the members of a unit are those in its row without openings, and the openings that touch it
-pub members_counted : (features : Features) (border_tol : ℕ) (u : UnitRow)
-    → length (members features border_tol u) ≡ length (row_in (named_by features [] (map unit_id (filter can_walk features.units))) u.id) + length (places_where (touching border_tol u) 0 features.openings)
-unfolding members node_rows
-members_counted features border_tol u =
+pub members_counted : (features : Features) (settings : Settings) (u : UnitRow)
+    → length (members features settings u) ≡ length (row_in (named_by features [] (map unit_id (filter can_walk features.units))) u.id) + length (places_where (touching settings.border_tol u) 0 features.openings)
+unfolding members node_rows place_node_rows
+members_counted features settings u =
     let t : List FeatureId → Bool = λ ids. names ids u.id in
-    let s : NodeRow → Bool = is_member border_tol u in
+    let s : NodeRow → Bool = is_member settings.border_tol u in
     let ways = filter can_walk features.units in
     let a1 = map (λ (row : AmenityRow). row.units) features.amenities in
     let b1 = map (λ (row : AnchorRow). row.unit ∷ []) features.anchors in
@@ -79,7 +80,7 @@ members_counted features border_tol u =
     let four : length (places_where t 0 d1) ≡ length (places_where s 0 (map unit ways)) =
     ap length (ap (places_where t 0) (map_twice (λ (id : FeatureId). id ∷ []) unit_id ways)
     ∙ places-zip t s 0 (map (λ (row : UnitRow). row.id ∷ []) ways) (map unit ways) (zip_maps t s (λ (row : UnitRow). row.id ∷ []) unit ways (λ r. or_false (is_same r.id u.id)))) in
-    let doors : length (places_where s 0 (map opening features.openings)) ≡ length (places_where (touching border_tol u) 0 features.openings) = ap length (places_map s opening 0 features.openings) in
+    let doors : length (places_where s 0 (map opening features.openings)) ≡ length (places_where (touching settings.border_tol u) 0 features.openings) = ap length (places_map s opening 0 features.openings) in
     let left = four_counts t a1 b1 [] d1 in
     let right = four_counts s (map amenity features.amenities) (map anchor features.anchors) (map opening features.openings) (map unit ways) in
     omega (arith, one, two, four, doors, left, right)
@@ -169,19 +170,19 @@ own_member features k u there walks =
     let all = four_counts t a1 b1 [] d1 in
     omega (arith, one, all)
 
-module _ (features : Features) (border_tol : ℕ) (counts : List ℕ) (rows : Rows) (law : (o : OpeningRow) (u : UnitRow) → IsTrue (does_touch border_tol o u) ↔ Touches border_tol o u)
-    (are : AreNamedRows features [] rows) (many : TouchMany border_tol features.openings features.units counts) where
+module _ (features : Features) (settings : Settings) (counts : List ℕ) (rows : Rows) (law : (o : OpeningRow) (u : UnitRow) → IsTrue (does_touch settings.border_tol o u) ↔ Touches settings.border_tol o u)
+    (are : AreNamedRows features [] rows) (many : TouchMany settings.border_tol features.openings features.units counts) where
   abbrev count_of : UnitRow → ℕ
-  count_of u = length (places_where (touching border_tol u) 0 features.openings)
+  count_of u = length (places_where (touching settings.border_tol u) 0 features.openings)
 
-  whole : (u : UnitRow) → length (members features border_tol u) ≡ others features u + count_of u
-  whole u = members_counted features border_tol u
+  whole : (u : UnitRow) → length (members features settings u) ≡ others features u + count_of u
+  whole u = members_counted features settings u
 
   counted : (k n : ℕ) (u : UnitRow) → slice_get counts k ≡ Some n → slice_get features.units k ≡ Some u → n ≡ count_of u
   counted k n u at there =
       let is = many.are k n at in
       let same : is.unit ≡ u = same_Some is.unit u (sym is.there ∙ there) in
-      touched_count border_tol features.openings u n (λ o. law o u) (subst (λ (v : UnitRow). IsTouchedBy border_tol features.openings v n) same is.touched)
+      touched_count settings.border_tol features.openings u n (λ o. law o u) (subst (λ (v : UnitRow). IsTouchedBy settings.border_tol features.openings v n) same is.touched)
 
   counted_at : (k : ℕ) (u : UnitRow) → k < length counts → slice_get features.units k ≡ Some u → slice_index_or counts k 0 ≡ count_of u
   counted_at k u within there = counted k (slice_index_or counts k 0) u (slice_get-get_or counts k 0 within) there
@@ -258,7 +259,7 @@ module _ (features : Features) (border_tol : ℕ) (counts : List ℕ) (rows : Ro
     pub row : HasRow j
     pub upto : j ≤ k
 
-  crowded_row : (k : ℕ) → IsCrowded features border_tol k → HasRowUpTo k
+  crowded_row : (k : ℕ) → IsCrowded features settings k → HasRowUpTo k
   crowded_row k crowd = elim (cases_lt k (length counts)) [
     | inl within ↦
         let is = counted_at k crowd.unit within crowd.there in
@@ -276,7 +277,7 @@ module _ (features : Features) (border_tol : ℕ) (counts : List ℕ) (rows : Ro
     ]
   ]
 
-  pub members_crowd : (k : ℕ) → IsFirstOver rows counts k → Crowds features border_tol (Some (Members k))
+  pub members_crowd : (k : ℕ) → IsFirstOver rows counts k → Crowds features settings (Some (Members k))
   members_crowd k first =
       let of = unit_of first.w k first.is in
       let all = whole of.unit in
@@ -290,13 +291,13 @@ module _ (features : Features) (border_tol : ℕ) (counts : List ℕ) (rows : Ro
             first.before up.row.w up.j (lesser_number (places_where can_walk 0 features.units) up.row.w first.w up.j k (places_rise can_walk 0 features.units) up.row.placed of.placed least) up.row.is,
       )
 
-  pub squares_crowd : ((w k : ℕ) → ¬ IsOver rows counts w k) → Crowds features border_tol (Some Squares)
+  pub squares_crowd : ((w k : ℕ) → ¬ IsOver rows counts w k) → Crowds features settings (Some Squares)
   squares_crowd none = (
     λ k crowd. let up = crowded_row k crowd in none up.row.w up.j up.row.is,
     elim many.many [
       | inl full ↦ let row = full_row full in absurd (none row.w full.k row.is)
       | inr rest ↦
-          let less = walked_less (λ (u : UnitRow). length (members features border_tol u)) features.units counts
+          let less = walked_less (λ (u : UnitRow). length (members features settings u)) features.units counts
           (λ k n u at there. let is = counted k n u at there in let all = whole u in omega (arith, is, all)) in
           let sum = rest.1 in
           omega (arith, less, sum)

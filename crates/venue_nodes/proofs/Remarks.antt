@@ -22,10 +22,11 @@ use Rattle.rule_reports.proofs.Adding.{Below, Adds-step, Adds-end, Adds-found, A
 use Rattle.venue_nodes.specs.declared.notes.PlaceNote.{PlaceNote}
 use Rattle.venue_nodes.specs.declared.notes.PlaceNote.TheVariants.{N3, N4}
 use Rattle.venue_nodes.specs.declared.nodes.Nodes.{Nodes}
+use Rattle.venue_nodes.specs.Nodes.{place_of}
 use Rattle.venue_nodes.specs.Noting.{place_note, LacksNode, LackNodes, LeavesElement, LeaveElements, IsEmptyRow, AreEmpty}
 use Rattle.imdf_schema.specs.Rules.{note_number}
 use Rattle.venue_nodes.specs.Unplaced.{Element, element_at, one_or_none, elements, note_of, file_noted, PlaceNotes, IsUnplaced}
-use Rattle.venue_nodes.specs.Views.{AreNodes, find_place}
+use Rattle.venue_nodes.specs.Views.{find_place}
 use Rattle.venue_nodes.proofs.Spread.{from_map}
 use Rattle.venue_nodes.proofs.Judged.{Contains-map}
 
@@ -235,7 +236,7 @@ leads_empty features border_tol touches x are number in_file h =
       };
     }
 
-pub all_added : (features : Features) (border_tol : ℕ) (touches : Touches) (nodes : Nodes) (a b c : List Note) → AreNodes features nodes → AreTouches border_tol features touches
+pub all_added : (features : Features) (border_tol : ℕ) (touches : Touches) (nodes : Nodes) (a b c : List Note) → ((id : FeatureId) → find_place nodes id ≡ place_of features id) → AreTouches border_tol features touches
     → Adds (LeaveElements (find_place nodes) features.relationships) a b → Adds (AreEmpty touches.rows) b c → Adds (IsUnplaced features border_tol) a c
 all_added features border_tol touches nodes a b c are touch one two = Adds-then (IsUnplaced features border_tol) one two
     (λ x h. let at : x.index ≡ h.index = ap (λ (n : Note). n.index) h.leaves.is in
@@ -249,7 +250,7 @@ all_added features border_tol touches nodes a b c are touch one two = Adds-then 
         passage = h.leaves.passage;
         element = h.leaves.element;
         has = h.leaves.has;
-        nowhere = sym (are.place h.leaves.element.reference.id) ∙ h.leaves.nowhere;
+        nowhere = sym (are h.leaves.element.reference.id) ∙ h.leaves.nowhere;
         at_member = ap (λ (n : Note). n.member) h.leaves.is;
       };
     })
@@ -260,6 +261,6 @@ all_added features border_tol touches nodes a b c are touch one two = Adds-then 
         index = x.index;
         row = h.relationship;
         there = h.there;
-        leaves = record { passage = h.passage; element = h.element; has = h.has; nowhere = are.place h.element.reference.id ∙ h.nowhere; is = note_is x N3 number in_file h.element.member h.at_member };
+        leaves = record { passage = h.passage; element = h.element; has = h.has; nowhere = are h.element.reference.id ∙ h.nowhere; is = note_is x N3 number in_file h.element.member h.at_member };
       })
       parted x N4 number in_file h = inr (leads_empty features border_tol touches x touch number in_file h)

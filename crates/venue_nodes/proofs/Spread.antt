@@ -14,12 +14,13 @@ use Rattle.venue_types.specs.declared.point.Point.{Point}
 use Rattle.venue_types.specs.declared.point.Ring.{Ring}
 use Rattle.venue_types.specs.declared.point.Spot.{Spot}
 use Rattle.venue_types.specs.declared.folder_file.File.TheVariants as file
+use Rattle.venue_types.specs.declared.settings.Settings.{Settings}
 use Rattle.imdf_access.specs.Categories.{is_walkable}
 use Rattle.plane_exact.specs.Plane.{IsWithin, IsCloseDoubled}
 use Rattle.plane_exact.specs.Figure.{AllClose, vertices, rings}
 use Rattle.feature_rows.specs.Figures.{judged_positions, display_of}
 use Rattle.feature_rows.specs.Sound.{AreSound, IsSoundShape, IsSoundRing}
-use Rattle.venue_nodes.specs.Nodes.{NodeRow, amenity, anchor, opening, unit, node_of_row, node_rows, nodes, walkable_units, middle, last_point, line_middle, box_middle, unit_spot}
+use Rattle.venue_nodes.specs.Nodes.{NodeRow, amenity, anchor, opening, unit, node_of_row, place_node_rows, node_rows, nodes, walkable_units, middle, last_point, line_middle, box_middle, unit_spot}
 use Rattle.venue_nodes.proofs.Judged.{Contains-map, amenity_point, anchor_point, opening_point, unit_vertex, unit_display}
 
 -- a spot's coordinates are sums of those of such points
@@ -131,8 +132,8 @@ unit_summed features row (Some p) sound own e =
     let judged = unit_display features row p own shown in
     rw e (middle_summed (judged_positions features) p p judged judged)
 
-row_summed : (features : Features) (row : NodeRow) → AreSound features → Contains (node_rows features) row → IsSummed (judged_positions features) (node_of_row row).spot
-unfolding node_rows
+row_summed : (features : Features) (row : NodeRow) → AreSound features → Contains (place_node_rows features) row → IsSummed (judged_positions features) (node_of_row row).spot
+unfolding place_node_rows
 row_summed features row sound h = elim (Contains-append_cases (map amenity features.amenities ++ map anchor features.anchors ++ map opening features.openings) (map unit (walkable_units features)) row h) [
   | inl front ↦ elim (Contains-append_cases (map amenity features.amenities ++ map anchor features.anchors) (map opening features.openings) row front) [
     | inl points ↦ elim (Contains-append_cases (map amenity features.amenities) (map anchor features.anchors) row points) [
@@ -156,11 +157,11 @@ row_summed features row sound h = elim (Contains-append_cases (map amenity featu
       subst (λ (r : NodeRow). IsSummed (judged_positions features) (node_of_row r).spot) at.2 (unit_summed features at.0 at.0.display sound own refl)
 ]
 
-node_summed : (features : Features) (node : Node) → AreSound features → Contains (nodes features) node → IsSummed (judged_positions features) node.spot
-unfolding nodes
-node_summed features node sound h =
-    let at = from_map node_of_row (node_rows features) node h in
+node_summed : (features : Features) (settings : Settings) (node : Node) → AreSound features → Contains (nodes features settings) node → IsSummed (judged_positions features) node.spot
+unfolding nodes node_rows
+node_summed features settings node sound h =
+    let at = from_map node_of_row (place_node_rows features) node h in
     subst (λ (n : Node). IsSummed (judged_positions features) n.spot) at.2 (row_summed features at.0 sound at.1)
 
-pub nodes_close : (features : Features) (a b : Node) → AreSound features → AllClose (judged_positions features) → Contains (nodes features) a → Contains (nodes features) b → IsCloseDoubled a.spot b.spot
-nodes_close features a b sound close h k = close_sums (judged_positions features) a.spot b.spot close (node_summed features a sound h) (node_summed features b sound k)
+pub nodes_close : (features : Features) (settings : Settings) (a b : Node) → AreSound features → AllClose (judged_positions features) → Contains (nodes features settings) a → Contains (nodes features settings) b → IsCloseDoubled a.spot b.spot
+nodes_close features settings a b sound close h k = close_sums (judged_positions features) a.spot b.spot close (node_summed features settings a sound h) (node_summed features settings b sound k)

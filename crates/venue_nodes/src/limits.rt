@@ -3,6 +3,7 @@
 ghost use Rattle.std.specs.Prelude.{◌≡◌, ◌≢◌, ◌↔◌, ◌+◌, ◌<◌, ◌≤◌, ◌*◌, ℕ, List, [], All, IfOk, IsTrue, MatchOption, Some, None, slice_index_or, sum_by, length};
 ghost use Rattle.venue_types.specs.declared.features.Features.{Features};
 ghost use Rattle.venue_types.specs.declared.finding.Finding.{Finding};
+ghost use Rattle.venue_types.specs.declared.settings.Settings.{Settings};
 ghost use Rattle.feature_rows.specs.Rows.{HaveOwnIds};
 ghost use Rattle.feature_rows.specs.Sound.{AreSound};
 ghost use Rattle.rule_reports.specs.Reports.{IsReport};
@@ -51,7 +52,7 @@ impl Crowding {
 
 /// The limit that the rows pass first, if they pass one.
 pub fn first_crowding(rows: &Rows) -> Option<Crowding>
-    ensures { (features : Features) (border_tol : ℕ) → AreRowsOf features border_tol rows.now → Crowds features border_tol result }
+    ensures { (features : Features) (settings : Settings) → AreRowsOf features settings rows.now → Crowds features settings result }
 {
     match crowded(rows) {
         Some(w) => Some(Crowding::Members(rows.unit_index(w))),
@@ -68,7 +69,7 @@ pub fn crowding_by(
 ) -> Result<Crowding, OutOfMemory>
     requires sound { AreSound features.now }
     requires own_ids { HaveOwnIds features.now }
-    ensures { IfOk result (λ crowding. (border_tol : ℕ) → TouchMany border_tol features.now.openings features.now.units counts.now → Crowds features.now border_tol (Some crowding)) }
+    ensures { IfOk result (λ crowding. (settings : Settings) → TouchMany settings.border_tol features.now.openings features.now.units counts.now → Crowds features.now settings (Some crowding)) }
 {
     once_law();
     touch_law();
@@ -113,7 +114,7 @@ fn is_over(others: usize, openings: usize) -> bool
 /// What is found where a limit is passed.
 pub fn limit_findings(alloc: Global, crowding: Crowding) -> Result<List<Finding>, OutOfMemory>
     ensures some { IfOk result (λ findings. findings ≢ []) }
-    ensures all { IfOk result (λ findings. (features : Features) (border_tol : ℕ) → Crowds features border_tol (Some crowding) → IsReport (BreaksLimit features border_tol) findings) }
+    ensures all { IfOk result (λ findings. (features : Features) (settings : Settings) → Crowds features settings (Some crowding) → IsReport (BreaksLimit features settings) findings) }
 {
     let mut findings = List::new(alloc);
     findings.push(crowding.finding())?;
@@ -122,7 +123,7 @@ pub fn limit_findings(alloc: Global, crowding: Crowding) -> Result<List<Finding>
 
 /// Where no limit is passed, none is told.
 pub fn limit_law()
-    ensures { (features : Features) (border_tol : ℕ) (x : Finding) → Crowds features border_tol None → ¬ BreaksLimit features border_tol x }
+    ensures { (features : Features) (settings : Settings) (x : Finding) → Crowds features settings None → ¬ BreaksLimit features settings x }
 {}
 
 // The first row of too many members.

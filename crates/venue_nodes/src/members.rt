@@ -52,7 +52,7 @@ impl Rows {
         requires sound { AreSound features.now }
         requires own_ids { HaveOwnIds features.now }
         requires touches { AreTouches settings.now.border_tol features.now touches.now }
-        ensures { IfOk result (AreRowsOf features.now settings.now.border_tol) }
+        ensures { IfOk result (AreRowsOf features.now settings.now) }
     {
         once_law();
         touch_law();

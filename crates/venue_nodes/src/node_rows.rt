@@ -3,7 +3,7 @@
 ghost use Rattle.std.specs.Prelude.{◌≡◌, ◌++◌, All, OnOk, IfOk, map, filter};
 ghost use Rattle.venue_types.specs.declared.features.UnitRow.{UnitRow as AUnit};
 ghost use Rattle.imdf_access.specs.Categories.{is_walkable};
-ghost use Rattle.venue_nodes.specs.Nodes.{NodeRow, unit as of_unit, node_of_row, nodes};
+ghost use Rattle.venue_nodes.specs.Nodes.{NodeRow, unit as of_unit, node_of_row, place_nodes};
 ghost use Rattle.venue_nodes.specs.Bounds.{IsPlaced};
 ghost use Rattle.venue_nodes.specs.Making.{CanPlace};
 
@@ -103,10 +103,10 @@ fn add_unit_nodes(nodes: &mut Vec<Node>, units: &[UnitRow]) -> Result<(), OutOfM
     Ok(())
 }
 
-/// The nodes of the features, in their order.
+/// The nodes of the places, in their order.
 pub(crate) fn nodes_of(alloc: Global, features: &Features) -> Result<Vec<Node>, OutOfMemory>
     requires { CanPlace features.now }
-    ensures { IfOk result (λ made. made.items ≡ nodes features.now) }
+    ensures { IfOk result (λ made. made.items ≡ place_nodes features.now) }
 {
     let mut made = Vec::new(alloc);
     add_nodes(&mut made, features.amenities.as_slice())?;

@@ -8,7 +8,7 @@ use crate::ids::{anchors_of, closables_of, ids_of};
 use crate::node_rows::nodes_of;
 use crate::numbers::Numbers;
 use std::alloc::Global;
-use venue_types::{FeatureId, Features, Node, OutOfMemory};
+use venue_types::{FeatureId, Features, Node, OutOfMemory, Settings};
 
 /// Nodes and what can be closed, each by its number, from 0, and by its identifier.
 #[derive(Drop)]
@@ -20,7 +20,7 @@ pub struct Nodes {
     anchors: Vec<FeatureId>,
     closable_ids: Vec<FeatureId>,
     closable_numbers: Numbers,
-    ghost few_nodes: { length list.items ≤ 400000 },
+    ghost few_nodes: { length list.items ≤ 1100000 },
     ghost few_closables: { length closable_ids.items ≤ 400000 },
 }
 
@@ -29,17 +29,21 @@ impl Nodes {
     ghost use Rattle.venue_nodes.specs.Views.{AreNodes, node_list, find_place, closable_list, find_closable};
 
     /// Of the features of a folder. Takes n log n time, and some 100 bytes a feature.
-    pub fn of(alloc: Global, features: &Features) -> Result<Nodes, OutOfMemory>
+    pub fn of(alloc: Global, features: &Features, settings: &Settings) -> Result<Nodes, OutOfMemory>
         requires { AreSound features.now }
-        ensures { IfOk result (AreNodes features.now) }
+        ensures { IfOk result (AreNodes features.now settings.now) }
     {
-        Nodes::placed(alloc, features)
+        Nodes::placed(alloc, features, settings)
     }
 
     /// The same, of rows of which only that is known that it takes.
-    pub(crate) fn placed(alloc: Global, features: &Features) -> Result<Nodes, OutOfMemory>
+    pub(crate) fn placed(
+        alloc: Global,
+        features: &Features,
+        settings: &Settings,
+    ) -> Result<Nodes, OutOfMemory>
         requires { CanPlace features.now }
-        ensures { IfOk result (AreNodes features.now) }
+        ensures { IfOk result (AreNodes features.now settings.now) }
     {
         let list = nodes_of(alloc, features)?;
         let numbers = Numbers::of(alloc, &ids_of(alloc, &list)?)?;
@@ -61,7 +65,7 @@ impl Nodes {
     #[tactic(auto, unfolding(crate::specs::Views::node_list))]
     pub fn len(&self) -> u32
         ensures number { result ≡ length (node_list self.now) }
-        ensures few { result ≤ 400000 }
+        ensures few { result ≤ 1100000 }
     {
         self.list.len() as u32
     }

@@ -2,13 +2,15 @@
 
 ghost use Rattle.std.specs.Prelude.{◌≡◌, ◌↔◌, ℕ, ◌≤◌, IsTrue, IsSome, OnOk, All, length};
 ghost use mathlib.Core.List.{IsPrefix};
+ghost use Rattle.venue_types.specs.declared.feature_id.FeatureId.{FeatureId};
 ghost use Rattle.venue_types.specs.declared.features.RelationshipRow.{RelationshipRow as ARelationship};
 ghost use Rattle.feature_rows.specs.Sound.{AreSound, element_count};
 ghost use Rattle.plane_exact.specs.Opening.{AreTouches};
 ghost use Rattle.rule_reports.specs.Passes.{Adds};
+ghost use Rattle.venue_nodes.specs.Nodes.{place_of};
 ghost use Rattle.venue_nodes.specs.Noting.{place_note, LackNodes, LeavesElement, LeaveElements, AreEmpty};
 ghost use Rattle.venue_nodes.specs.Unplaced.{one_or_none, IsUnplaced};
-ghost use Rattle.venue_nodes.specs.Views.{AreNodes, find_place};
+ghost use Rattle.venue_nodes.specs.Views.{find_place};
 
 use crate::nodes::Nodes;
 use crate::notes::PlaceNote;
@@ -133,7 +135,7 @@ pub fn place_notes(
     notes: &mut Vec<Note>,
 ) -> Result<(), OutOfMemory>
     requires sound { AreSound features.now }
-    requires places { AreNodes features.now nodes.now }
+    requires places { (id : FeatureId) → find_place nodes.now id ≡ place_of features.now id }
     requires rows { length touches.now.rows ≡ length features.now.openings }
     ensures adds { (border_tol : ℕ) → AreTouches border_tol features.now touches.now → OnOk result (Adds (IsUnplaced features.now border_tol) notes.old.items notes.new.items) }
     ensures begins { IsPrefix notes.old.items notes.new.items }

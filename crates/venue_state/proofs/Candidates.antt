@@ -11,8 +11,9 @@ use Rattle.venue_types.specs.declared.features.AnchorRow.{AnchorRow}
 use Rattle.venue_types.specs.declared.features.Features.{Features}
 use Rattle.venue_types.specs.declared.features.OpeningRow.{OpeningRow}
 use Rattle.venue_types.specs.declared.features.UnitRow.{UnitRow}
+use Rattle.venue_types.specs.declared.settings.Settings.{Settings}
 use Rattle.venue_types.proofs.Items.{Contains-nil, Contains-only, Contains-first, IsStrictlyIncreasing-push, at_map}
-use Rattle.venue_history.specs.Nodes.{NodeRow, amenity, anchor, opening, unit, node_of_row, node_rows, nodes, walkable_units}
+use Rattle.venue_history.specs.Nodes.{NodeRow, amenity, anchor, opening, unit, node_of_row, place_node_rows, node_rows, nodes, walkable_units}
 use Rattle.venue_history.specs.Nearest.{AreCandidates, IsCandidate}
 use Rattle.venue_state.specs.Nearing.{AreCandidatesTo}
 
@@ -57,8 +58,8 @@ in_all row [] rest n e = absurd (cc)
 in_all row (r ∷ rows) rest zero e = e
 in_all row (r ∷ rows) rest (suc n) e = in_all row rows rest n e
 
-node_low : (features : Features) (row : AmenityRow) (n : ℕ) → slice_get (node_rows features) n ≡ Some (amenity row) → n < length features.amenities
-unfolding node_rows
+node_low : (features : Features) (row : AmenityRow) (n : ℕ) → slice_get (place_node_rows features) n ≡ Some (amenity row) → n < length features.amenities
+unfolding place_node_rows
 node_low features row n e =
     let ams = map amenity features.amenities in
     let bs = map anchor features.anchors in
@@ -69,8 +70,8 @@ node_low features row n e =
     let low : n < length ams = slice_get_within ams n (amenity row) here in
     omega (arith, low, length-map features.amenities amenity)
 
-node_there : (features : Features) (n : ℕ) (row : AmenityRow) → slice_get features.amenities n ≡ Some row → slice_get (node_rows features) n ≡ Some (amenity row)
-unfolding node_rows
+node_there : (features : Features) (n : ℕ) (row : AmenityRow) → slice_get features.amenities n ≡ Some row → slice_get (place_node_rows features) n ≡ Some (amenity row)
+unfolding place_node_rows
 node_there features n row e =
     let ams = map amenity features.amenities in
     let bs = map anchor features.anchors in
@@ -142,23 +143,23 @@ whole features category count found all are = record {
   );
 }
 
-nodes_many : (features : Features) → length (nodes features) ≡ length (node_rows features)
-unfolding nodes
-nodes_many features = length-map (node_rows features) node_of_row
+nodes_many : (features : Features) (settings : Settings) → length (nodes features settings) ≡ length (place_node_rows features)
+unfolding nodes node_rows
+nodes_many features settings = length-map (place_node_rows features) node_of_row
 
 -- amenities are no more than nodes
-pub few_amenities : (features : Features) → length features.amenities ≤ length (nodes features)
-unfolding nodes node_rows
-few_amenities features =
+pub few_amenities : (features : Features) (settings : Settings) → length features.amenities ≤ length (nodes features settings)
+unfolding nodes node_rows place_node_rows
+few_amenities features settings =
     let ams = map amenity features.amenities in
     let bs = map anchor features.anchors in
     let os = map opening features.openings in
     let us = map unit (walkable_units features) in
     omega (arith, length-map (ams ++ bs ++ os ++ us) node_of_row, length-append (ams ++ bs ++ os) us, length-append (ams ++ bs) os, length-append ams bs, length-map features.amenities amenity)
 
-pub within : (features : Features) (category candidates : List ℕ) → AreCandidates features category candidates → All (λ (n : ℕ). n < length (nodes features)) candidates
-within features category candidates are k d inside =
+pub within : (features : Features) (settings : Settings) (category candidates : List ℕ) → AreCandidates features category candidates → All (λ (n : ℕ). n < length (nodes features settings)) candidates
+within features settings category candidates are k d inside =
     let n = get_or candidates k d in
     let is = (are.exact n).0 (k, inside, get_or_default candidates k n d inside) in
-    let low : n < length (node_rows features) = slice_get_within (node_rows features) n (amenity is.0) is.1 in
-    omega (arith, low, nodes_many features)
+    let low : n < length (place_node_rows features) = slice_get_within (place_node_rows features) n (amenity is.0) is.1 in
+    omega (arith, low, nodes_many features settings)

@@ -10,16 +10,16 @@ use Rattle.route_search.specs.Nodes.{nodes, closables}
 use Rattle.venue_history.specs.Closed.{Version}
 use Rattle.venue_history.specs.Ways.{no_name, name_of, way_name}
 
-pub named : (v : Version) (list : List Node) (n : ℕ) (node : Node) → list ≡ nodes v.features → slice_get list n ≡ Some node → node.id ≡ name_of v n
+pub named : (v : Version) (list : List Node) (n : ℕ) (node : Node) → list ≡ nodes v.features v.settings → slice_get list n ≡ Some node → node.id ≡ name_of v n
 unfolding name_of
 named v list n node same at =
-    let there : slice_get (nodes v.features) n ≡ Some node = subst (λ (ns : List Node). slice_get ns n ≡ Some node) same at in
+    let there : slice_get (nodes v.features v.settings) n ≡ Some node = subst (λ (ns : List Node). slice_get ns n ≡ Some node) same at in
     rw (there, name_of) refl
 
-pub nameless : (v : Version) (list : List Node) (n : ℕ) → list ≡ nodes v.features → length list ≤ n → no_name ≡ name_of v n
+pub nameless : (v : Version) (list : List Node) (n : ℕ) → list ≡ nodes v.features v.settings → length list ≤ n → no_name ≡ name_of v n
 unfolding name_of
 nameless v list n same past =
-    let none : slice_get (nodes v.features) n ≡ None = subst (λ (ns : List Node). slice_get ns n ≡ None) same (slice_get_past list n past) in
+    let none : slice_get (nodes v.features v.settings) n ≡ None = subst (λ (ns : List Node). slice_get ns n ≡ None) same (slice_get_past list n past) in
     rw (none, name_of) refl
 
 pub way_named : (v : Version) (ids : List FeatureId) (k : ℕ) (id : FeatureId) → ids ≡ closables v.features → slice_get ids k ≡ Some id → id ≡ way_name v k

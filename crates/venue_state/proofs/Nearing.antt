@@ -72,7 +72,7 @@ told_rows v (row ∷ rows) = ap (λ (told : List NearRow). told_row v row ∷ to
 -- what is told of the nearest is right
 pub near_answers : (v : Version) (asked : Nearest) (number : ℕ) (profile : Profile) (a : ℕ) (candidates : List ℕ) (near : Near) (it : NearTold)
     → IsNearTrip v asked number profile a → AreCandidates v.features asked.category candidates
-    → IsNear (Usable v number profile) (length (nodes v.features)) a candidates asked.limit near → TellsNear v asked a near it
+    → IsNear (Usable v number profile) (length (nodes v.features v.settings)) a candidates asked.limit near → TellsNear v asked a near it
     → AnswersAsk v (ask.Nearest asked) (reply.Nearest it)
 near_answers v asked number profile a candidates near it trip are is told = (
   told.numbered,

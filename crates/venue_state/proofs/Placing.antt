@@ -12,9 +12,10 @@ use Rattle.venue_types.specs.declared.features.OpeningRow.{OpeningRow}
 use Rattle.venue_types.specs.declared.features.UnitRow.{UnitRow}
 use Rattle.venue_types.specs.declared.link.Node.{Node}
 use Rattle.venue_types.specs.declared.reply.PlaceRow.{PlaceRow}
+use Rattle.venue_types.specs.declared.settings.Settings.{Settings}
 use Rattle.venue_history.specs.Laws.{OccupantsHaveAnchors}
 use Rattle.route_search.specs.Identity.{is_same}
-use Rattle.route_search.specs.Nodes.{nodes, node_rows, node_number, place_of, walkable_units}
+use Rattle.route_search.specs.Nodes.{place_nodes, place_node_rows, nodes, node_number, place_of, walkable_units}
 use Rattle.route_search.proofs.Identifiers.{id_same}
 use Rattle.route_search.proofs.Finding.{position_within}
 use Rattle.route_search.proofs.Placed.{place_within}
@@ -150,9 +151,9 @@ any_places : (features : Features) (id : FeatureId) → list_any (λ (row : Plac
 unfolding places amenities anchors occupants openings units
 any_places features id = simp (list_any-append, any_map)
 
-any_nodes : (features : Features) (id : FeatureId) → list_any (λ (node : Node). is_same node.id id) (nodes features)
+any_nodes : (features : Features) (id : FeatureId) → list_any (λ (node : Node). is_same node.id id) (place_nodes features)
     ≡ (((amenities features id || anchors features id) || openings features id) || units features id)
-unfolding nodes node_rows amenities anchors openings units
+unfolding place_nodes place_node_rows amenities anchors openings units
 any_nodes features id = simp (list_any-append, any_map)
 
 or_parts : (a h o p u : Bool) → ((((a || h) || o) || p) || u) ≡ false → (o ≡ false) × ((((a || h) || p) || u) ≡ false)
@@ -178,12 +179,12 @@ unfolding place_number place_of occupants
 no_place features id e =
     let parts = or_parts (amenities features id) (anchors features id) (occupants features id) (openings features id) (units features id) (sym (any_places features id) ∙ none_passes (λ (row : PlaceRow). is_same row.id id) 0 (places features) e) in
     let none : find (λ (row : OccupantRow). is_same row.id id) features.occupants ≡ None = found_none (λ (row : OccupantRow). is_same row.id id) features.occupants parts.0 in
-    let number : node_number features id ≡ None = no_position (λ (node : Node). is_same node.id id) 0 (nodes features) (any_nodes features id ∙ parts.1) in
+    let number : node_number features id ≡ None = no_position (λ (node : Node). is_same node.id id) 0 (place_nodes features) (any_nodes features id ∙ parts.1) in
     rw (none, place_of) number
 
 some_node : (features : Features) (id : FeatureId) → (((amenities features id || anchors features id) || openings features id) || units features id) ≡ true
     → (n : ℕ) × (node_number features id ≡ Some n)
-some_node features id e = some_position (λ (node : Node). is_same node.id id) (nodes features) (node_number features id) refl (any_nodes features id ∙ e)
+some_node features id e = some_position (λ (node : Node). is_same node.id id) (place_nodes features) (node_number features id) refl (any_nodes features id ∙ e)
 
 anchored : (features : Features) (occupant : OccupantRow) → OccupantsHaveAnchors features → Contains features.occupants occupant
     → (n : ℕ) × (node_number features occupant.anchor ≡ Some n)
@@ -218,9 +219,9 @@ placed features id k have e =
           (node.0, by_itself features id node.0 (found_none (λ (row : OccupantRow). is_same row.id id) features.occupants none) node.1)
     ]
 
-pub some_within : (features : Features) (id : FeatureId) (o : Option ℕ) → o ≡ place_of features id → IfSome o (λ n. n < length (nodes features))
-some_within features id None e = tt
-some_within features id (Some n) e = place_within features id n (sym e)
+pub some_within : (features : Features) (settings : Settings) (id : FeatureId) (o : Option ℕ) → o ≡ place_of features id → IfSome o (λ n. n < length (nodes features settings))
+some_within features settings id None e = tt
+some_within features settings id (Some n) e = place_within features settings id n (sym e)
 
 pub place_short : (features : Features) (id : FeatureId) (k : ℕ) → place_number features id ≡ Some k → k < length (places features)
 unfolding place_number

@@ -43,7 +43,7 @@ impl Board {
         a: u32,
     ) -> Result<Reply, OutOfMemory>
         requires trip { IsNearTrip self.now asked.now traveller.now.number traveller.now.profile.now a }
-        requires a_node { a < length (nodes self.now.features) }
+        requires a_node { a < length (nodes self.now.features self.now.settings) }
         requires number { traveller.now.number < 16 }
         ensures { IfOk result (AnswersAsk self.now (ask.Nearest asked.now)) }
     {
@@ -57,7 +57,7 @@ impl Board {
     // The nodes of the amenities of a category, in one pass over the amenities, which are the first nodes.
     fn candidates(&self, alloc: Global, category: &Text) -> Result<List<u32>, OutOfMemory>
         ensures are { IfOk result (AreCandidates self.now.features category.now) }
-        ensures within { IfOk result (All (λ n. n < length (nodes self.now.features))) }
+        ensures within { IfOk result (All (λ n. n < length (nodes self.now.features self.now.settings))) }
     {
         let _ = self.graph().nodes();
         let mut found = List::new(alloc);
@@ -150,13 +150,13 @@ fn searched<L: Ledger>(
     requires name { blank.name ≡ L.name }
     requires parts { blank.parts ≡ L.parts }
     requires some { 0 < L.parts }
-    requires a_node { a < length (nodes board.now.features) }
+    requires a_node { a < length (nodes board.now.features board.now.settings) }
     requires number { traveller.now.number < 16 }
     requires rising { IsStrictlyIncreasing candidates.now }
-    requires candidate_nodes { All (λ n. n < length (nodes board.now.features)) candidates.now }
+    requires candidate_nodes { All (λ n. n < length (nodes board.now.features board.now.settings)) candidates.now }
     requires one { 1 ≤ limit }
     requires few { limit ≤ 10 }
-    ensures { IfOk result (IsNear (Usable board.now traveller.now.number traveller.now.profile.now) (length (nodes board.now.features)) a candidates.now limit) }
+    ensures { IfOk result (IsNear (Usable board.now traveller.now.number traveller.now.profile.now) (length (nodes board.now.features board.now.settings)) a candidates.now limit) }
 {
     passable_law();
     let mut steps = Steps::<L>::begin(blank);

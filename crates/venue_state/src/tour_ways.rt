@@ -34,9 +34,9 @@ impl Board {
         stops: &[u32],
         b: u32,
     ) -> Result<List<List<Option<Way>>>, OutOfMemory>
-        requires a_node { a < length (nodes self.now.features) }
-        requires b_node { b < length (nodes self.now.features) }
-        requires stop_nodes { All (λ n. n < length (nodes self.now.features)) stops.now }
+        requires a_node { a < length (nodes self.now.features self.now.settings) }
+        requires b_node { b < length (nodes self.now.features self.now.settings) }
+        requires stop_nodes { All (λ n. n < length (nodes self.now.features self.now.settings)) stops.now }
         requires few { length stops.now ≤ 8 }
         requires number { traveller.now.number < 16 }
         ensures { IfOk result (IsTable (Usable self.now traveller.now.number traveller.now.profile.now) a stops.now b) }
@@ -61,8 +61,8 @@ impl Board {
         from: u32,
         to: &[u32],
     ) -> Result<List<Option<Way>>, OutOfMemory>
-        requires from { from < length (nodes self.now.features) }
-        requires to_nodes { All (λ n. n < length (nodes self.now.features)) to.now }
+        requires from { from < length (nodes self.now.features self.now.settings) }
+        requires to_nodes { All (λ n. n < length (nodes self.now.features self.now.settings)) to.now }
         requires few { length to.now ≤ 9 }
         requires number { traveller.now.number < 16 }
         ensures { IfOk result (IsRow (IsWay (Usable self.now traveller.now.number traveller.now.profile.now) from) to.now) }
@@ -87,7 +87,7 @@ fn searched<L: Ledger>(
     requires name { blank.name ≡ L.name }
     requires parts { blank.parts ≡ L.parts }
     requires some { 0 < L.parts }
-    requires from { from < length (nodes board.now.features) }
+    requires from { from < length (nodes board.now.features board.now.settings) }
     requires number { traveller.now.number < 16 }
     ensures { IfOk result (IsSearched board.now traveller.now.number traveller.now.profile.now from flags.now count) }
 {

@@ -66,9 +66,9 @@ impl Board {
         b: u32,
     ) -> Result<Reply, OutOfMemory>
         requires trip { IsTourTrip self.now asked.now traveller.now.number traveller.now.profile.now a stops.now b }
-        requires a_node { a < length (nodes self.now.features) }
-        requires b_node { b < length (nodes self.now.features) }
-        requires stop_nodes { All (λ n. n < length (nodes self.now.features)) stops.now }
+        requires a_node { a < length (nodes self.now.features self.now.settings) }
+        requires b_node { b < length (nodes self.now.features self.now.settings) }
+        requires stop_nodes { All (λ n. n < length (nodes self.now.features self.now.settings)) stops.now }
         requires number { traveller.now.number < 16 }
         ensures { IfOk result (AnswersAsk self.now (ask.Tour asked.now)) }
     {

@@ -53,7 +53,7 @@ impl Board {
     /// The node at which a place is.
     pub(crate) fn node_of(&self, id: FeatureId) -> Option<u32>
         ensures node { result ≡ place_of self.now.features id }
-        ensures within { IfSome result (λ n. n < length (nodes self.now.features)) }
+        ensures within { IfSome result (λ n. n < length (nodes self.now.features self.now.settings)) }
     {
         self.graph().node_of(id)
     }
@@ -97,11 +97,11 @@ impl Board {
         a: u32,
         b: u32,
     ) -> Result<Found, OutOfMemory>
-        requires a_node { a < length (nodes self.now.features) }
-        requires b_node { b < length (nodes self.now.features) }
+        requires a_node { a < length (nodes self.now.features self.now.settings) }
+        requires b_node { b < length (nodes self.now.features self.now.settings) }
         requires number { traveller.now.number < 16 }
         ensures answer { IfOk result (IsAnswer (Usable self.now traveller.now.number traveller.now.profile.now) a b) }
-        ensures small { IfOk result (IsSmall (length (nodes self.now.features))) }
+        ensures small { IfOk result (IsSmall (length (nodes self.now.features self.now.settings))) }
     {
         searched::<Brand>(alloc, Blank::new(1), self, traveller, a, b)
     }
@@ -116,7 +116,7 @@ impl Board {
         found: Found,
     ) -> Result<Reply, OutOfMemory>
         ensures { IfOk result (λ reply. (number : ℕ) (profile : AProfile) (b : ℕ) → IsTrip self.now trip.from trip.to trip.profile number profile a b
-            → IsAnswer (Usable self.now number profile) a b found → IsSmall (length (nodes self.now.features)) found → AnswersAsk self.now (ask.Route trip.from trip.to trip.profile certificate) reply) }
+            → IsAnswer (Usable self.now number profile) a b found → IsSmall (length (nodes self.now.features self.now.settings)) found → AnswersAsk self.now (ask.Route trip.from trip.to trip.profile certificate) reply) }
     {
         let Trip { from, to, profile } = trip;
         match found {
@@ -191,11 +191,11 @@ fn searched<L: Ledger>(
     requires name { blank.name ≡ L.name }
     requires parts { blank.parts ≡ L.parts }
     requires some { 0 < L.parts }
-    requires a_node { a < length (nodes board.now.features) }
-    requires b_node { b < length (nodes board.now.features) }
+    requires a_node { a < length (nodes board.now.features board.now.settings) }
+    requires b_node { b < length (nodes board.now.features board.now.settings) }
     requires number { traveller.now.number < 16 }
     ensures answer { IfOk result (IsAnswer (Usable board.now traveller.now.number traveller.now.profile.now) a b) }
-    ensures small { IfOk result (IsSmall (length (nodes board.now.features))) }
+    ensures small { IfOk result (IsSmall (length (nodes board.now.features board.now.settings))) }
 {
     passable_law();
     let mut steps = Steps::<L>::begin(blank);

@@ -112,9 +112,12 @@ fn is_lower<L: Ledger>(
     listed: &[u64],
     steps: &mut Steps<L>,
 ) -> bool {
-    assert!(rt; 0 < graph.nodes() && 0 < graph.out_count(0));
+    assert!(rt; 0 < graph.nodes() && 0 < graph.stretches(0));
     assert!(rt; listed.len() == graph.nodes() as usize);
-    graph.lower_link(0, 0, 100, listed, steps).is_some()
+    match graph.next_new(0, 0, None, 0) {
+        Some(found) => graph.lower_new(0, 0, found, 100, listed, steps).is_some(),
+        None => false,
+    }
 }
 
 fn judge_lower<L: Ledger>(

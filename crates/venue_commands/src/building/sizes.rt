@@ -21,7 +21,7 @@ fn features_of(venue: &Venue) -> usize
 }
 
 fn nodes_of(venue: &Venue) -> u32
-    ensures { result ≡ length (nodes venue.now.features) }
+    ensures { result ≡ length (nodes venue.now.features venue.now.settings) }
 {
     venue.graph().nodes()
 }

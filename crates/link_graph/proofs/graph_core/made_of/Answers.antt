@@ -6,7 +6,7 @@ use Rattle.link_graph.proofs.graph_core.made_of.Goals as goal
 pub passages-requires-clause-ground : goal.passages-requires-clause-ground
 passages-requires-clause-ground c = record {
   nodes = c.requires.nodes;
-  close = nodes_close c.args.features.now c.args.nodes (λ a b. c.spot_law.ensures c.args.features.now a b c.requires.sound c.requires.close) c.requires.nodes;
+  close = nodes_close c.args.features.now c.args.settings.now c.args.nodes (λ a b. c.spot_law.ensures c.args.features.now c.args.settings.now a b c.requires.sound c.requires.close) c.requires.nodes;
 }
 
 pub leaving_of-requires-clause-few : goal.leaving_of-requires-clause-few
@@ -19,8 +19,8 @@ leaving_of-requires-clause-within c =
 
 pub seats_of-requires-clause-paired : goal.seats_of-requires-clause-paired
 seats_of-requires-clause-paired c =
-    rows_paired c.args.features.now c.args.settings.now.border_tol _ c.as_slice-units.result.now c.args.rows c.in_ok-crossings.crossings.items c.deref-2.result.now
+    rows_paired c.args.features.now c.args.settings.now _ c.as_slice-units.result.now c.args.rows c.in_ok-crossings.crossings.items c.deref-2.result.now
     c.requires.rows c.as_slice-units.ensures c.deref-2.ensures.value c.in_ok-crossings.ensures
 
 pub seats_of-requires-clause-roomy : goal.seats_of-requires-clause-roomy
-seats_of-requires-clause-roomy c = rows_roomy c.args.features.now c.args.settings.now.border_tol c.args.rows c.requires.rows c.requires.roomy
+seats_of-requires-clause-roomy c = rows_roomy c.args.features.now c.args.settings.now c.args.rows c.requires.rows c.requires.roomy

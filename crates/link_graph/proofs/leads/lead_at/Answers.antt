@@ -47,7 +47,7 @@ returns-in-None c =
     let e = seats_read core c.args.n c.index.result.now c.as_slice.result.now c.requires.sound c.requires.node c.index.ensures c.as_slice.ensures in
     let none : HasNoSeat c.as_slice.result.now c.args.place = c.in-None.ensures in
     let end = no_seats_end core c.args.n c.args.place c.requires.sound (subst (λ (ss : List Seat). HasNoSeat ss c.args.place) e none) in
-    lead_passage core c.args.n c.args.place c.args.place (lead_link core c.args.n c.passage.result) c.requires.sound (omega (arith, end)) c.passage.ensures
+    lead_passage core c.args.n c.args.place c.args.place c.passage.result c.requires.sound (omega (arith, end)) c.passage.ensures
 
 pub returns-then-behind-count : goal.returns-then-behind-count
 returns-then-behind-count c =
@@ -72,4 +72,4 @@ returns-else-behind-count c =
     let count = c.others-count.ensures in
     let behind = c.if-behind-count.false in
     let end = end_behind core c.args.n c.args.place c.in-Some.seat c.requires.sound here (omega (arith, before, count, behind)) in
-    lead_passage core c.args.n c.args.place (c.args.place - c.in-Some.seat.first - c.others-count.result) (lead_link core c.args.n c.passage-else-behind-count.result) c.requires.sound (omega (arith, end, before, count, behind)) c.passage-else-behind-count.ensures
+    lead_passage core c.args.n c.args.place (c.args.place - c.in-Some.seat.first - c.others-count.result) c.passage-else-behind-count.result c.requires.sound (omega (arith, end, before, count, behind)) c.passage-else-behind-count.ensures

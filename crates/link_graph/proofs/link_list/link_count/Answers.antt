@@ -7,14 +7,14 @@ use Rattle.std.proofs.lemmas.List.{length-map, drop_all}
 use Rattle.std.proofs.lemmas.List.Concat.{length-flat_map}
 use Rattle.std.proofs.lemmas.List.Elements.{All-head, All-tail, All-contains}
 use Rattle.std.proofs.lemmas.List.Sums.{sum_by-cons}
-use Rattle.std.proofs.lemmas.Option.{slice_get-get_or}
+use Rattle.std.proofs.lemmas.Option.{slice_get-get_or, slice_get_read}
 use Rattle.venue_types.specs.declared.link.Link.{Link}
 use Rattle.venue_nodes.proofs.Items.{member_at}
 use Rattle.venue_nodes.specs.Rows.{row_list}
 use Rattle.link_graph.specs.declared.parts.Core.{Core}
 use Rattle.link_graph.specs.declared.parts.Crossing.{Crossing}
-use Rattle.link_graph.specs.Cores.{IsRow, IsSoundCore, link_across, links_across, links_across_all, links_across_from, links_in}
-use Rattle.link_graph.specs.Links.{are_joined}
+use Rattle.link_graph.specs.Cores.{IsRow, IsSoundCore, IsWholeIn, joined_in, link_across, links_across, links_across_all, links_across_from, links_in}
+use Rattle.link_graph.proofs.Joined.{all_in}
 use Rattle.link_graph.proofs.LeadingEnds.{links_few}
 use Rattle.link_graph.proofs.LeadingLists.{one_dropped}
 use Rattle.link_graph.proofs.LeadingSeats.{stands_once}
@@ -35,14 +35,16 @@ when true links k e = e
 when false links k e = refl
 
 -- a link for each pair of members
-across_many : (core : Core) (crossing : Crossing) (row : List ℕ) → IsStrictlyIncreasing row → length (links_across core crossing row) ≡ cond crossing.walked (length row * (length row - 1)) 0
-across_many core crossing row rise =
+across_many : (core : Core) (crossing : Crossing) (row : List ℕ) → IsStrictlyIncreasing row → IsWholeIn crossing row → length (links_across core crossing row) ≡ cond crossing.walked (length row * (length row - 1)) 0
+across_many core crossing row rise whole =
     let f = links_across_from core crossing row in
     let each : All (λ (a : ℕ). length (f a) ≡ length row - 1) row = λ k d within.
     let a = get_or row k d in
-    let dropped = one_dropped row a k (stands_once row a k rise (slice_get-get_or row k d within)) in
-    let long = length-map (filter (are_joined a) row) (link_across core crossing a) in
-    omega (arith, dropped, long) in
+    let there = slice_get-get_or row k d within in
+    let dropped = one_dropped row a k (stands_once row a k rise there) in
+    let others = ap length (all_in crossing row a whole (member_at row k a there)) in
+    let long = length-map (filter (joined_in crossing row a) row) (link_across core crossing a) in
+    omega (arith, dropped, long, others) in
     when crossing.walked (flat_map f row) (length row * (length row - 1)) (length-flat_map f row ∙ sum_same (λ (a : ℕ). length (f a)) (length row - 1) row each)
 
 row_of : (core : Core) (w : ℕ) (row : List ℕ) → IsSoundCore core → slice_get (row_list core.rows) w ≡ Some row → IsRow core row
@@ -55,7 +57,8 @@ count_on : (core : Core) (w : ℕ) (crossing : Crossing) (row : List ℕ) (count
     → count + more + length (links_across_all core (drop (w + 1) core.crossings.items) (drop (w + 1) (row_list core.rows))) ≡ length (links_across_all core core.crossings.items (row_list core.rows))
 count_on core w crossing row count more sound within read there is before =
     let is_row = row_of core w row sound there in
-    let here = across_many core crossing row is_row.rise in
+    let unit = slice_get_read core.crossings.items (length core.crossings.items) w crossing refl within read in
+    let here = across_many core crossing row is_row.rise (sound.whole w crossing row unit there) in
     let step = ap length (next_row core w core.crossings.items (row_list core.rows) crossing row within read there) in
     let both = length-append (links_across core crossing row) (links_across_all core (drop (w + 1) core.crossings.items) (drop (w + 1) (row_list core.rows))) in
     omega (arith, here, step, both, is, before)

@@ -1,5 +1,6 @@
-use Rattle.std.proofs.Common.{◌≡◌, ◌≤◌, ◌++◌, length, drop, ℕ, ◌+◌, List, sym, ap, ◌∙◌, arith}
+use Rattle.std.proofs.Common.{◌≡◌, ◌≤◌, ◌++◌, length, drop, ℕ, ◌+◌, List, refl, sym, ap, ◌∙◌, arith}
 use Rattle.std.proofs.lemmas.List.{append_assoc, append-nil, drop_all}
+use Rattle.std.proofs.lemmas.Option.{slice_get_read}
 use Rattle.venue_types.specs.declared.link.Link.{Link}
 use Rattle.venue_nodes.specs.Rows.{row_list}
 use Rattle.link_graph.specs.declared.parts.Core.{Core}
@@ -7,6 +8,14 @@ use Rattle.link_graph.specs.declared.parts.Crossing.{Crossing}
 use Rattle.link_graph.specs.Cores.{IsSoundCore, links_across, links_across_all, links_in}
 use Rattle.link_graph.proofs.RowLinks.{next_row}
 use Rattle.link_graph.proofs.link_list.listed.Goals as goal
+
+pub add_across-requires-clause-whole : goal.add_across-requires-clause-whole
+add_across-requires-clause-whole c =
+    let paired = c.requires.paired in
+    let more = c.loop-w-test.true in
+    let count = c.len-w-end.ensures.count in
+    let crossings = c.args.core.now.crossings.items in
+    c.requires.whole c.loop-w.w c.index.result.now c.row.result.now (slice_get_read crossings (length crossings) c.loop-w.w c.index.result.now refl (omega (arith, paired, more, count)) c.index.ensures) c.row.ensures
 
 pub loop-w-preserved : goal.loop-w-preserved
 loop-w-preserved c =

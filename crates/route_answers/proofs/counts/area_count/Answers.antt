@@ -12,7 +12,7 @@ returns-then-may_cross c = λ pair there.
     let members = c.area.result.1.now in
     told_count graph profile c.args.w area members pair c.pairs.result c.area.ensures.there there
     (c.pairs.ensures ∙ ap (λ (n : ℕ). n * (n - 1)) c.passing_count.ensures.number
-    ∙ sym (crossed_count c.network_parts_law.ensures graph profile area members c.area.ensures.area.barred (sym c.may_cross.ensures ∙ c.if-may_cross.true) c.area.ensures.area.rise))
+    ∙ sym (crossed_count c.network_parts_law.ensures graph profile area members (c.area.ensures.area.whole c.area.ensures.whole) c.area.ensures.area.barred (sym c.may_cross.ensures ∙ c.if-may_cross.true) c.area.ensures.area.rise))
 
 pub returns-else-may_cross : goal.returns-else-may_cross
 returns-else-may_cross c = λ pair there.

@@ -37,7 +37,7 @@ returns-in_ok-add_pairs c = λ pair there.
     let members = c.area.result.1.now in
     told graph profile c.args.w area members pair (length (network graph).nodes) c.args.rows.now.items c.add_pairs.new.rows.items (flat_map (rows_from graph area c.deref.result.now) c.deref.result.now)
     c.area.ensures.there there
-    (crossed_rows c.network_parts_law.ensures graph profile area members c.area.ensures.area.barred (sym c.may_cross.ensures ∙ c.if-may_cross.true)
+    (crossed_rows c.network_parts_law.ensures graph profile area members (c.area.ensures.area.whole c.area.ensures.whole) c.area.ensures.area.barred (sym c.may_cross.ensures ∙ c.if-may_cross.true)
     ∙ ap (λ (xs : List ℕ). flat_map (rows_from graph area xs) xs) (sym (c.deref.ensures.value ∙ c.in_ok-passed.ensures)))
     c.in_ok-add_pairs.ensures
 

@@ -7,7 +7,7 @@ use Rattle.route_search.proofs.node_scan.scan_stretches.Goals as goal
 pub scan_stretch-requires-clause-stretch : goal.scan_stretch-requires-clause-stretch
 scan_stretch-requires-clause-stretch g c =
     walked_stretch (network c.args.ways.now.graph.now) (CanPass c.args.ways.now) (node_count c.args.ways.now.graph.now) c.args.node c.loop-k.k c.args.steps.now c.loop-k.steps c.args.state.now c.loop-k.state
-    c.stretch-stretch.result c.loop-k.invariant c.stretch-stretch.ensures
+    c.stretch-stretch.result c.loop-k.invariant c.stretch-stretch.ensures c.requires.node
 
 pub returns-in_err-scan_stretch-clause-steps : goal.returns-in_err-scan_stretch-clause-steps
 returns-in_err-scan_stretch-clause-steps g c =

@@ -1,13 +1,11 @@
 use Rattle.std.proofs.Common.{sym, ◌∙◌, subst}
 use Rattle.link_graph.specs.Graphs.{network}
 use Rattle.link_graph.specs.declared.stretches.Way.{Way}
-use Rattle.route_search.specs.Scans.{CanPass, IsMarkable}
-use Rattle.route_search.proofs.PassedOver.{over_again, over_marked}
-use Rattle.route_search.proofs.passed_links.is_passed_over.Goals.{then-is_again, else-is_again}
+use Rattle.route_search.specs.Scans.{IsMarkable}
+use Rattle.route_search.proofs.PassedOver.{over_marked}
 use Rattle.route_search.proofs.passed_links.is_passed_over.Goals as goal
 
 pub returns-then-is_marked : goal.returns-then-is_marked
-returns-then-is_marked c = elim c.if-is_again.branch [
-  | then-is_again w ↦ λ _. over_again (network c.args.ways.now.graph.now) (CanPass c.args.ways.now) c.args.last c.args.way c.in-Inside.via c.in-Inside.kind c.in-Inside.restricted c.in-Inside.is (c.is_again.ensures.0 w.if-is_again.true)
-  | else-is_again w ↦ λ _. over_marked (network c.args.ways.now.graph.now) c.args.ways.now.marks.now c.args.ways.now.profile.now c.args.ways.now.number c.args.last c.args.way c.in-Inside.via c.in-Inside.kind c.in-Inside.restricted c.in-Inside.is (subst (λ (way : Way). IsMarkable (network c.args.ways.now.graph.now) way) c.in-Inside.is c.requires.way) (sym w.is_marked.ensures ∙ sym w.value-is ∙ c.if-is_marked.true)
-]
+returns-then-is_marked c _ =
+    over_marked (network c.args.ways.now.graph.now) c.args.ways.now.marks.now c.args.ways.now.profile.now c.args.ways.now.number c.args.way c.in-Inside.via c.in-Inside.kind c.in-Inside.restricted c.in-Inside.is
+    (subst (λ (way : Way). IsMarkable (network c.args.ways.now.graph.now) way) c.in-Inside.is c.requires.way) (sym c.is_marked.ensures ∙ c.if-is_marked.true)

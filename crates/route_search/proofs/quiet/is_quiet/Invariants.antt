@@ -6,4 +6,4 @@ use Rattle.route_search.specs.Scans.{IsOwn}
 use Rattle.route_search.proofs.quiet.is_quiet.Given as goal
 
 abbrev pub invariant-loop-k : goal.invariant-loop-k
-invariant-loop-k l = (j : ℕ) (stretch : Stretch) → j < l.k → slice_get ((network l.graph).stretches l.node) j ≡ Some stretch → IsOwn l.via stretch.way stretch.count
+invariant-loop-k l = (j : ℕ) (stretch : Stretch) → j < l.k → slice_get ((network l.graph).stretches l.node) j ≡ Some stretch → IsOwn (network l.graph) l.link.via l.link.from l.node stretch

@@ -52,7 +52,7 @@ returns-in-Ok c =
       silent features settings
           (empty_report (IsMisnamed features) names no_names c.in_ok-misnamed.ensures)
           (empty_report (IsPlaneBroken features settings.contain_tol) plane no_plane c.in_ok-misplaced.ensures)
-          (none_report (BreaksLimit features settings.border_tol) (λ x. c.limit_law.ensures features settings.border_tol x c.in-Ok.ensures.ground.roomy)),
+          (none_report (BreaksLimit features settings) (λ x. c.limit_law.ensures features settings x c.in-Ok.ensures.ground.roomy)),
       c.in-Ok.ensures.ground,
     )
 
@@ -69,5 +69,5 @@ returns c =
       limit_report features settings found
           (empty_report (IsMisnamed features) names no_names c.in_ok-misnamed.ensures)
           (empty_report (IsPlaneBroken features settings.contain_tol) plane no_plane c.in_ok-misplaced.ensures)
-          (c.in_ok-crowded-in-Err.ensures.all features settings.border_tol c.in-Err.ensures.fault),
+          (c.in_ok-crowded-in-Err.ensures.all features settings c.in-Err.ensures.fault),
     )

@@ -8,15 +8,15 @@ pub of_named-requires-clause-once : goal.of_named-requires-clause-once
 of_named-requires-clause-once c = c.once_law.ensures c.args.features.now file.Unit c.requires.own_ids
 
 pub returns-in-Some : goal.returns-in-Some
-returns-in-Some c = λ border_tol many.
+returns-in-Some c = λ settings many.
     let features = c.args.features.now in
     let rows = c.in_ok-rows.rows in
     let are = subst (λ (touched : List (List ℕ)). AreNamedRows features touched rows) c.new.ensures c.in_ok-rows.ensures in
-    members_crowd features border_tol c.args.counts.now rows (λ o u. c.touch_law.ensures border_tol o u) are many c.in-Some.k c.in-Some.ensures
+    members_crowd features settings c.args.counts.now rows (λ o u. c.touch_law.ensures settings.border_tol o u) are many c.in-Some.k c.in-Some.ensures
 
 pub returns : goal.returns
-returns c = λ border_tol many.
+returns c = λ settings many.
     let features = c.args.features.now in
     let rows = c.in_ok-rows.rows in
     let are = subst (λ (touched : List (List ℕ)). AreNamedRows features touched rows) c.new.ensures c.in_ok-rows.ensures in
-    squares_crowd features border_tol c.args.counts.now rows (λ o u. c.touch_law.ensures border_tol o u) are many c.in-None.ensures
+    squares_crowd features settings c.args.counts.now rows (λ o u. c.touch_law.ensures settings.border_tol o u) are many c.in-None.ensures

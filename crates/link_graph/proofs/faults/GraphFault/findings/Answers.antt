@@ -1,5 +1,5 @@
 use Rattle.link_graph.proofs.faults.GraphFault.findings.Goals as goal
 
 pub returns-in_ok-findings-in-Some-clause-all : goal.returns-in_ok-findings-in-Some-clause-all
-returns-in_ok-findings-in-Some-clause-all c = λ features border_tol fault.
-    c.in_ok-findings-in-Some.ensures.all features border_tol (c.in-Some.ensures features border_tol fault)
+returns-in_ok-findings-in-Some-clause-all c = λ features settings fault.
+    c.in_ok-findings-in-Some.ensures.all features settings (c.in-Some.ensures features settings fault)

@@ -16,6 +16,6 @@ returns c =
     let touches = c.args.touches.now in
     let known : IsTouched features border_tol touches = record { law = c.touch_law.ensures border_tol; once = c.once_law.ensures features file.Unit c.requires.own_ids; are = c.requires.touches } in
     record {
-      members_are = c.in_ok-rows.ensures.named_are ∙ rows_are features border_tol touches known;
+      members_are = c.in_ok-rows.ensures.named_are ∙ rows_are features c.args.settings.now touches known;
       units_are = c.in_ok-rows.ensures.indexes_are;
     }

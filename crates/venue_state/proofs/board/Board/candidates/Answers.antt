@@ -17,7 +17,7 @@ overflow_cast-n c =
       arith,
       c.loop-n-test.true,
       ap (λ (rows : List AmenityRow). length rows) many,
-      few_amenities c.args.self.now.features,
+      few_amenities c.args.self.now.features c.args.self.now.settings,
       ap (λ (nodes : List Node). length nodes) c.graph.ensures.nodes_are,
       c.nodes.ensures.number,
       c.nodes.ensures.few,
@@ -48,4 +48,4 @@ returns-clause-are c =
     (omega (arith, c.loop-n-test.false, c.loop-n.auto.n-end, ap (λ (rows : List AmenityRow). length rows) many)) c.loop-n.invariant
 
 pub returns-clause-within : goal.returns-clause-within
-returns-clause-within c = within c.args.self.now.features c.args.category.now c.loop-n.found (returns-clause-are c)
+returns-clause-within c = within c.args.self.now.features c.args.self.now.settings c.args.category.now c.loop-n.found (returns-clause-are c)

@@ -16,5 +16,5 @@ returns c =
     let candidates = c.in_ok-candidates.candidates in
     near_answers v asked number profile c.args.a candidates c.in_ok-near.near c.in_ok-told.told c.requires.trip
     (subst (λ (category : List ℕ). AreCandidates v.features category candidates) c.category.ensures c.in_ok-candidates.ensures.are)
-    (subst (λ (limit : ℕ). IsNear (Usable v number profile) (length (nodes v.features)) c.args.a candidates limit c.in_ok-near.near) c.limit-limit.ensures.limit c.in_ok-near.ensures)
+    (subst (λ (limit : ℕ). IsNear (Usable v number profile) (length (nodes v.features v.settings)) c.args.a candidates limit c.in_ok-near.near) c.limit-limit.ensures.limit c.in_ok-near.ensures)
     c.in_ok-told.ensures
