@@ -114,7 +114,8 @@ fn closures(told: &ClosuresTold) -> Told {
     Told::Closures(told.number, rows.len(), last)
 }
 
-fn told_of(reply: &Reply) -> Told {
+/// What a reply tells.
+pub(crate) fn told_of(reply: &Reply) -> Told {
     match reply {
         Reply::ClosureDone(done) => Told::Closure(done.number, done.closed, done.changed),
         Reply::Published { number, dropped } => published(*number, dropped.as_slice()),

@@ -19,6 +19,8 @@ mod images;
 #[cfg(test)]
 mod journals;
 #[cfg(test)]
+mod judged;
+#[cfg(test)]
 mod kept;
 #[cfg(test)]
 mod kept_long;
