@@ -13,12 +13,11 @@ from table import row
 
 
 def run(command):
+    """The status of a command, its seconds, its peak memory in MiB and its processor time."""
     begin = time.monotonic()
     child = subprocess.Popen(["sh", "-c", "exec " + command], stdout=subprocess.DEVNULL)
     _, status, usage = os.wait4(child.pid, 0)
-    if os.waitstatus_to_exitcode(status) not in (0, 1):
-        sys.exit(f"{command}: status {os.waitstatus_to_exitcode(status)}")
-    return time.monotonic() - begin, usage.ru_maxrss / 1024, usage.ru_utime + usage.ru_stime
+    return os.waitstatus_to_exitcode(status), time.monotonic() - begin, usage.ru_maxrss / 1024, usage.ru_utime + usage.ru_stime
 
 
 def main(rounds, *words):
@@ -30,7 +29,9 @@ def main(rounds, *words):
     peaks = {name: 0.0 for name, _ in commands}
     for _ in range(int(rounds)):
         for name, command in commands:
-            seconds, peak, processor = run(command)
+            status, seconds, peak, processor = run(command)
+            if status not in (0, 1):
+                sys.exit(f"{command}: status {status}")
             times[name].append(seconds)
             busy[name].append(processor)
             peaks[name] = max(peaks[name], peak)
@@ -44,4 +45,5 @@ def main(rounds, *words):
             row(told[0], f"{min(times[first]):.3f} s", f"{second} {min(times[second]):.3f} s", ratio, told[1])
 
 
-main(*sys.argv[1:])
+if __name__ == "__main__":
+    main(*sys.argv[1:])
