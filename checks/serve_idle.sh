@@ -42,15 +42,18 @@ row reads_nothing 1 1 200
 unset base
 
 # Those who closed in front of a first byte count for nothing; who closed within a head counts.
-serve 1 2
+serve 1 2 2>"$work/told"
 compare opens_and_closes "$(clients opens_and_closes 0)" 200
 wait $server
 compare 'what was printed' "$(cat "$work/printed")" "listening 127.0.0.1:$port
 workers 1 sessions 2 versions 1 changes 0"
+compare 'what was told of no want' "$(cat "$work/told")" ''
 
-# A server that may open 64 files.
+# A server that may open 64 files tells of it once, however many connections it is refused.
 ulimit -S -n 64
-serve 1 100000
+serve 1 100000 2>"$work/told"
 ulimit -S -n "$hard"
 compare too_many "$(clients too_many 200)" '200, the longest silent closed'
+compare 'what was told of too many' "$(cat "$work/told")" \
+    'venue: the system has no file or no memory for another connection, so those that have waited longest are closed'
 finish

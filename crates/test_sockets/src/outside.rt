@@ -3,6 +3,7 @@
 ghost use Rattle.std.specs.Prelude.{ℕ, ◌≤◌, IfOk, length, string_bytes};
 
 use std::alloc::Global;
+use std::fmt::Display;
 use std::io;
 use std::io::{ErrorKind, Write};
 use std::net::{Net, SocketAddr, TcpListener, TcpStream};
@@ -102,6 +103,16 @@ impl<'a, R, C: Clock> Clock for Beside<'a, R, C> {
     }
 }
 
+impl<'a, R: Eprint, C> Eprint for Beside<'a, R, C> {
+    fn eprint<D: Display + Drop>(&self, value: D) -> io::Result<()> {
+        self.rt.eprint(value)
+    }
+
+    fn eprintln<D: Display + Drop>(&self, value: D) -> io::Result<()> {
+        self.rt.eprintln(value)
+    }
+}
+
 impl<'a, R: Wait, C> Wait for Beside<'a, R, C> {}
 
 /// An address where nobody listens.
@@ -140,7 +151,7 @@ pub(crate) struct Pair<'a, R: Clock> {
 /// A pair, while so many others wait in the lobby with a whole request each.
 pub(crate) fn accepted_pair<
     'a,
-    R: Net<Listener = TcpListener, Stream = TcpStream> + Clock + Wait + Sync,
+    R: Net<Listener = TcpListener, Stream = TcpStream> + Clock + Eprint + Wait + Sync,
 >(
     rt: &'a R,
     lobby: &'a Lobby,

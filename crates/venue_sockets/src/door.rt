@@ -1,7 +1,7 @@
 //! The listener, and the set of sockets at which the system tells what comes.
 
 use crate::guests::Guests;
-use crate::refusals::{NoConnection, why};
+use crate::refusals::{NoConnection, Shortage, why};
 use mio::event::Event;
 use mio::net::TcpListener;
 use mio::{Events, Interest, Poll, Token};
@@ -32,6 +32,7 @@ pub(crate) struct Door {
     poll: Poll,
     listener: TcpListener,
     queue: Queue,
+    shortage: Shortage,
 }
 
 impl Door {
@@ -61,6 +62,7 @@ impl Door {
                 poll,
                 listener,
                 queue: Queue::Open,
+                shortage: Shortage::Never,
             }),
             Err(_) => Err(Failed),
         }
@@ -83,6 +85,11 @@ impl Door {
     /// Whether somebody is held up for whom there was no room.
     pub(crate) fn is_held(&self) -> bool {
         self.queue == Queue::Held
+    }
+
+    /// Whether it is to be told that the system lacked room for a connection, and takes that for told.
+    pub(crate) fn take_news(&mut self) -> bool {
+        self.shortage.take_news()
     }
 
     /// Looks where an event says that something is to be seen.
@@ -133,6 +140,7 @@ impl Door {
                     }
                     NoConnection::Gone => {}
                     NoConnection::Full => {
+                        self.shortage.came();
                         if made_room || !guests.close_first() {
                             self.queue = Queue::Held;
                             return Ok(());

@@ -51,7 +51,7 @@ impl<'a, R> LobbyDoors<'a, R> {
     }
 }
 
-impl<'a, R: Net + Clock + Wait + Sync> Doors for LobbyDoors<'a, R> {
+impl<'a, R: Net + Clock + Eprint + Wait + Sync> Doors for LobbyDoors<'a, R> {
     type Conn = LobbyLink<'a, R>;
 
     ghost ready = { λ d. d.is_bound };

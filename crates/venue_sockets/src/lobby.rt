@@ -10,6 +10,10 @@ use std::sync::{Mutex, Wait};
 use std::time::Clock;
 use venue_ports::Failed;
 
+// What is told once where the system lacks room for a connection.
+const SHORTAGE: &str =
+    "venue: the system has no file or no memory for another connection, so those that have waited longest are closed";
+
 /// Connections that the system has accepted and that wait without a worker, at most 16,384: until a whole message or a refusal is there,
 /// or 16,384 bytes, or their input has ended behind some bytes. One that sends no more than part of a message is closed 30 seconds after it
 /// came, and so is the one that has waited longest where there is no room for another.
@@ -41,11 +45,18 @@ impl Lobby {
         Ok(())
     }
 
-    /// The connection that has been ready longest, once there is one.
-    pub(crate) fn next<R: Clock + Wait>(&self, rt: &R) -> Result<TcpStream, Failed> {
+    /// The connection that has been ready longest, once there is one. That the system lacked room for one is told on standard error, once.
+    pub(crate) fn next<R: Clock + Eprint + Wait>(&self, rt: &R) -> Result<TcpStream, Failed> {
         let mut pool = self.pool.lock(rt);
         self.one_came();
         for _ in rt.forever() {
+            if pool.take_news() {
+                // A write may wait for whoever reads it, and the looks of links go on meanwhile.
+                self.note(&pool);
+                drop(pool);
+                let _ = rt.eprintln(SHORTAGE);
+                pool = self.pool.lock(rt);
+            }
             let next = pool.next_ready();
             self.note(&pool);
             match next {

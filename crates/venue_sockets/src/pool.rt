@@ -52,6 +52,14 @@ impl Pool {
         }
     }
 
+    /// Whether it is to be told that the system lacked room for a connection, and takes that for told.
+    pub(crate) fn take_news(&mut self) -> bool {
+        match &mut self.door {
+            Some(door) => door.take_news(),
+            None => false,
+        }
+    }
+
     /// The one that has been ready longest.
     pub(crate) fn next_ready(&mut self) -> Option<TcpStream> {
         self.guests.next_ready()

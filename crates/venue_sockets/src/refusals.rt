@@ -19,6 +19,42 @@ pub(crate) enum NoConnection {
     Broken,
 }
 
+/// Whether the system lacked room for a connection, and whether that was told.
+#[derive(Clone, Copy, PartialEq, Eq)]
+pub(crate) enum Shortage {
+    /// It never did.
+    Never,
+    /// It did, and nobody has been told.
+    Untold,
+    /// It did, and it was told.
+    Told,
+}
+
+impl Shortage {
+    /// The system lacks room.
+    pub(crate) fn came(&mut self)
+        ensures first { self.old ≡ Shortage.Never → self.new ≡ Shortage.Untold }
+        ensures later { self.old ≢ Shortage.Never → self.new ≡ self.old }
+    {
+        if *self == Shortage::Never {
+            *self = Shortage::Untold;
+        }
+    }
+
+    /// Whether it is to be told, and takes that for told.
+    pub(crate) fn take_news(&mut self) -> bool
+        ensures due { IsTrue result ↔ (self.old ≡ Shortage.Untold) }
+        ensures told { IsTrue result → self.new ≡ Shortage.Told }
+        ensures kept { ¬ IsTrue result → self.new ≡ self.old }
+    {
+        if *self != Shortage::Untold {
+            return false;
+        }
+        *self = Shortage::Told;
+        true
+    }
+}
+
 // Whether an error of this kind is a connection's own.
 fn has_gone_kind(kind: ErrorKind) -> bool
     ensures { IsTrue result ↔ Contains gone_kinds kind }
