@@ -1,4 +1,4 @@
--- Where openings begin, as the index keeps it.
+-- Where openings begin, as it is kept.
 use Rattle.std.specs.Prelude.{◌≡◌, ◌≢◌, ℕ, ◌<◌, ◌≤◌, ◌≤ℤ◌, List, Some, All, AllPairs, Contains, length, slice_get, slice_index_or}
 use Rattle.venue_types.specs.declared.features.OpeningRow.{OpeningRow}
 use Rattle.venue_types.specs.declared.point.Point.{Point}
@@ -37,9 +37,8 @@ pub record AreRising (entries : List Entry) : Type 0 where
 abbrev pub AreApart : List Entry → Type 0
 AreApart entries = AllPairs (λ (a b : Entry). a.place ≢ b.place) entries
 
--- one entry for each opening, in order
+-- one entry for each opening
 pub record AreEntries (openings : List OpeningRow) (entries : List Entry) : Type 0 where
   pub own : (e : Entry) → Contains entries e → IsEntry openings e
   pub whole : (o : ℕ) → o < length openings → (e : Entry) × Contains entries e × (e.place ≡ o)
-  pub rising : AreRising entries
   pub apart : AreApart entries

@@ -1,7 +1,13 @@
 pub mod Entries
 pub mod Frames
 pub mod Stretches
+pub mod Morton
+pub mod Extents
+pub mod Edges
+pub mod Trees
+pub mod Starts
 pub mod Places
+pub mod Around
 pub mod Matches
 pub mod Kept
 pub mod Rows
