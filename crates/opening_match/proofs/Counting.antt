@@ -7,8 +7,7 @@ use Rattle.std.proofs.lemmas.Option.{same_Some}
 use Rattle.venue_types.specs.declared.features.OpeningRow.{OpeningRow}
 use Rattle.venue_types.specs.declared.features.UnitRow.{UnitRow}
 use Rattle.imdf_access.specs.Categories.{is_walkable}
-use Rattle.venue_nodes.specs.TouchCounts.{AreCounts, HasFull, IsCounted, walked_part, walked_sum}
-use Rattle.venue_nodes.specs.TouchCounts.{TouchMany}
+use Rattle.venue_nodes.specs.TouchCounts.{AreCounts, HasFull, walked_part, walked_sum}
 use Rattle.venue_nodes.specs.TouchCounts.{AreMatches}
 use Rattle.opening_match.proofs.Items.{at_push, item_at}
 

@@ -1,7 +1,11 @@
 mod Items
 mod Framing
+mod EdgeLists
+mod EdgeNearness
 mod Placing
 mod Ordering
+mod Growing
+mod Gathering
 mod Stretching
 mod Touching
 mod Counting

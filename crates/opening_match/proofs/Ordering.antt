@@ -50,7 +50,7 @@ not_behind m n x y rest e = by_ranked (n < m) (n ≡ m) (m < n) (nat_cmp n m) (r
     (λ is same. (omega arith, λ again. not_west y x rest (sym (ap (λ (o : Ordering). is_lt (ordering_then o (ordering_then (int_cmp y x) rest))) is) ∙ e)))
     (λ is more. (omega arith, λ again. absurd (omega arith)))
 
-rising : (es : List Entry) → IsSorted entry_cmp es → AreRising es
+pub rising : (es : List Entry) → IsSorted entry_cmp es → AreRising es
 rising es up = record {
   rise = λ i j d from within.
       let a = get_or es i d in
@@ -110,7 +110,7 @@ get_or-map_at f [] i d e within = absurd (omega arith)
 get_or-map_at f (x ∷ xs) zero d e within = refl
 get_or-map_at f (x ∷ xs) (suc i) d e within = get_or-map_at f xs i d e (omega arith)
 
-apart_sorted : (es sorted : List Entry) → IsPermutation es sorted → AreApart es → AreApart sorted
+pub apart_sorted : (es sorted : List Entry) → IsPermutation es sorted → AreApart es → AreApart sorted
 apart_sorted es sorted moved apart = pairs_from (λ (e : Entry). e.place) sorted
     (AllPairs-from_IsDistinct Decides-eqb (map (λ (e : Entry). e.place) sorted)
     (IsDistinct-IsPermutation eqb flips (map (λ (e : Entry). e.place) es) (map (λ (e : Entry). e.place) sorted) (IsPermutation-map (λ (e : Entry). e.place) es sorted moved)
@@ -126,12 +126,11 @@ apart_sorted es sorted moved apart = pairs_from (λ (e : Entry). e.place) sorted
           let far : j < length (map f es) = omega (arith, within, length-map es f) in
           pairs i j (f d) under far (get_or-map_at f es i (f d) d (omega arith) ∙ same ∙ sym (get_or-map_at f es j (f d) d within))
 
-pub entries_sorted : (openings : List OpeningRow) (es sorted : List Entry) → AreFirst openings (length openings) es → IsPermutation es sorted → IsSorted entry_cmp sorted → AreEntries openings sorted
-entries_sorted openings es sorted first moved up = record {
+pub entries_sorted : (openings : List OpeningRow) (es sorted : List Entry) → AreFirst openings (length openings) es → IsPermutation es sorted → AreEntries openings sorted
+entries_sorted openings es sorted first moved = record {
   own = λ e h. let at = at_member es e (Contains-permutation sorted es e (IsPermutation-sym es sorted moved) h) in (first.own at.0 e at.1).1;
   whole = λ o within.
       let there = some_at es o (omega (arith, within, first.all)) in
       (there.0, Contains-permutation es sorted there.0 moved (member_at es o there.0 there.1), (first.own o there.0 there.1).0);
-  rising = rising sorted up;
   apart = apart_sorted es sorted moved (apart_first openings (length openings) es first);
 }

@@ -18,9 +18,10 @@ use Rattle.feature_rows.specs.Named.{IsUnit}
 use Rattle.opening_match.specs.declared.entries.Entry.{Entry}
 use Rattle.opening_match.specs.declared.frame.Frame.{Frame}
 use Rattle.opening_match.specs.Entries.{AreEntries, start_of}
+use Rattle.opening_match.specs.Around.{AreCandidates}
 use Rattle.opening_match.specs.Frames.{IsFramed, IsAtHeight}
 use Rattle.opening_match.specs.Stretches.{IsStretch}
-use Rattle.opening_match.specs.Places.{ArePlaces}
+use Rattle.opening_match.specs.Places.{ArePlaces, AreDistinct}
 use Rattle.venue_nodes.specs.TouchCounts.{TouchesAt, AreMatches}
 use Rattle.opening_match.specs.Matches.{AreBeside, RunsAlong}
 use Rattle.opening_match.proofs.Framing.{LeastLaw, GreatestLaw, near_framed}
@@ -33,25 +34,36 @@ pub record StartsAt (openings : List OpeningRow) (o : ℕ) : Type 0 where
   pub vertex : Point
   pub has : Contains opening.line.points vertex
 
--- what is known of the places at the height of a frame
-pub record AreCandidates (t : ℕ) (openings : List OpeningRow) (unit : UnitRow) (places : List ℕ) : Type 0 where
+-- of the entries in a stretch those at the height of the frame are enough
+pub framed_candidates : LeastLaw → GreatestLaw → (t : ℕ) (unit : UnitRow) (entries stretch : List Entry) (frame : Frame) (places : List ℕ)
+    → IsFramed unit.shape frame → IsStretch entries unit.level frame t stretch
+    → ArePlaces (λ (e : Entry). e.place) (λ (e : Entry). IsAtHeight frame t e.y) stretch places → AreCandidates t unit entries places
+framed_candidates least greatest t unit entries stretch frame places framed part at = record {
+  only = λ o h. let w = at.only o h in let s = part.own w.0 w.1 in (w.0, s.0, w.2, s.1);
+  whole = λ e own level close near.
+      let around = near_framed least greatest unit.shape frame t (start_of e) framed near in
+      at.whole e (part.whole e own level around.width) around.height;
+  distinct = at.distinct;
+}
+
+-- what is known of places at which openings are asked
+pub record AreAsked (t : ℕ) (openings : List OpeningRow) (unit : UnitRow) (places : List ℕ) : Type 0 where
   pub only : (o : ℕ) (opening : OpeningRow) → Contains places o → slice_get openings o ≡ Some opening → opening.level ≡ unit.level
   pub starts : (o : ℕ) → Contains places o → StartsAt openings o
   pub whole : (o : ℕ) → TouchesAt t openings unit o → Contains places o
+  pub distinct : AreDistinct places
 
-pub candidates : LeastLaw → GreatestLaw → (t : ℕ) (openings : List OpeningRow) (unit : UnitRow) (entries stretch : List Entry) (frame : Frame) (places : List ℕ)
-    → AreEntries openings entries → IsFramed unit.shape frame → IsStretch entries unit.level frame t stretch
-    → ArePlaces (λ (e : Entry). e.place) (λ (e : Entry). IsAtHeight frame t e.y) stretch places → AreCandidates t openings unit places
-candidates least greatest t openings unit entries stretch frame places are framed part at = record {
+pub asked : (t : ℕ) (openings : List OpeningRow) (unit : UnitRow) (entries : List Entry) (places : List ℕ)
+    → AreBeside unit.shape openings → AreEntries openings entries → AreCandidates t unit entries places → AreAsked t openings unit places
+asked t openings unit entries places beside are among = record {
   only = λ o opening h there.
-      let w = at.only o h in
-      let s = part.own w.0 w.1 in
-      let is = are.own w.0 s.0 in
+      let w = among.only o h in
+      let is = are.own w.0 w.1 in
       let same : is.opening ≡ opening = same_Some is.opening opening (sym is.there ∙ ap (λ (k : ℕ). slice_get openings k) w.2 ∙ there) in
-      sym (ap (λ (row : OpeningRow). row.level) same) ∙ sym is.level ∙ s.1;
+      sym (ap (λ (row : OpeningRow). row.level) same) ∙ sym is.level ∙ w.3;
   starts = λ o h.
-      let w = at.only o h in
-      let is = are.own w.0 (part.own w.0 w.1).0 in
+      let w = among.only o h in
+      let is = are.own w.0 w.1 in
       subst (StartsAt openings) w.2 (record { opening = is.opening; there = is.there; vertex = start_of w.0; has = is.start });
   whole = λ o touch.
       let w = are.whole o (slice_get_within openings o touch.opening touch.there) in
@@ -59,12 +71,13 @@ candidates least greatest t openings unit entries stretch frame places are frame
       let same : is.opening ≡ touch.opening = same_Some is.opening touch.opening (sym is.there ∙ ap (λ (k : ℕ). slice_get openings k) w.2 ∙ touch.there) in
       let start : Contains touch.opening.line.points (start_of w.0) = subst (λ (row : OpeningRow). Contains row.line.points (start_of w.0)) same is.start in
       let near = All-contains (λ p. IsNear p unit.shape t) touch.opening.line.points (start_of w.0) touch.touch.near start in
-      let around = near_framed least greatest unit.shape frame t (start_of w.0) framed near in
       let level = is.level ∙ ap (λ (row : OpeningRow). row.level) same ∙ touch.touch.level in
-      subst (λ (k : ℕ). Contains places k) w.2 (at.whole w.0 (part.whole w.0 w.1 level around.width) around.height);
+      let close = (beside.beside is.opening (member_at openings w.0.place is.opening is.there)).near (start_of w.0) is.start in
+      subst (λ (k : ℕ). Contains places k) w.2 (among.whole w.0 w.1 level close near);
+  distinct = among.distinct;
 }
 
-pub matches : (t : ℕ) (openings : List OpeningRow) (unit : UnitRow) (shape : Shape) (list places found : List ℕ) → shape ≡ unit.shape → list ≡ places → AreCandidates t openings unit places
+pub matches : (t : ℕ) (openings : List OpeningRow) (unit : UnitRow) (shape : Shape) (list places found : List ℕ) → shape ≡ unit.shape → list ≡ places → AreAsked t openings unit places
     → ArePlaces (λ (o : ℕ). o) (RunsAlong t openings shape) list found → AreMatches t openings unit found
 matches t openings unit shape list places found same is of are =
     let here : ArePlaces (λ (o : ℕ). o) (RunsAlong t openings unit.shape) places found = subst (λ (s : Shape). ArePlaces (λ (o : ℕ). o) (RunsAlong t openings s) places found) same (subst (λ (ps : List ℕ). ArePlaces (λ (o : ℕ). o) (RunsAlong t openings shape) ps found) is are) in
@@ -80,7 +93,7 @@ matches t openings unit shape list places found same is of are =
       distinct = here.distinct;
     }
 
-pub no_matches : (t : ℕ) (openings : List OpeningRow) (unit : UnitRow) (places : List ℕ) → places ≡ [] → AreCandidates t openings unit places → AreMatches t openings unit places
+pub no_matches : (t : ℕ) (openings : List OpeningRow) (unit : UnitRow) (places : List ℕ) → places ≡ [] → AreAsked t openings unit places → AreMatches t openings unit places
 no_matches t openings unit places empty of = record {
   exact = λ o. (
     (λ h. absurd (Contains-nil o (subst (λ (xs : List ℕ). Contains xs o) empty h))),
@@ -100,10 +113,10 @@ close_alone p points all = record { near = λ a b h k. all.near a b (Contains-ap
 close_beside : (openings : List OpeningRow) (shape : Shape) (o : ℕ) → AreBeside shape openings → StartsAt openings o → AllNearby (vertices shape)
 close_beside openings shape o beside s = close_alone s.vertex (vertices shape) ((beside.beside s.opening (member_at openings o s.opening s.there)).near s.vertex s.has)
 
-pub close_shape : (t : ℕ) (openings : List OpeningRow) (unit : UnitRow) (places : List ℕ) → AreBeside unit.shape openings → AreCandidates t openings unit places → ¬ (places ≡ []) → AllNearby (vertices unit.shape)
+pub close_shape : (t : ℕ) (openings : List OpeningRow) (unit : UnitRow) (places : List ℕ) → AreBeside unit.shape openings → AreAsked t openings unit places → ¬ (places ≡ []) → AllNearby (vertices unit.shape)
 close_shape t openings unit places beside of filled = let o = some_in places filled in close_beside openings unit.shape o.0 beside (of.starts o.0 o.1)
 
-pub all_there : (t : ℕ) (openings : List OpeningRow) (unit : UnitRow) (places : List ℕ) → AreCandidates t openings unit places → All (λ o. o < length openings) places
+pub all_there : (t : ℕ) (openings : List OpeningRow) (unit : UnitRow) (places : List ℕ) → AreAsked t openings unit places → All (λ o. o < length openings) places
 all_there t openings unit places of k d within =
     let s = of.starts (get_or places k d) (Contains-get_or places k d within) in
     slice_get_within openings (get_or places k d) s.opening s.there

@@ -2,7 +2,7 @@
 
 ghost use Rattle.std.specs.Prelude.{◌≡◌, ◌≤◌, IfOk, All, Contains, length};
 ghost use Rattle.venue_types.specs.declared.features.OpeningRow.{OpeningRow};
-ghost use Rattle.opening_match.specs.Entries.{AreFirst, AreEntries, HaveVertices};
+ghost use Rattle.opening_match.specs.Entries.{AreFirst, AreEntries, AreRising, HaveVertices};
 
 use std::alloc::Global;
 use venue_types::{FeatureId, OpeningRow, OutOfMemory, Point};
@@ -49,7 +49,8 @@ pub(crate) fn sorted_entries(
     openings: &[OpeningRow],
 ) -> Result<Vec<Entry>, OutOfMemory>
     requires { HaveVertices openings.now }
-    ensures { IfOk result (λ entries. AreEntries openings.now entries.items) }
+    ensures entries { IfOk result (λ entries. AreEntries openings.now entries.items) }
+    ensures rising { IfOk result (λ entries. AreRising entries.items) }
 {
     let mut entries = entries_of(alloc, openings)?;
     entries.sort_unstable();

@@ -11,9 +11,9 @@ ghost use Rattle.opening_match.specs.Kept.{AreKept, AreKeptOf};
 
 use crate::candidates::matches_of;
 use crate::counts::{MOST_WALKED, is_full, keep, left_after, walked_with};
-use crate::entries::sorted_entries;
 use crate::matches::Matches;
 use crate::rows::empty_rows;
+use crate::starts::starts_of;
 use feature_rows::opening_point_law;
 use std::alloc::Global;
 use venue_types::{Features, List, OpeningRow, OutOfMemory, Settings, Touches, UnitRow};
@@ -34,13 +34,13 @@ pub(crate) fn matches_by(
     requires few { length units.now ≤ 100000 }
     ensures { IfOk result (AreKeptOf tolerance openings.now units.now) }
 {
-    let entries = sorted_entries(alloc, openings)?;
+    let starts = starts_of(alloc, openings)?;
     let mut rows = empty_rows(alloc, openings.len())?;
     let mut counts = Vec::new(alloc);
     let mut walked = 0;
     let mut left = MOST_SOLID;
     for (place, unit) in units.iter().enumerate() {
-        let found = matches_of(alloc, openings, &entries, unit, tolerance)?;
+        let found = matches_of(alloc, openings, &starts, unit, tolerance)?;
         let count = found.len();
         counts.push(count)?;
         if is_full(unit, count) {
@@ -61,8 +61,8 @@ pub(crate) fn matches_by(
 /// Which openings touch which units, within the tolerance of the settings, in a folder whose positions lie close together; or how many
 /// touch each of the first units, where they are more than any venue may have.
 ///
-/// A unit is compared with those openings of its level that begin in its frame, by an index that is sorted once, and each of
-/// these with the bands of its border. Where units in which nobody walks are touched more than 100,000,000 times, the answer is want of
+/// A unit is compared with those openings of its level that begin in its frame, by an index that is sorted once, or near its edges, by a
+/// tree that is grown once; and each of these with the bands of its border. Where units in which nobody walks are touched more than 100,000,000 times, the answer is want of
 /// memory.
 pub fn touches(
     alloc: Global,

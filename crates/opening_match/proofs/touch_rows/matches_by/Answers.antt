@@ -1,4 +1,4 @@
-use Rattle.std.proofs.Common.{◌≤◌, ◌<◌, ℕ, List, length, All, subst, sym, refl, ap, ◌∙◌, arith, inl, inr}
+use Rattle.std.proofs.Common.{◌≤◌, ◌<◌, ℕ, List, length, All, subst, sym, refl, ◌∙◌, arith, inl}
 use Rattle.venue_nodes.specs.TouchCounts.{TouchMany}
 use Rattle.opening_match.specs.Rows.{AreRowsBelow}
 use Rattle.opening_match.proofs.Counting.{counted_none, counts_next, full_next, counted_next, not_so}
@@ -31,7 +31,7 @@ pub keep-requires-clause-within : goal.keep-requires-clause-within
 keep-requires-clause-within c = λ few.
     let more = c.walked_with-walked.ensures in
     let less : c.loop-place.walked ≤ 20000000 = omega (arith, few, more) in
-    subst (λ (list : List ℕ). All (λ o. o < length c.loop-place.rows.items) list) (sym c.deref-in-loop-place.ensures.value)
+    subst (λ (list : List ℕ). All (λ o. o < length c.loop-place.rows.items) list) (sym c.deref.ensures.value)
     (found_there c.args.tolerance c.args.openings.now c.args.units.now _ c.loop-place.place c.in_ok-found.found.items c.loop-place.rows.items c.in_ok-found.ensures (c.loop-place.invariant.1 less))
 
 pub loop-place-preserved : goal.loop-place-preserved
@@ -48,8 +48,8 @@ loop-place-preserved c =
       counted_next t openings units k unit found c.loop-place.counts.items c.push.new.self.items c.len-count.result c.loop-place-test.true c.index-units-place.is old.long many c.in_ok-push.ensures.items c.in_ok-found.ensures
           c.loop-place.walked c.walked_with-walked.result (not_so c.is_full.result c.is_full.ensures c.if-is_full.false) more old,
       λ few. let less : c.loop-place.walked ≤ 20000000 = omega (arith, few, more) in
-          below_next t openings units k unit found c.deref-in-loop-place.result.now c.loop-place.rows.items c.keep.new.rows.items
-          c.loop-place-test.true c.index-units-place.is c.deref-in-loop-place.ensures.value c.in_ok-found.ensures (c.in_ok-keep.ensures few) (c.loop-place.invariant.1 less),
+          below_next t openings units k unit found c.deref.result.now c.loop-place.rows.items c.keep.new.rows.items
+          c.loop-place-test.true c.index-units-place.is c.deref.ensures.value c.in_ok-found.ensures (c.in_ok-keep.ensures few) (c.loop-place.invariant.1 less),
     )
 
 pub returns : goal.returns
