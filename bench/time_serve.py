@@ -510,4 +510,5 @@ def main():
         parts[name]()
 
 
-main()
+if __name__ == "__main__":
+    main()
