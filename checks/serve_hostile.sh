@@ -19,32 +19,35 @@ mkdir "$base/folder/unit.geojson" || exit 1
 ln -s /dev/zero "$base/device/unit.geojson" || exit 1
 ln -s "$here/examples/station/unit.geojson" "$base/linked/unit.geojson" || exit 1
 
-# A folder that breaks no rule and takes seconds to be judged: five thousand rooms of one box, and as many openings inside it.
-cp -R "$here/examples/station" "$base/slow" && python3 - "$base/slow" <<'PYTHON' || exit 1
+# A folder that breaks no rule and takes seconds to be judged: eight rooms more, whose border goes to and fro between a short column and a long one.
+cp -R "$here/examples/station" "$base/slow" && python3 - "$base/slow/unit.geojson" <<'PYTHON' || exit 1
 import copy
 import json
 import sys
 
-folder = sys.argv[1]
+COUNT = 9_997  # of ways to and fro: 19,999 positions a ring
 
 
-def add(kind, of, line):
-    """Adds copies of a feature of this kind whose identifier ends so, with identifiers of their own."""
-    with open(f"{folder}/{kind}.geojson", encoding="utf-8") as file:
-        collection = json.load(file)
-    one = next(it for it in collection["features"] if it["id"].endswith(of))
-    for number in range(5000):
-        more = copy.deepcopy(one)
-        more["id"] = f"00000000-0000-4000-{'a' if line else 'b'}000-{number:012x}"
-        if line:
-            more["geometry"]["coordinates"] = line
-        collection["features"].append(more)
-    with open(f"{folder}/{kind}.geojson", "w", encoding="utf-8") as file:
-        json.dump(collection, file)
+def position(x, y):
+    return [round(10 + (700_000 + x) / 10**9, 9), round(50 + (10_000 + y) / 10**9, 9)]
 
 
-add("unit", "0305", None)
-add("opening", "0101", [[10.00019, 50.00005], [10.00021, 50.00005]])
+def fan():
+    ring = [it for k in range(COUNT) for it in ((0, k), (100_000, 20 * k))]
+    ring += [(100_000, 20 * COUNT), (-1000, 20 * COUNT), (-1000, 0), (-500, 0), (0, 0)]
+    return [position(*it) for it in ring]
+
+
+with open(sys.argv[1], encoding="utf-8") as file:
+    collection = json.load(file)
+room = next(it for it in collection["features"] if it["id"].endswith("0305"))
+for number in range(8):
+    more = copy.deepcopy(room)
+    more["id"] = f"00000000-0000-4000-b000-{number:012x}"
+    more["geometry"]["coordinates"] = [fan()]
+    collection["features"].append(more)
+with open(sys.argv[1], "w", encoding="utf-8") as file:
+    json.dump(collection, file)
 PYTHON
 
 # What staff are answered, and the status.
