@@ -44,6 +44,10 @@ status 3'
 compare 'a session beside the server' "$(session log)" 'fault disk
 status 3'
 end
+cp "$base/log.journal" "$work/kept"
+timeout 20 "$program" serve "$base" station 127.0.0.1:$port 1 1 log >&-
+compare 'the status where nothing can be printed' $? 3
+compare 'the journal where nothing can be printed' "$(cmp "$base/log.journal" "$work/kept")" ''
 
 serve 2 1000 log
 compare 'the version after a restart' "$(ask version)" '{"closed":1,"places":33,"version":2}'

@@ -2,6 +2,7 @@
 #![tactic(auto)]
 
 use std::env;
+use std::fs::File;
 use std::process::ExitCode;
 use venue_ports::{Console, DirFolders, FileDisks};
 use venue_program::{WordsFault, exit_after, words_fault};
@@ -21,7 +22,18 @@ fn words_of(rt: &HostRuntime) -> Result<Vec<String>, WordsFault> {
     }
 }
 
+// The root, which can neither be read nor written.
+fn root(rt: &HostRuntime) -> Option<File> {
+    File::open(rt, "/").ok()
+}
+
+// Three files that take the numbers of standard streams that are closed. Else the journal could get one, and be printed over.
+fn stand_ins(rt: &HostRuntime) -> [Option<File>; 3] {
+    [root(rt), root(rt), root(rt)]
+}
+
 fn main(rt: HostRuntime) -> ExitCode {
+    let _held = stand_ins(&rt);
     let mut console = Console::new(&rt);
     let folders = DirFolders::new(&rt);
     let Ok(lobby) = Lobby::new(rt.alloc()) else {
