@@ -1,6 +1,6 @@
 #!/usr/bin/env bash
 # How long staff's changes take while a folder within every limit that was made to be judged slowly is published again and again, each folder beside
-# the same changes while nobody publishes. Wanted of each: at most 50 ms at the ninety-ninth of a hundred.
+# the same changes while nobody publishes. Wanted of each: at most 50 ms at the ninety-ninth of a hundred, where those count too that fell due while one waited.
 #
 # usage: changes.sh [NAME ..]   (names of hostile_folders.py; without one all)
 # It wants python3, and up to 6 GiB of memory, past which the service has none. A folder takes up to two minutes.

@@ -4,7 +4,7 @@ usage: time_changes.py PROGRAM BASE NAME TITLE   (BASE is made by hostile_folder
 BASE gets a staff key and the folder `small`, which is served. One client closes feature 3 and opens it again, a change each 25 ms: for ten seconds
 alone, then while another client publishes `folder`, for 30 seconds or until the first publication is answered, at most 90. A change is timed from the
 first byte that is sent to the last of its answer. Feature 3 is a unit of `small` and of most folders; once one is published that has none, the answer is
-that there is no such feature. It waits for the same, counts as well, and is told apart. The service has 6 GiB of addresses.
+that there is no such feature. It is counted with the changes, and how many there were is printed. The service has 6 GiB of addresses.
 """
 import collections
 import contextlib
@@ -28,6 +28,7 @@ WANTED = 50
 FEATURE = identifier(3)
 MISSING = 404, b'{"error":"no_such_feature"}'
 PUBLISHED, REJECTED, NO_MEMORY = 200, 422, 503
+NO_ANSWER = "no answer"
 
 
 def prepare(base):
@@ -112,15 +113,15 @@ class Publications:
         while not self.over.is_set():
             self.begun = time.monotonic()
             answer = self.publish()
-            took, self.begun = time.monotonic() - self.begun, None
-            self.answers.append((answer, took))
+            self.answers.append((answer, time.monotonic() - self.begun))
+            self.begun = None
 
     def publish(self):
         try:
             with connect(self.port) as link:
                 status, said, _ = post(link, "/v1/publish", {"folder": "folder"})
         except (OSError, http.client.HTTPException):
-            return "no answer"
+            return NO_ANSWER
         if status == PUBLISHED:
             return "200"
         found = re.search(rb'"findings":\[(\{.*?\})', said)
@@ -132,18 +133,21 @@ class Publications:
     def end(self):
         """What was answered until now, and for how long one has been waiting; it is left alone."""
         self.over.set()
-        begun, answers = self.begun, list(self.answers)
+        answers, begun = list(self.answers), self.begun
         return answers, None if begun is None else time.monotonic() - begun
+
+    def has_answer(self):
+        return any(answer != NO_ANSWER for answer, _ in self.answers)
 
 
 def is_known(answer):
-    return answer == "no answer" or int(answer.split()[0]) in (PUBLISHED, REJECTED, NO_MEMORY)
+    return answer == NO_ANSWER or int(answer.split()[0]) in (PUBLISHED, REJECTED, NO_MEMORY)
 
 
 def tell(answers, waiting):
     counts = collections.Counter(answer for answer, _ in answers)
-    told = [f"{len(answers)} publications answered"]
-    told += [f"{count} by {answer}" for answer, count in counts.most_common()]
+    told = [f"{len(answers)} publications ended"]
+    told += [f"{count} with {answer}" for answer, count in counts.most_common()]
     if answers:
         told.append(f"longest {max(took for _, took in answers):.2f} s")
     if waiting is not None:
@@ -155,7 +159,7 @@ def measure(port):
     """The changes alone, those beside publications, and what became of these."""
     alone = Changes(port, lambda seconds: seconds >= ALONE)
     publications = Publications(port)
-    beside = Changes(port, lambda seconds: seconds >= MOST or (seconds >= LEAST and publications.answers))
+    beside = Changes(port, lambda seconds: seconds >= MOST or (seconds >= LEAST and publications.has_answer()))
     return alone, beside, *publications.end()
 
 
@@ -171,8 +175,8 @@ def main(program, base, name, title):
     print(f"{title}: {len(beside.times)} changes, {beside.missing} of no feature, {beside}", end="; ")
     print(f"ninety-ninth {beside.with_due():.2f} with those that fell due while one waited; nobody publishes: {alone}", end="; ")
     print(tell(answers, waiting), flush=True)
-    ours, theirs = beside.at(99), alone.at(99)
-    row(f"a change beside {name}, ninety-ninth", f"{ours:.1f} ms", f"nobody publishes {theirs:.1f} ms", ours / theirs, f"at most {WANTED} ms")
+    ours, theirs = beside.with_due(), alone.with_due()
+    row(f"a change beside {name}, ninety-ninth with those that fell due", f"{ours:.1f} ms", f"nobody publishes {theirs:.1f} ms", ours / theirs, f"at most {WANTED} ms")
 
 
 main(*sys.argv[1:])

@@ -7,7 +7,7 @@
 # It prints a line for each difference and one at the end, and ends with status 1 at a difference.
 program=${1-$(dirname "$0")/../venue}
 . "$(dirname "$0")/serving.sh"
-need curl
+need curl cmp
 base=$work/base
 mkdir "$base" && cp -R "$here/examples/station" "$here/examples/venue.toml" "$base" || exit 1
 
@@ -45,9 +45,14 @@ compare 'a session beside the server' "$(session log)" 'fault disk
 status 3'
 end
 cp "$base/log.journal" "$work/kept"
+serve 1 1 log 2>&-
+compare 'the version without standard error' "$(ask version)" '{"closed":*,"version":3}'
+wait $server
+compare 'the status without standard error' $? 0
+compare 'the journal without standard error' "$(cmp "$base/log.journal" "$work/kept" 2>&1)" ''
 timeout 20 "$program" serve "$base" station 127.0.0.1:$port 1 1 log >&-
 compare 'the status where nothing can be printed' $? 3
-compare 'the journal where nothing can be printed' "$(cmp "$base/log.journal" "$work/kept")" ''
+compare 'the journal where nothing can be printed' "$(cmp "$base/log.journal" "$work/kept" 2>&1)" ''
 
 serve 2 1000 log
 compare 'the version after a restart' "$(ask version)" '{"closed":1,"places":33,"version":2}'
