@@ -46,7 +46,7 @@ status 3'
 end
 cp "$base/log.journal" "$work/kept"
 serve 1 1 log 2>&-
-compare 'the version without standard error' "$(ask version)" '{"closed":*,"version":3}'
+compare 'the version without standard error' "$(ask version)" '{"closed":1,"places":33,"version":2}'
 wait $server
 compare 'the status without standard error' $? 0
 compare 'the journal without standard error' "$(cmp "$base/log.journal" "$work/kept" 2>&1)" ''
