@@ -42,6 +42,8 @@ rule_at rule.K3 = refl
 rule_at rule.K4 = refl
 rule_at rule.S5 = refl
 rule_at rule.S6 = refl
+rule_at rule.S7 = refl
+rule_at rule.S8 = refl
 
 pub note_at : (n : NoteKind) → note_numbered (note_number n) ≡ Some n
 note_at kind.N1 = refl

@@ -47,6 +47,8 @@ rule_number rule.K3 = 32
 rule_number rule.K4 = 33
 rule_number rule.S5 = 34
 rule_number rule.S6 = 35
+rule_number rule.S7 = 36
+rule_number rule.S8 = 37
 
 -- its name
 abbrev pub rule_name : Rule → List ℕ
@@ -85,13 +87,16 @@ rule_name rule.K3 = codes "K3"
 rule_name rule.K4 = codes "K4"
 rule_name rule.S5 = codes "S5"
 rule_name rule.S6 = codes "S6"
+rule_name rule.S7 = codes "S7"
+rule_name rule.S8 = codes "S8"
 
 -- the rules in the order of their numbers
 abbrev pub all_rules : List Rule
 all_rules =
     rule.F1 ∷ rule.F2 ∷ rule.F3 ∷ rule.F4 ∷ rule.M1 ∷ rule.M2 ∷ rule.M3 ∷ rule.C1 ∷ rule.C2 ∷ rule.C3 ∷ rule.C4 ∷ rule.C5 ∷ rule.C6
     ∷ rule.V1 ∷ rule.L1 ∷ rule.Q1 ∷ rule.S1 ∷ rule.S2 ∷ rule.S3 ∷ rule.S4 ∷ rule.G1 ∷ rule.G2 ∷ rule.C7 ∷ rule.X1 ∷ rule.X2 ∷ rule.G6
-    ∷ rule.G3 ∷ rule.G4 ∷ rule.G5 ∷ rule.K1 ∷ rule.K2 ∷ rule.K3 ∷ rule.K4 ∷ rule.S5 ∷ rule.S6 ∷ []
+    ∷ rule.G3 ∷ rule.G4 ∷ rule.G5 ∷ rule.K1 ∷ rule.K2 ∷ rule.K3 ∷ rule.K4 ∷ rule.S5 ∷ rule.S6
+    ∷ rule.S7 ∷ rule.S8 ∷ []
 
 -- the rule of a number
 abbrev pub rule_numbered : ℕ → Option Rule

@@ -78,6 +78,11 @@ pub enum Rule {
     S5,
     /// The squares of the numbers of members of all walkable units sum to at most 20,000,000.
     S6,
+    /// There are at most 400,000 nodes.
+    S7,
+    /// The squares of the numbers of members, each times the unit's edges, of all walkable units but moving walkways sum to at most
+    /// 2,000,000,000.
+    S8,
 }
 
 /// What is worth a note.
@@ -96,7 +101,7 @@ pub enum NoteKind {
 }
 
 // The rules in the order of their numbers.
-static RULES: [Rule; 35] = [
+static RULES: [Rule; 37] = [
     Rule::F1,
     Rule::F2,
     Rule::F3,
@@ -132,6 +137,8 @@ static RULES: [Rule; 35] = [
     Rule::K4,
     Rule::S5,
     Rule::S6,
+    Rule::S7,
+    Rule::S8,
 ];
 
 // The notes in the order of their numbers.
@@ -194,6 +201,8 @@ impl Rule {
             Rule::K4 => 33,
             Rule::S5 => 34,
             Rule::S6 => 35,
+            Rule::S7 => 36,
+            Rule::S8 => 37,
         }
     }
 
@@ -244,6 +253,8 @@ impl Rule {
             Rule::K4 => "K4",
             Rule::S5 => "S5",
             Rule::S6 => "S6",
+            Rule::S7 => "S7",
+            Rule::S8 => "S8",
         }
     }
 }

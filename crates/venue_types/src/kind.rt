@@ -1,4 +1,4 @@
-//! Kinds of passage, and classes of places.
+//! Kinds of passage, and classes of nodes.
 
 /// How a link is passed.
 #[derive(Clone, Copy, Debug, PartialEq, Eq)]
@@ -12,7 +12,7 @@ pub enum Kind {
     Traversal,
 }
 
-/// What a place is.
+/// What a node is: a place of a class, or a corner of a unit, which is no place.
 #[derive(Clone, Copy, Debug, PartialEq, Eq)]
 pub enum Class {
     Amenity,
@@ -20,4 +20,5 @@ pub enum Class {
     Occupant,
     Opening,
     Unit,
+    Corner,
 }

@@ -5,8 +5,11 @@ use crate::{Class, FeatureId, Kind, List, Spot};
 /// A place where walks begin, end and turn.
 #[derive(Clone, Copy, Debug, PartialEq, Eq)]
 pub struct Node {
+    /// Its feature; of a corner its unit.
     pub id: FeatureId,
     pub class: Class,
+    /// Its number among the corners of its unit, from 1; 0 where it is no corner.
+    pub corner: u32,
     pub spot: Spot,
 }
 
