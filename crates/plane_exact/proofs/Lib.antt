@@ -20,3 +20,5 @@ pub mod AreaLemmas
 pub mod TurnLemmas
 pub mod CornerLaws
 pub mod ScalingLemmas
+pub mod CornerCounts
+pub mod WalkLemmas

@@ -1,7 +1,7 @@
 -- Steps of loops whose result the items ahead decide.
 use Rattle.std.proofs.Common.{◌≡◌, ℕ, zero, suc, ◌+◌, ◌-◌, ◌<◌, ◌≤◌, List, [], ◌∷◌, ◌++◌, length, take, drop, get_or, append_assoc, Any, ◌↔◌, ◌⊎◌, flat_map, inl, inr, refl, sym, subst, ap, ◌∙◌, arith}
 use Rattle.std.proofs.lemmas.List.Concat.{flat_map-append}
-use Rattle.std.proofs.lemmas.List.{at_drop_more, take_all}
+use Rattle.std.proofs.lemmas.List.{at_drop_more, length-append, take_all}
 
 -- what is ahead begins with the item at hand
 pub drop_at : {X : Type 0} (xs : List X) (i : ℕ) (x d : X) → i < length xs → get_or xs i d ≡ x → drop i xs ≡ x ∷ drop (i + 1) xs
@@ -58,7 +58,27 @@ pub added_step : {X Y : Type 0} (f : X → List Y) (list new all : List Y) (item
 added_step f list new all items i x d within at e h =
     ap (λ ys. ys ++ flat_map f (drop (i + 1) items)) e ∙ append_assoc list (f x) (flat_map f (drop (i + 1) items)) ∙ ap (λ ys. list ++ flat_map f ys) (sym (drop_at items i x d within at)) ∙ h
 
+-- what is read of a list that is handed on is the list's item
+pub read_item : {X : Type 0} (read items : List X) (i : ℕ) (x : X) → read ≡ items → x ≡ get_or read i x → get_or items i x ≡ x
+read_item read items i x e at = ap (λ list. get_or list i x) (sym e) ∙ sym at
+
 -- what a pattern reads is the whole list
 pub read_whole : {X : Type 0} (xs : List X) (d : X) → 1 ≤ length xs → get_or xs 0 d ∷ take (length xs - 1) (drop 1 xs) ≡ xs
 read_whole [] d some = absurd (omega (arith, some))
 read_whole (x ∷ xs) d some = let all : length xs ≤ length (x ∷ xs) - 1 = omega arith in ap (λ ys. x ∷ ys) (take_all (length (x ∷ xs) - 1) xs all)
+
+-- ---- a count of what lies in lists
+
+-- at the beginning
+pub count_none : {X : Type 0} (xs ys : List X) → xs ≡ ys → 0 + length xs ≡ length ys
+count_none xs ys e = omega (arith, ap (λ zs. length zs) e)
+
+-- one list further
+pub count_step : {X Y : Type 0} (f : X → List Y) (count more all : ℕ) (items : List X) (i : ℕ) (x d : X) → i < length items → get_or items i d ≡ x → more ≡ length (f x) → count + length (flat_map f (drop i items)) ≡ all → (count + more) + length (flat_map f (drop (i + 1) items)) ≡ all
+count_step f count more all items i x d within at e h =
+    omega (arith, e, h, ap (λ ys. length (flat_map f ys)) (drop_at items i x d within at), length-append (f x) (flat_map f (drop (i + 1) items)))
+
+-- what lies in one list ahead is no more than all
+pub count_one : {X Y : Type 0} (f : X → List Y) (count all : ℕ) (items : List X) (i : ℕ) (x d : X) → i < length items → get_or items i d ≡ x → count + length (flat_map f (drop i items)) ≡ all → count + length (f x) ≤ all
+count_one f count all items i x d within at h =
+    omega (arith, count_step f count (length (f x)) all items i x d within at refl h)

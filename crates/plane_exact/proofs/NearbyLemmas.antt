@@ -104,7 +104,7 @@ first_close p d points [] e some h = absurd (omega (arith, some))
 first_close p d points (a ∷ rest) e some h = start_close p a rest (subst (λ (xs : List Point). AllNearby (p ∷ xs)) (sym e) h)
 
 -- with one of the points as origin
-with_origin : (origin q : Point) (points : List Point) → Contains points origin → Contains (origin ∷ points) q → Contains points q
+pub with_origin : (origin q : Point) (points : List Point) → Contains points origin → Contains (origin ∷ points) q → Contains points q
 with_origin origin q points has (zero, within, at) = subst (λ (x : Point). Contains points x) at has
 with_origin origin q points has (suc k, within, at) = (k, omega arith, at)
 

@@ -1,5 +1,5 @@
 -- The corners of a room, at which one turns who walks round a wall.
-use Rattle.std.specs.Prelude.{ℤ, pos, neg_ℤ, ◌+ℤ◌, ◌*ℤ◌, ◌<ℤ◌, Bool, ◌&&◌, int_lt, List, [], ◌∷◌, ◌++◌, map, filter}
+use Rattle.std.specs.Prelude.{ℤ, pos, neg_ℤ, ◌+ℤ◌, ◌*ℤ◌, ◌<ℤ◌, Bool, ◌&&◌, cond, int_lt, List, [], ◌∷◌, ◌++◌, map, filter}
 use Rattle.std.specs.List.{dedup, flat_map}
 use Rattle.std.specs.Ordering.{int_eq}
 use Rattle.venue_types.specs.declared.point.Point.{Point}
@@ -82,3 +82,19 @@ part_corners part = ring_corners (doubled_area part.outer) part.outer ++ flat_ma
 -- of a shape, by polygon, ring and place
 abbrev pub corners : Shape → List Point
 corners shape = flat_map part_corners shape.parts
+
+-- ---- corners told on a walk that copies no ring
+
+-- the point from which one comes to c, who came from a to b: equal neighbours are one point
+abbrev pub point_before : Point → Point → Point → Point
+point_before a b c = cond (is_same c b) a b
+
+-- the last but one of the points a ∷ b ∷ rest, equal neighbours taken once
+abbrev pub before_last : Point → Point → List Point → Point
+before_last a b [] = a
+before_last a b (c ∷ rest) = before_last (point_before a b c) c rest
+
+-- the corners of a line that comes from a to b and goes on through the rest, equal neighbours taken once
+abbrev pub line_corners : ℤ → Point → Point → List Point → List Point
+line_corners area a b [] = []
+line_corners area a b (c ∷ rest) = cond (is_corner area (record { before = a; at = b; behind = c })) (b ∷ []) [] ++ line_corners area (point_before a b c) c rest

@@ -3,7 +3,9 @@
 
 mod areas;
 mod borders;
+mod corner_counts;
 mod corner_laws;
+mod edge_counts;
 mod laws;
 mod lengths;
 mod numbers;
@@ -17,7 +19,9 @@ mod walls;
 
 pub use areas::doubled_area;
 pub use borders::{near, near_chain, near_ring};
-pub use corner_laws::{area_law, corner_law};
+pub use corner_counts::corner_count;
+pub use corner_laws::{area_law, corner_count_law, corner_law};
+pub use edge_counts::edge_count;
 pub use laws::{detour_law, length_law, near_edge_law, turn_law};
 pub use lengths::{length_cm, spans};
 pub use rays::{inside, inside_ring, is_odd_at_chain};

@@ -1,10 +1,9 @@
 //! The corners of a shape, at which one turns who walks round a wall.
 
-ghost use Rattle.std.specs.Prelude.{◌≡◌, [], ◌∷◌, ◌++◌, ◌*ℤ◌, neg_ℤ, pos, int_lt, cond, Contains, IfOk, map, filter, flat_map};
-ghost use Rattle.std.specs.List.{dedup};
+ghost use Rattle.std.specs.Prelude.{◌≡◌, [], ◌∷◌, ◌++◌, ◌*ℤ◌, neg_ℤ, pos, int_lt, cond, IfOk, flat_map};
 ghost use Rattle.plane_exact.specs.Plane.{IsNearby};
 ghost use Rattle.plane_exact.specs.Figure.{AllNearby, vertices, part_points, ring_points};
-ghost use Rattle.plane_exact.specs.Corners.{Turn, doubled_area, corners, part_corners, hole_corners, ring_corners, turns_round, turns_from, is_same, is_corner};
+ghost use Rattle.plane_exact.specs.Corners.{doubled_area, corners, part_corners, hole_corners, ring_corners, line_corners, is_corner, point_before, before_last};
 
 use crate::areas::bounded_area;
 use crate::numbers::cross_product;
@@ -18,34 +17,34 @@ pub fn corners(alloc: Global, shape: &Shape) -> Result<List<Point>, OutOfMemory>
 {
     let mut list = Vec::new(alloc);
     for part in shape.parts.as_slice() {
-        add_part(alloc, part, &mut list)?;
+        add_part(part, &mut list)?;
     }
     Ok(List::from_vec(list))
 }
 
 // Adds the corners of the polygon.
-fn add_part(alloc: Global, part: &Part, list: &mut Vec<Point>) -> Result<(), OutOfMemory>
+fn add_part(part: &Part, list: &mut Vec<Point>) -> Result<(), OutOfMemory>
     requires { AllNearby (part_points part.now) }
     ensures { IfOk result (λ _. list.new.items ≡ list.old.items ++ part_corners part.now) }
 {
     let outer = &part.outer;
-    add_ring(alloc, outer, bounded_area(outer), list)?;
-    add_holes(alloc, part.holes.as_slice(), list)
+    add_ring(outer, bounded_area(outer), list)?;
+    add_holes(part.holes.as_slice(), list)
 }
 
 // Adds the corners of the holes, whose areas count the other way round.
-fn add_holes(alloc: Global, holes: &[Ring], list: &mut Vec<Point>) -> Result<(), OutOfMemory>
+fn add_holes(holes: &[Ring], list: &mut Vec<Point>) -> Result<(), OutOfMemory>
     requires { AllNearby (ring_points holes.now) }
     ensures { IfOk result (λ _. list.new.items ≡ list.old.items ++ flat_map hole_corners holes.now) }
 {
     for hole in holes {
-        add_ring(alloc, hole, turned_area(hole), list)?;
+        add_ring(hole, turned_area(hole), list)?;
     }
     Ok(())
 }
 
-// Twice the area of a hole as its polygon sees it, which lies outside of it.
-fn turned_area(hole: &Ring) -> i128
+/// Twice the area of a hole as its polygon sees it, which lies outside of it.
+pub(crate) fn turned_area(hole: &Ring) -> i128
     requires { AllNearby hole.now.points }
     ensures { result ≡ neg_ℤ (doubled_area hole.now) }
 {
@@ -53,41 +52,37 @@ fn turned_area(hole: &Ring) -> i128
 }
 
 // Adds the corners of a ring of that area.
-fn add_ring(
-    alloc: Global,
-    ring: &Ring,
-    area: i128,
-    list: &mut Vec<Point>,
-) -> Result<(), OutOfMemory>
+fn add_ring(ring: &Ring, area: i128, list: &mut Vec<Point>) -> Result<(), OutOfMemory>
     requires { AllNearby ring.now.points }
     ensures { IfOk result (λ _. list.new.items ≡ list.old.items ++ ring_corners area ring.now) }
 {
-    let points = distinct(alloc, ring)?;
-    match points.as_slice() {
+    match ring.points.as_slice() {
         [] => Ok(()),
         [first, rest @ ..] => add_line(last_but_one(*first, rest), *first, rest, area, list),
     }
 }
 
-// The points of the ring, equal neighbours taken once.
-fn distinct(alloc: Global, ring: &Ring) -> Result<Vec<Point>, OutOfMemory>
-    ensures { IfOk result (λ points. points.items ≡ dedup is_same ring.now.points) }
+/// The point from which one comes to the first of a ring, equal neighbours taken once. The last is the first again.
+pub(crate) fn last_but_one(first: Point, rest: &[Point]) -> Point
+    ensures { result ≡ before_last first first rest.now }
 {
-    let mut points = ring.points.as_slice().to_vec(alloc)?;
-    points.dedup();
-    Ok(points)
+    match rest {
+        [] => first,
+        [line @ .., last] => last_other(first, line, *last),
+    }
 }
 
-// The point from which one comes to the first of a ring. The last is the first again.
-fn last_but_one(first: Point, rest: &[Point]) -> Point
-    ensures round { turns_from result first rest.now ≡ turns_round (first ∷ rest.now) }
-    ensures among { Contains (first ∷ rest.now) result }
+// The point of the line that is nearest to its end and isn't `last`, or `first` where each is.
+fn last_other(first: Point, line: &[Point], last: Point) -> Point
+    ensures { result ≡ before_last first first (line.now ++ last ∷ []) }
 {
-    if rest.len() < 2 {
-        first
-    } else {
-        rest[rest.len() - 2]
+    for i in 0..line.len() {
+        let point = line[line.len() - 1 - i];
+        if last != point {
+            return point;
+        }
     }
+    first
 }
 
 // Adds the corners of the line that comes from `before` to `at` and goes on through `rest`.
@@ -99,16 +94,23 @@ fn add_line(
     list: &mut Vec<Point>,
 ) -> Result<(), OutOfMemory>
     requires { AllNearby (before ∷ at ∷ rest.now) }
-    ensures { IfOk result (λ _. list.new.items ≡ list.old.items ++ map (λ (turn : Turn). turn.at) (filter (is_corner area) (turns_from before at rest.now))) }
+    ensures { IfOk result (λ _. list.new.items ≡ list.old.items ++ line_corners area before at rest.now) }
 {
     let mut a = before;
     let mut b = at;
     for c in rest {
         add_if(is_corner(a, b, *c, area), b, list)?;
-        a = b;
+        a = point_before(a, b, *c);
         b = *c;
     }
     Ok(())
+}
+
+/// The point from which one comes to `c`, who came from `a` to `b`. Equal neighbours are one point.
+pub(crate) fn point_before(a: Point, b: Point, c: Point) -> Point
+    ensures { result ≡ point_before a b c }
+{
+    if c == b { a } else { b }
 }
 
 // Adds the point where the fact holds.
@@ -121,8 +123,8 @@ fn add_if(holds: bool, point: Point, list: &mut Vec<Point>) -> Result<(), OutOfM
     Ok(())
 }
 
-// Whether one turns against the area, who comes from `before` to `at` and goes on to `behind`.
-fn is_corner(before: Point, at: Point, behind: Point, area: i128) -> bool
+/// Whether one turns against the area, who comes from `before` to `at` and goes on to `behind`. Between equal points there is no turn.
+pub(crate) fn is_corner(before: Point, at: Point, behind: Point, area: i128) -> bool
     requires step { IsNearby before at }
     requires turn { IsNearby before behind }
     ensures { result ≡ is_corner area (record { before = before; at = at; behind = behind }) }
