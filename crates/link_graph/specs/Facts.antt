@@ -9,15 +9,16 @@ use Rattle.venue_types.specs.declared.link.Node.{Node}
 use Rattle.venue_types.specs.declared.settings.Settings.{Settings}
 use Rattle.imdf_access.specs.Access.{End, facts_of}
 use Rattle.imdf_access.specs.Access as access
-use Rattle.venue_nodes.specs.Nodes.{NodeRow, amenity, anchor, opening, unit, node_rows, nodes, closables}
+use Rattle.venue_nodes.specs.Nodes.{NodeRow, amenity, anchor, opening, unit, corner, node_rows, nodes, closables}
 use Rattle.link_graph.specs.Links.{first_unit}
 
--- what stands at a node, as far as it has a say on access
+-- what stands at a node, as far as it has a say on access: at a corner its unit
 abbrev pub end_of : NodeRow → End
 end_of (amenity row) = access.elsewhere
 end_of (anchor row) = access.elsewhere
 end_of (opening row) = access.opening row
 end_of (unit row) = access.unit row
+end_of (corner row n p) = access.unit row
 
 abbrev pub end_at : Features → Settings → ℕ → End
 end_at features settings n = elim (slice_get (node_rows features settings) n) [ None ↦ access.elsewhere | Some row ↦ end_of row ]

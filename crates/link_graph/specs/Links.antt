@@ -11,7 +11,7 @@ use Rattle.venue_types.specs.declared.point.Spot.{Spot}
 use Rattle.venue_types.specs.declared.settings.Extras.{Extras}
 use Rattle.venue_types.specs.declared.settings.Settings.{Settings}
 use Rattle.imdf_access.specs.Categories.{is_walkable, unit_kind_of}
-use Rattle.venue_nodes.specs.Nodes.{nodes, place_of}
+use Rattle.venue_nodes.specs.Nodes.{nodes, place_of, carries}
 use Rattle.venue_nodes.specs.Members.{members}
 use Rattle.venue_nodes.specs.Unplaced.{Element, elements}
 use Rattle.link_graph.specs.Lengths.{length_between}
@@ -46,18 +46,13 @@ inside_link features settings via u a b = record { from = a; to = b; via = via; 
 abbrev pub links_from : Features → Settings → ℕ → UnitRow → ℕ → List Link
 links_from features settings via u a = map (inside_link features settings via u a) (filter (are_joined features settings u a) (members features settings u))
 
--- whether it is a moving walkway, which one doesn't cross
-abbrev pub is_moving : Kind → Bool
-is_moving kinds.Movingwalkway = true
-is_moving _ = false
-
 -- the closable number of the first unit, behind the openings and the relationships
 abbrev pub first_unit : Features → ℕ
 first_unit features = length features.openings + length features.relationships
 
 -- whether one walks between the members of a unit: unless it is solid or a moving walkway
 abbrev pub has_links : UnitRow → Bool
-has_links u = is_walkable u.category && not (is_moving (unit_kind_of u.category))
+has_links u = is_walkable u.category && not (carries u)
 
 -- the links inside a unit: by the first end, then by the second
 abbrev pub unit_links : Features → Settings → (ℕ × UnitRow) → List Link

@@ -15,7 +15,7 @@ use Rattle.venue_nodes.specs.declared.members.Membership.{Membership}
 use Rattle.venue_nodes.specs.declared.nodes.Nodes.{Nodes}
 use Rattle.venue_nodes.specs.Crowds.{IsRoomy, square_of}
 use Rattle.venue_nodes.specs.Members.{places_where}
-use Rattle.venue_nodes.specs.Nodes.{NodeRow, amenity, anchor, opening, unit, node_rows}
+use Rattle.venue_nodes.specs.Nodes.{NodeRow, amenity, anchor, opening, unit, corner, node_rows, carries}
 use Rattle.venue_nodes.specs.Rows.{AreRowsOf, row_list}
 use Rattle.venue_nodes.specs.Standing.{standings}
 use Rattle.venue_nodes.specs.Views.{AreNodes, node_list, find_closable}
@@ -25,13 +25,13 @@ use Rattle.link_graph.specs.declared.parts.Door.{Door}
 use Rattle.link_graph.specs.declared.parts.Seat.{Seat}
 use Rattle.link_graph.specs.declared.trails.Ground.{Ground}
 use Rattle.link_graph.specs.Facts.{end_of}
-use Rattle.link_graph.specs.Links.{first_unit, is_moving, relationship_links}
+use Rattle.link_graph.specs.Links.{first_unit, relationship_links}
 
 -- ---- units
 
 -- the unit of this number among what can be closed, as one that is crossed
 abbrev pub crossing_of : ℕ → UnitRow → Crossing
-crossing_of via u = record { via = via; kind = unit_kind_of u.category; walked = not (is_moving (unit_kind_of u.category)) }
+crossing_of via u = record { via = via; kind = unit_kind_of u.category; walked = not (carries u) }
 
 -- the walkable ones of the units, which are numbered from here
 abbrev pub crossings_from : ℕ → List UnitRow → List Crossing
@@ -49,6 +49,7 @@ id_of_row (amenity row) = row.id
 id_of_row (anchor row) = row.id
 id_of_row (opening row) = row.id
 id_of_row (unit row) = row.id
+id_of_row (corner row n p) = row.id
 
 -- what is known of the node of a feature, by the numbers of what can be closed
 abbrev pub door_of : (FeatureId → Option ℕ) → NodeRow → Door

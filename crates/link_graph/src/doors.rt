@@ -134,7 +134,8 @@ pub(crate) fn doors_of(
     features: &Features,
     nodes: &Nodes,
 ) -> Result<Vec<Door>, OutOfMemory>
-    ensures { IfOk result (λ doors. doors.items ≡ map (door_of (find_closable nodes.now)) (place_node_rows features.now)) }
+    requires { AreNodes features.now settings nodes.now }
+    ensures { IfOk result (λ doors. doors.items ≡ map (door_of (find_closable nodes.now)) (node_rows features.now settings)) }
 {
     let mut doors = Vec::new(alloc);
     add_doors(&mut doors, nodes, features.amenities.as_slice())?;

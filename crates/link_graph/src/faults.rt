@@ -1,13 +1,15 @@
 //! Why there is no graph.
 
 ghost use Rattle.std.specs.Prelude.{◌≡◌, ◌≢◌, [], IfOk};
+ghost use Rattle.venue_nodes.specs.Figures.{judged_positions};
 ghost use Rattle.venue_nodes.specs.FeatureRows.{HaveOwnIds};
 ghost use Rattle.venue_nodes.specs.Sound.{AreSound};
+ghost use Rattle.plane_exact.specs.Figure.{AllClose};
 ghost use Rattle.link_graph.specs.declared.faults.GraphFault.TheVariants.{OutOfMemory as NoMemory};
 
 use std::alloc::Global;
 use venue_nodes::{Crowding, crowding_by, limit_findings};
-use venue_types::{Features, Finding, List, OutOfMemory};
+use venue_types::{Features, Finding, List, OutOfMemory, Settings};
 
 /// Why there is no graph of a venue.
 #[derive(Clone, Copy, Debug, PartialEq, Eq)]
@@ -16,6 +18,11 @@ pub enum GraphFault {
     Members(u32),
     /// No unit has so many, and yet the squares of their numbers of members sum to more than 20,000,000.
     Links,
+    /// These keep their limits, one walks round walls, and there are more than 400,000 nodes.
+    Nodes,
+    /// There are not, and yet the squares, each times the number of its unit's edges, sum to more than 2,000,000,000 over all walkable
+    /// units but moving walkways.
+    Sight,
     /// Memory ran out.
     OutOfMemory,
 }
@@ -30,24 +37,32 @@ impl GraphFault {
     ghost use Rattle.venue_nodes.specs.TouchCounts.{TouchMany};
     ghost use Rattle.link_graph.specs.Faults.{IsFault};
 
-    /// That a limit on members is passed.
+    /// That a limit is passed.
     pub(crate) fn of(crowding: Crowding) -> GraphFault
         ensures { (features : AFeatures) (settings : ASettings) → Crowds features settings (Some crowding) → IsFault features settings result }
     {
         match crowding {
             Crowding::Members(k) => GraphFault::Members(k),
             Crowding::Squares => GraphFault::Links,
+            Crowding::Nodes => GraphFault::Nodes,
+            Crowding::Sight => GraphFault::Sight,
         }
     }
 
     /// That a limit is passed in a folder in which the phases before find nothing, where more openings touch its first units than any
     /// venue may have: so many as are counted.
-    pub fn of_counts(alloc: Global, features: &Features, counts: &[usize]) -> GraphFault
+    pub fn of_counts(
+        alloc: Global,
+        features: &Features,
+        settings: &Settings,
+        counts: &[usize],
+    ) -> GraphFault
         requires sound { AreSound features.now }
         requires own_ids { HaveOwnIds features.now }
-        ensures { (settings : ASettings) → TouchMany settings.border_tol features.now.openings features.now.units counts.now → IsFault features.now settings result }
+        requires close { AllClose (judged_positions features.now) }
+        ensures { TouchMany settings.now.border_tol features.now.openings features.now.units counts.now → IsFault features.now settings.now result }
     {
-        match crowding_by(alloc, features, counts) {
+        match crowding_by(alloc, features, settings, counts) {
             Ok(crowding) => GraphFault::of(crowding),
             Err(OutOfMemory) => GraphFault::OutOfMemory,
         }
@@ -74,6 +89,8 @@ impl GraphFault {
         match self {
             GraphFault::Members(k) => Some(Crowding::Members(k)),
             GraphFault::Links => Some(Crowding::Squares),
+            GraphFault::Nodes => Some(Crowding::Nodes),
+            GraphFault::Sight => Some(Crowding::Sight),
             GraphFault::OutOfMemory => None,
         }
     }

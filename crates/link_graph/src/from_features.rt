@@ -19,8 +19,8 @@ use venue_types::{Features, Settings, Touches};
 impl Graph {
     ghost use Rattle.link_graph.specs.Networks.{IsNetworkOf};
 
-    /// The graph of the features of a folder in which the phases before find nothing, of openings that touch these units; or which limit on
-    /// members it passes first. Takes n log n time and memory in proportion to the features, the members of units and the passages.
+    /// The graph of the features of a folder in which the phases before find nothing, of openings that touch these units; or which limit it
+    /// passes first. Takes n log n time and memory in proportion to the features, the members of units and the passages.
     pub fn build(
         alloc: Global,
         features: &Features,
@@ -37,7 +37,7 @@ impl Graph {
     {
         few_law();
         let rows = Rows::of(alloc, features, settings, touches)?;
-        match first_crowding(&rows) {
+        match first_crowding(features, settings, &rows) {
             Some(crowding) => Err(GraphFault::of(crowding)),
             None => {
                 let nodes = Nodes::of(alloc, features, settings)?;

@@ -42,7 +42,12 @@ pub(crate) fn ground_of(
     ensures fault { IfErr result (IsFault features.now settings.now) }
 {
     match touches(alloc, features, settings)? {
-        Matches::Many(counts) => Err(GraphFault::of_counts(alloc, features, counts.as_slice())),
+        Matches::Many(counts) => Err(GraphFault::of_counts(
+            alloc,
+            features,
+            settings,
+            counts.as_slice(),
+        )),
         Matches::Each(touches) => {
             let graph = Graph::build(alloc, features, &touches, settings)?;
             Ok(Ground { touches, graph })

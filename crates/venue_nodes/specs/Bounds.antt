@@ -6,7 +6,7 @@ use Rattle.feature_rows.specs.Sound.{IsOnEarth}
 use Rattle.feature_rows.specs.Figures.{display_of}
 use Rattle.plane_exact.specs.Figure.{vertices}
 use Rattle.venue_nodes.specs.declared.spots.Bounds.{Bounds}
-use Rattle.venue_nodes.specs.Nodes.{NodeRow, amenity, anchor, opening, unit}
+use Rattle.venue_nodes.specs.Nodes.{NodeRow, amenity, anchor, opening, unit, corner}
 
 -- with one more point
 abbrev pub with_point : Bounds → Point → Bounds
@@ -22,3 +22,4 @@ IsPlaced (amenity row) = IsOnEarth row.point
 IsPlaced (anchor row) = IsOnEarth row.point
 IsPlaced (opening row) = All IsOnEarth row.line.points
 IsPlaced (unit row) = All IsOnEarth (vertices row.shape ++ display_of row)
+IsPlaced (corner row n p) = IsOnEarth p

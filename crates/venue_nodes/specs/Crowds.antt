@@ -3,29 +3,38 @@ use Rattle.std.specs.Prelude.{◌≡◌, ℕ, ◌+◌, ◌*◌, ◌≤◌, ◌<�
 use Rattle.venue_types.specs.declared.features.Features.{Features}
 use Rattle.venue_types.specs.declared.settings.Settings.{Settings}
 use Rattle.venue_nodes.specs.declared.limits.Crowding.{Crowding}
-use Rattle.venue_nodes.specs.declared.limits.Crowding.TheVariants.{Members, Squares}
+use Rattle.venue_nodes.specs.declared.limits.Crowding.TheVariants.{Members, Squares, Nodes, Sight}
 use Rattle.venue_types.specs.declared.finding.Finding.{Finding}
 use Rattle.venue_types.specs.declared.folder_file.File.TheVariants as file
 use Rattle.imdf_schema.specs.Places.{finding_at}
-use Rattle.venue_nodes.specs.declared.rules.LimitRule.TheVariants.{S5, S6}
+use Rattle.venue_nodes.specs.declared.rules.LimitRule.TheVariants.{S5, S6, S7, S8}
 use Rattle.venue_nodes.specs.declared.members.Rows.{Rows}
-use Rattle.venue_nodes.specs.Limits.{IsCrowded, square_sum, rule_of}
+use Rattle.venue_nodes.specs.Limits.{IsCrowded, HasManyNodes, HasMuchSight, square_sum, rule_of}
 use Rattle.venue_nodes.specs.Rows.{row_list, unit_indexes}
 
 -- no unit is crowded
 abbrev pub NoneCrowded : Features → Settings → Type 0
 NoneCrowded features settings = (k : ℕ) → ¬ IsCrowded features settings k
 
--- the unit of this index is the first that is crowded; or none is, and the squares pass their limit, or do not
+-- no unit is crowded, and the squares keep their limit
+abbrev pub IsRoomyVenue : Features → Settings → Type 0
+IsRoomyVenue features settings = NoneCrowded features settings × (square_sum features settings ≤ 20000000)
+
+-- the unit of this index is the first that is crowded; or none is, and the squares pass their limit; or these keep it, and there are too
+-- many nodes; or these are few, and there is too much to look through; or no limit is passed
 abbrev pub Crowds : Features → Settings → Option Crowding → Type 0
 Crowds features settings (Some (Members k)) = IsCrowded features settings k × ((j : ℕ) → j < k → ¬ IsCrowded features settings j)
 Crowds features settings (Some Squares) = NoneCrowded features settings × (20000000 < square_sum features settings)
-Crowds features settings None = NoneCrowded features settings × (square_sum features settings ≤ 20000000)
+Crowds features settings (Some Nodes) = IsRoomyVenue features settings × HasManyNodes features settings
+Crowds features settings (Some Sight) = IsRoomyVenue features settings × (¬ HasManyNodes features settings) × HasMuchSight features settings
+Crowds features settings None = IsRoomyVenue features settings × (¬ HasManyNodes features settings) × (¬ HasMuchSight features settings)
 
--- what is told of a limit that is passed: the unit that is crowded, or of the squares the first unit
+-- what is told of a limit that is passed: the unit that is crowded, or of what is counted over all the first unit
 abbrev pub limit_finding : Crowding → Finding
 limit_finding (Members k) = finding_at (rule_of S5) file.Unit k 0
 limit_finding Squares = finding_at (rule_of S6) file.Unit 0 0
+limit_finding Nodes = finding_at (rule_of S7) file.Unit 0 0
+limit_finding Sight = finding_at (rule_of S8) file.Unit 0 0
 
 -- the row has room: it is no longer than its limit
 abbrev pub IsRoomy : List ℕ → Type 0

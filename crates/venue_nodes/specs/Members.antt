@@ -6,14 +6,15 @@ use Rattle.venue_types.specs.declared.features.UnitRow.{UnitRow}
 use Rattle.venue_types.specs.declared.settings.Settings.{Settings}
 use Rattle.venue_nodes.specs.Identity.{is_same}
 use Rattle.venue_nodes.specs.Touching.{does_touch}
-use Rattle.venue_nodes.specs.Nodes.{NodeRow, amenity, anchor, opening, unit, node_rows}
+use Rattle.venue_nodes.specs.Nodes.{NodeRow, amenity, anchor, opening, unit, corner, node_rows}
 
--- an amenity that names the unit, an anchor that names it, an opening that touches it, and the unit itself
+-- an amenity that names the unit, an anchor that names it, an opening that touches it, the unit itself, and its corners
 abbrev pub is_member : ℕ → UnitRow → NodeRow → Bool
 is_member border_tol u (amenity row) = list_any (λ id. is_same id u.id) row.units
 is_member border_tol u (anchor row) = is_same row.unit u.id
 is_member border_tol u (opening row) = does_touch border_tol row u
 is_member border_tol u (unit row) = is_same row.id u.id
+is_member border_tol u (corner row n p) = is_same row.id u.id
 
 -- the places at which the test holds, counted from n
 abbrev pub places_where : {A : Type 0} → (A → Bool) → ℕ → List A → List ℕ

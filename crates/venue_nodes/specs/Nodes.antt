@@ -1,5 +1,5 @@
 -- The nodes of a venue: where walks begin, end and turn. And what can be closed.
-use Rattle.std.specs.Prelude.{ℕ, pos, ◌+ℤ◌, List, [], ◌∷◌, ◌++◌, map, filter, fold, Option, Some, None, ℤ}
+use Rattle.std.specs.Prelude.{ℕ, ◌+◌, pos, ◌+ℤ◌, List, [], ◌∷◌, ◌++◌, map, filter, flat_map, fold, Bool, true, false, if◌then◌else◌, Option, Some, None, ℤ}
 use Rattle.std.specs.Int.{int_min, int_max}
 use Rattle.std.specs.List.{find, position_from}
 use Rattle.venue_types.specs.declared.feature_id.FeatureId.{FeatureId}
@@ -11,12 +11,17 @@ use Rattle.venue_types.specs.declared.features.OpeningRow.{OpeningRow}
 use Rattle.venue_types.specs.declared.features.RelationshipRow.{RelationshipRow}
 use Rattle.venue_types.specs.declared.features.UnitRow.{UnitRow}
 use Rattle.venue_types.specs.declared.kind.Class.TheVariants as class
+use Rattle.venue_types.specs.declared.kind.Kind.{Kind}
+use Rattle.venue_types.specs.declared.kind.Kind.TheVariants as kinds
 use Rattle.venue_types.specs.declared.link.Node.{Node}
 use Rattle.venue_types.specs.declared.point.Point.{Point}
 use Rattle.venue_types.specs.declared.point.Spot.{Spot}
+use Rattle.venue_types.specs.declared.settings.Inside.{Inside}
+use Rattle.venue_types.specs.declared.settings.Inside.TheVariants as inside
 use Rattle.venue_types.specs.declared.settings.Settings.{Settings}
+use Rattle.plane_exact.specs.Corners.{corners}
 use Rattle.plane_exact.specs.Figure.{vertices}
-use Rattle.imdf_access.specs.Categories.{is_walkable}
+use Rattle.imdf_access.specs.Categories.{is_walkable, unit_kind_of}
 use Rattle.venue_nodes.specs.Identity.{is_same}
 
 -- the middle of two positions, in doubled coordinates
@@ -46,19 +51,21 @@ box_middle (a ∷ rest) = record { x = span_middle (λ (p : Point). p.x) a rest;
 abbrev pub unit_spot : UnitRow → Spot
 unit_spot row = elim row.display [ None ↦ box_middle (vertices row.shape) | Some p ↦ middle p p ]
 
--- the feature that a node stands for
+-- the feature that a node stands for; or a corner of a unit, by its number and its position
 pub data NodeRow : Type 0 where
   amenity : AmenityRow → NodeRow
   anchor : AnchorRow → NodeRow
   opening : OpeningRow → NodeRow
   unit : UnitRow → NodeRow
+  corner : UnitRow → ℕ → Point → NodeRow
 
--- the node of a feature
+-- the node of a feature, or of a corner
 abbrev pub node_of_row : NodeRow → Node
-node_of_row (amenity row) = record { id = row.id; class = class.Amenity; spot = middle row.point row.point }
-node_of_row (anchor row) = record { id = row.id; class = class.Anchor; spot = middle row.point row.point }
-node_of_row (opening row) = record { id = row.id; class = class.Opening; spot = line_middle row.line.points }
-node_of_row (unit row) = record { id = row.id; class = class.Unit; spot = unit_spot row }
+node_of_row (amenity row) = record { id = row.id; class = class.Amenity; corner = 0; spot = middle row.point row.point }
+node_of_row (anchor row) = record { id = row.id; class = class.Anchor; corner = 0; spot = middle row.point row.point }
+node_of_row (opening row) = record { id = row.id; class = class.Opening; corner = 0; spot = line_middle row.line.points }
+node_of_row (unit row) = record { id = row.id; class = class.Unit; corner = 0; spot = unit_spot row }
+node_of_row (corner row n p) = record { id = row.id; class = class.Corner; corner = n; spot = middle p p }
 
 -- the units that can be walked through, in file order
 abbrev pub walkable_units : Features → List UnitRow
@@ -72,9 +79,36 @@ place_node_rows features = map amenity features.amenities ++ map anchor features
 unfoldable pub place_nodes : Features → List Node
 place_nodes features = map node_of_row (place_node_rows features)
 
--- what nodes stand for: the places
+-- whether it is that of a moving walkway, which one doesn't cross
+abbrev pub is_moving : Kind → Bool
+is_moving kinds.Movingwalkway = true
+is_moving _ = false
+
+-- whether people stand in the unit and are carried: on a moving walkway
+abbrev pub carries : UnitRow → Bool
+carries row = is_moving (unit_kind_of row.category)
+
+-- the positions at which one turns who walks in the unit: its corners, where one walks round walls; who is carried turns nowhere
+abbrev pub corner_points : Inside → UnitRow → List Point
+corner_points inside.Straight row = []
+corner_points inside.Clear row = if carries row then [] else corners row.shape
+
+-- these positions as corners of the unit, numbered from n
+abbrev pub corner_rows_from : UnitRow → ℕ → List Point → List NodeRow
+corner_rows_from row n [] = []
+corner_rows_from row n (p ∷ ps) = corner row n p ∷ corner_rows_from row (n + 1) ps
+
+-- the corners of a unit, numbered from 1
+abbrev pub corner_rows : Inside → UnitRow → List NodeRow
+corner_rows inside row = corner_rows_from row 1 (corner_points inside row)
+
+-- the corners of the units that can be walked through, in file order
+unfoldable pub room_corners : Features → Settings → List NodeRow
+room_corners features settings = flat_map (corner_rows settings.inside) (walkable_units features)
+
+-- what nodes stand for: the places, then the corners
 unfoldable pub node_rows : Features → Settings → List NodeRow
-node_rows features settings = place_node_rows features
+node_rows features settings = place_node_rows features ++ room_corners features settings
 
 -- the nodes, numbered from 0
 unfoldable pub nodes : Features → Settings → List Node

@@ -2,6 +2,7 @@
 //! is worth a note where a door or a passage leads nowhere.
 #![tactic(auto)]
 
+mod corner_nodes;
 mod ids;
 mod limits;
 mod lists;
@@ -19,9 +20,10 @@ mod touch_laws;
 mod unit_rows;
 mod walkables;
 
+pub use corner_nodes::CornerRange;
 pub use limits::{Crowding, crowding_by, first_crowding, limit_findings, limit_law};
 pub use members::{Membership, Rows};
-pub use node_laws::{few_law, number_law, spot_law};
+pub use node_laws::{few_law, first_law, number_law, spot_law};
 pub use nodes::Nodes;
 pub use notes::PlaceNote;
 pub use notes_on_places::place_notes;

@@ -1,46 +1,61 @@
-//! Which limit on members a folder passes.
+//! Which limit on members and nodes a folder passes.
 
-ghost use Rattle.std.specs.Prelude.{◌≡◌, ◌≢◌, ◌↔◌, ◌+◌, ◌<◌, ◌≤◌, ◌*◌, ℕ, List, [], All, IfOk, IsTrue, MatchOption, Some, None, slice_index_or, sum_by, length};
-ghost use Rattle.venue_types.specs.declared.features.Features.{Features};
-ghost use Rattle.venue_types.specs.declared.finding.Finding.{Finding};
-ghost use Rattle.venue_types.specs.declared.settings.Settings.{Settings};
+ghost use Rattle.std.specs.Prelude.{◌≡◌, ◌≢◌, ◌↔◌, ◌+◌, ◌<◌, ◌≤◌, ◌*◌, ℕ, List, [], All, IfOk, IsTrue, MatchOption, Some, None, slice_index_or, sum_by, length, if◌then◌else◌};
+ghost use Rattle.venue_types.specs.declared.features.Features.{Features as AFeatures};
+ghost use Rattle.venue_types.specs.declared.finding.Finding.{Finding as AFinding};
+ghost use Rattle.plane_exact.specs.Figure.{AllClose, all_edges, vertices};
+ghost use Rattle.venue_types.specs.declared.settings.Settings.{Settings as ASettings};
+ghost use Rattle.feature_rows.specs.Figures.{judged_positions};
 ghost use Rattle.feature_rows.specs.Rows.{HaveOwnIds};
 ghost use Rattle.feature_rows.specs.Sound.{AreSound};
 ghost use Rattle.rule_reports.specs.Reports.{IsReport};
-ghost use Rattle.venue_nodes.specs.Crowds.{Crowds, IsFirstFull, IsFirstOver, IsOver, IsRoomy, limit_finding, square_of};
-ghost use Rattle.venue_nodes.specs.Limits.{BreaksLimit};
+ghost use Rattle.venue_nodes.specs.Crowds.{Crowds, IsFirstFull, IsFirstOver, IsOver, IsRoomy, IsRoomyVenue, limit_finding, square_of};
+ghost use Rattle.venue_nodes.specs.Limits.{BreaksLimit, sight_sum};
+ghost use Rattle.venue_nodes.specs.Nodes.{carries};
 ghost use Rattle.venue_nodes.specs.Rows.{AreRowsOf, row_list};
 ghost use Rattle.venue_nodes.specs.TouchCounts.{TouchMany};
 
+use crate::corner_nodes::carries;
 use crate::members::Rows;
 use crate::rules::LimitRule;
 use crate::touch_laws::touch_law;
 use feature_rows::once_law;
 use imdf_schema::{FeatureAt, File};
+use plane_exact::edge_count;
 use std::alloc::Global;
-use venue_types::{Features, Finding, List, OutOfMemory, Touches};
+use venue_types::{Features, Finding, Inside, List, OutOfMemory, Settings, Touches, UnitRow};
 
 const MOST_MEMBERS: usize = 4_096;
 
 const MOST_SQUARES: u64 = 20_000_000;
 
-/// A limit on members that is passed.
+const MOST_NODES: u32 = 400_000;
+
+const MOST_SIGHT: u64 = 2_000_000_000;
+
+/// A limit that is passed.
 #[derive(Clone, Copy, Debug, PartialEq, Eq)]
 pub enum Crowding {
     /// The unit of this index in its file is the first that has too many members.
     Members(u32),
     /// No unit has, and yet the squares of their numbers sum to too much.
     Squares,
+    /// These keep their limits, one walks round walls, and there are too many nodes.
+    Nodes,
+    /// There are not, and yet the squares, each times its unit's edges, sum to too much to look through.
+    Sight,
 }
 
 impl Crowding {
-    // What is told of it: of the unit that is crowded; of the squares at the first unit.
+    // What is told of it: of the unit that is crowded; of what is counted over all at the first unit.
     fn finding(self) -> Finding
         ensures { result ≡ limit_finding self }
     {
         let (rule, index) = match self {
             Crowding::Members(k) => (LimitRule::S5, k),
             Crowding::Squares => (LimitRule::S6, 0),
+            Crowding::Nodes => (LimitRule::S7, 0),
+            Crowding::Sight => (LimitRule::S8, 0),
         };
         let place = FeatureAt {
             file: File::Unit,
@@ -51,13 +66,38 @@ impl Crowding {
 }
 
 /// The limit that the rows pass first, if they pass one.
-pub fn first_crowding(rows: &Rows) -> Option<Crowding>
-    ensures { (features : Features) (settings : Settings) → AreRowsOf features settings rows.now → Crowds features settings result }
+pub fn first_crowding(
+    features: &Features,
+    settings: &Settings,
+    rows: &Rows,
+) -> Option<Crowding>
+    requires sound { AreSound features.now }
+    requires rows { AreRowsOf features.now settings.now rows.now }
+    ensures { Crowds features.now settings.now result }
 {
     match crowded(rows) {
         Some(w) => Some(Crowding::Members(rows.unit_index(w))),
         None if squares_pass(rows) => Some(Crowding::Squares),
-        None => None,
+        None => crowding_by_walls(features, settings, rows),
+    }
+}
+
+// The limit on walks round walls that is passed first, of rows whose members keep theirs.
+fn crowding_by_walls(
+    features: &Features,
+    settings: &Settings,
+    rows: &Rows,
+) -> Option<Crowding>
+    requires sound { AreSound features.now }
+    requires rows { AreRowsOf features.now settings.now rows.now }
+    requires roomy { IsRoomyVenue features.now settings.now }
+    ensures { Crowds features.now settings.now result }
+{
+    match settings.inside {
+        Inside::Straight => None,
+        Inside::Clear if rows.nodes() > MOST_NODES => Some(Crowding::Nodes),
+        Inside::Clear if sight_passes(features, rows) => Some(Crowding::Sight),
+        Inside::Clear => None,
     }
 }
 
@@ -65,18 +105,20 @@ pub fn first_crowding(rows: &Rows) -> Option<Crowding>
 pub fn crowding_by(
     alloc: Global,
     features: &Features,
+    settings: &Settings,
     counts: &[usize],
 ) -> Result<Crowding, OutOfMemory>
     requires sound { AreSound features.now }
     requires own_ids { HaveOwnIds features.now }
-    ensures { IfOk result (λ crowding. (settings : Settings) → TouchMany settings.border_tol features.now.openings features.now.units counts.now → Crowds features.now settings (Some crowding)) }
+    requires close { AllClose (judged_positions features.now) }
+    ensures { IfOk result (λ crowding. TouchMany settings.now.border_tol features.now.openings features.now.units counts.now → Crowds features.now settings.now (Some crowding)) }
 {
     once_law();
     touch_law();
     let none = Touches {
         rows: List::new(alloc),
     };
-    let rows = Rows::of_named(alloc, features, &none)?;
+    let rows = Rows::of_named(alloc, features, settings.inside, &none)?;
     match first_over(&rows, counts) {
         Some(k) => Ok(Crowding::Members(k)),
         None => Ok(Crowding::Squares),
@@ -114,7 +156,7 @@ fn is_over(others: usize, openings: usize) -> bool
 /// What is found where a limit is passed.
 pub fn limit_findings(alloc: Global, crowding: Crowding) -> Result<List<Finding>, OutOfMemory>
     ensures some { IfOk result (λ findings. findings ≢ []) }
-    ensures all { IfOk result (λ findings. (features : Features) (settings : Settings) → Crowds features settings (Some crowding) → IsReport (BreaksLimit features settings) findings) }
+    ensures all { IfOk result (λ findings. (features : AFeatures) (settings : ASettings) → Crowds features settings (Some crowding) → IsReport (BreaksLimit features settings) findings) }
 {
     let mut findings = List::new(alloc);
     findings.push(crowding.finding())?;
@@ -123,7 +165,7 @@ pub fn limit_findings(alloc: Global, crowding: Crowding) -> Result<List<Finding>
 
 /// Where no limit is passed, none is told.
 pub fn limit_law()
-    ensures { (features : Features) (settings : Settings) (x : Finding) → Crowds features settings None → ¬ BreaksLimit features settings x }
+    ensures { (features : Features) (settings : Settings) (x : AFinding) → Crowds features settings None → ¬ BreaksLimit features settings x }
 {}
 
 // The first row of too many members.
@@ -149,4 +191,34 @@ fn squares_pass(rows: &Rows) -> bool
         sum += count * count;
     }
     sum > MOST_SQUARES
+}
+
+// Whether the squares, each times the number of its unit's edges, sum to too much over the units in which nobody is carried. As all
+// squares sum to at most 20,000,000 and no unit has more than 1,000,000 edges, the sum fits.
+fn sight_passes(features: &Features, rows: &Rows) -> bool
+    requires sound { AreSound features.now }
+    requires roomy { All IsRoomy (row_list rows.now) }
+    requires squares { sum_by square_of (row_list rows.now) ≤ 20000000 }
+    ensures { (settings : ASettings) → AreRowsOf features.now settings rows.now → IsTrue result ↔ (2000000000 < sight_sum features.now settings) }
+{
+    let mut sum: u64 = 0;
+    for w in 0..rows.len() {
+        if let Some(unit) = features.units.get(rows.unit_index(w) as usize) {
+            sum += sight_of(unit, rows.row(w).len() as u64);
+        }
+    }
+    sum > MOST_SIGHT
+}
+
+// The square of the number of members times the number of the unit's edges; nothing where people are carried.
+fn sight_of(unit: &UnitRow, count: u64) -> u64
+    requires few { count ≤ 4096 }
+    requires few_points { length (vertices unit.now.shape) ≤ 1000000 }
+    ensures { result ≡ (if carries unit.now then 0 else count * count * length (all_edges unit.now.shape)) }
+{
+    if carries(unit) {
+        0
+    } else {
+        count * count * edge_count(&unit.shape) as u64
+    }
 }

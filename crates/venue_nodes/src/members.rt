@@ -2,8 +2,10 @@
 
 ghost use Rattle.std.specs.Prelude.{◌≡◌, ◌<◌, ◌≤◌, IfOk, Some, length, slice_get};
 ghost use Rattle.plane_exact.specs.Opening.{AreTouches};
+ghost use Rattle.feature_rows.specs.Figures.{judged_positions};
 ghost use Rattle.feature_rows.specs.Rows.{HaveOwnIds};
 ghost use Rattle.feature_rows.specs.Sound.{AreSound};
+ghost use Rattle.plane_exact.specs.Figure.{AllClose, AllNearby, vertices};
 ghost use Rattle.venue_nodes.specs.Standing.{AreStandings};
 
 use crate::lists::Lists;
@@ -13,7 +15,7 @@ use crate::unit_rows::filled;
 use crate::walkables::Walkables;
 use feature_rows::once_law;
 use std::alloc::Global;
-use venue_types::{Features, List, OutOfMemory, Settings, Touches};
+use venue_types::{Features, Inside, List, OutOfMemory, Settings, Touches};
 
 /// That a node is a member of a unit.
 #[derive(Clone, Copy, Debug, PartialEq, Eq)]
@@ -33,13 +35,15 @@ pub struct Rows {
     ghost seated: { AreStandings members seats },
     ghost paired: { length members ≡ length units.items },
     ghost few: { length members ≤ 100000 },
+    ghost few_nodes: { length seats ≤ 1100000 },
 }
 
 impl Rows {
-    ghost use Rattle.std.specs.Prelude.{map};
+    ghost use Rattle.std.specs.Prelude.{All, map};
+    ghost use Rattle.venue_types.specs.declared.features.UnitRow.{UnitRow as AUnit};
     ghost use Rattle.feature_rows.specs.Indexes.{AreOnce};
-    ghost use Rattle.venue_nodes.specs.Naming.{node_bound, unit_id};
-    ghost use Rattle.venue_nodes.specs.Rows.{AreNamedRows, AreRowsOf, row_list, unit_indexes};
+    ghost use Rattle.venue_nodes.specs.Naming.{place_bound, named_by_corners, unit_id};
+    ghost use Rattle.venue_nodes.specs.Rows.{AreNamedRows, AreRowsOf, node_total, row_list, unit_indexes};
     ghost use Rattle.venue_nodes.specs.Standing.{standings};
 
     /// The rows of a folder in which the phases before find nothing, of openings that touch these units.
@@ -51,12 +55,13 @@ impl Rows {
     ) -> Result<Rows, OutOfMemory>
         requires sound { AreSound features.now }
         requires own_ids { HaveOwnIds features.now }
+        requires close { AllClose (judged_positions features.now) }
         requires touches { AreTouches settings.now.border_tol features.now touches.now }
         ensures { IfOk result (AreRowsOf features.now settings.now) }
     {
         once_law();
         touch_law();
-        let rows = Rows::of_named(alloc, features, touches)?;
+        let rows = Rows::of_named(alloc, features, settings.inside, touches)?;
         Ok(rows)
     }
 
@@ -64,14 +69,18 @@ impl Rows {
     pub(crate) fn of_named(
         alloc: Global,
         features: &Features,
+        inside: Inside,
         touches: &Touches,
     ) -> Result<Rows, OutOfMemory>
         requires once { AreOnce (map unit_id features.now.units) }
-        requires few { node_bound features.now touches.now.rows ≤ 100000 }
-        ensures { IfOk result (AreNamedRows features.now touches.now.rows) }
+        requires few { place_bound features.now touches.now.rows ≤ 100000 }
+        requires few_corners { length (named_by_corners inside features.now.units) ≤ 1000000 }
+        requires near { All (λ (row : AUnit). AllNearby (vertices row.shape)) features.now.units }
+        requires few_points { All (λ (row : AUnit). length (vertices row.shape) ≤ 1000000) features.now.units }
+        ensures { IfOk result (AreNamedRows features.now inside touches.now.rows) }
     {
         let walkables = Walkables::of(alloc, features.units.as_slice())?;
-        let named = named(alloc, features, touches, &walkables)?;
+        let named = named(alloc, features, inside, touches, &walkables)?;
         let filling = filled(alloc, &walkables, &named)?;
         let members = flattened(alloc, filling.rows.as_slice())?;
         Ok(Rows {
@@ -88,6 +97,14 @@ impl Rows {
         ensures few { result ≤ 100000 }
     {
         self.members.len() as u32
+    }
+
+    /// How many nodes there are, of which members are some.
+    #[tactic(auto, unfolding(crate::specs::Rows::node_total))]
+    pub fn nodes(&self) -> u32
+        ensures { result ≡ node_total self.now }
+    {
+        self.seats.len() as u32
     }
 
     /// The members of a walkable unit, of this number from 0 in file order: numbers of nodes, rising.

@@ -1,28 +1,35 @@
 //! Which units each node names.
 
-ghost use Rattle.std.specs.Prelude.{◌≡◌, ◌∷◌, ◌++◌, [], IfOk, OnOk, map};
+ghost use Rattle.std.specs.Prelude.{◌≡◌, ◌≤◌, ◌∷◌, ◌++◌, [], All, IfOk, OnOk, length, map};
 ghost use Rattle.std.specs.Option.{option_to_list, option_copied, option_map};
 ghost use Rattle.venue_types.specs.declared.features.AmenityRow.{AmenityRow};
 ghost use Rattle.venue_types.specs.declared.features.AnchorRow.{AnchorRow};
+ghost use Rattle.venue_types.specs.declared.features.UnitRow.{UnitRow as AUnit};
 ghost use Rattle.venue_types.specs.declared.feature_id.FeatureId.{FeatureId};
-ghost use Rattle.venue_nodes.specs.Naming.{AreKnown, ids_at, named_by, numbers, unit_id};
+ghost use Rattle.plane_exact.specs.Figure.{AllNearby, vertices};
+ghost use Rattle.venue_nodes.specs.Naming.{AreKnown, corner_names, ids_at, named_by, named_by_corners, numbers, unit_id};
 
+use crate::corner_nodes::corner_number;
 use crate::lists::Lists;
 use crate::walkables::Walkables;
+use imdf_access::walkable;
 use std::alloc::Global;
 use venue_types::{
-    AmenityRow, AnchorRow, FeatureId, Features, List, OutOfMemory, Touches, UnitRow,
+    AmenityRow, AnchorRow, FeatureId, Features, Inside, List, OutOfMemory, Touches, UnitRow,
 };
 
-/// For each node the numbers of the walkable units that it names: amenities, anchors, openings, units, in file order.
+/// For each node the numbers of the walkable units that it names: amenities, anchors, openings, units, in file order, then corners.
 pub(crate) fn named(
     alloc: Global,
     features: &Features,
+    inside: Inside,
     touches: &Touches,
     walkables: &Walkables,
 ) -> Result<Lists<u32>, OutOfMemory>
-    requires { AreKnown walkables.now }
-    ensures { IfOk result (λ lists. lists ≡ map (numbers walkables.now.ids.items) (named_by features.now touches.now.rows walkables.now.ids.items)) }
+    requires known { AreKnown walkables.now }
+    requires near { All (λ (row : AUnit). AllNearby (vertices row.shape)) features.now.units }
+    requires few_points { All (λ (row : AUnit). length (vertices row.shape) ≤ 1000000) features.now.units }
+    ensures { IfOk result (λ lists. lists ≡ map (numbers walkables.now.ids.items) (named_by features.now inside touches.now.rows walkables.now.ids.items)) }
 {
     let mut lists = Lists::new(alloc);
     add_amenities(alloc, &mut lists, walkables, features.amenities.as_slice())?;
@@ -35,6 +42,7 @@ pub(crate) fn named(
         touches.rows.as_slice(),
     )?;
     add_units(alloc, &mut lists, walkables)?;
+    add_corners(alloc, &mut lists, walkables, features.units.as_slice(), inside)?;
     Ok(lists)
 }
 
@@ -109,6 +117,51 @@ fn add_units(
 {
     for id in walkables.ids.as_slice() {
         add(alloc, lists, walkables, &[*id])?;
+    }
+    Ok(())
+}
+
+// Adds for each corner of the units the number of its own.
+fn add_corners(
+    alloc: Global,
+    lists: &mut Lists<u32>,
+    walkables: &Walkables,
+    units: &[UnitRow],
+    inside: Inside,
+) -> Result<(), OutOfMemory>
+    requires known { AreKnown walkables.now }
+    requires near { All (λ (row : AUnit). AllNearby (vertices row.shape)) units.now }
+    requires few_points { All (λ (row : AUnit). length (vertices row.shape) ≤ 1000000) units.now }
+    ensures { OnOk result (lists.new ≡ lists.old ++ map (numbers walkables.now.ids.items) (named_by_corners inside units.now)) }
+{
+    for unit in units {
+        if walkable(unit.category.as_str().as_bytes()) {
+            add_unit_corners(alloc, lists, walkables, unit, inside)?;
+        }
+    }
+    Ok(())
+}
+
+// Adds for each corner of one unit its number, which is found once.
+fn add_unit_corners(
+    alloc: Global,
+    lists: &mut Lists<u32>,
+    walkables: &Walkables,
+    unit: &UnitRow,
+    inside: Inside,
+) -> Result<(), OutOfMemory>
+    requires known { AreKnown walkables.now }
+    requires near { AllNearby (vertices unit.now.shape) }
+    requires few_points { length (vertices unit.now.shape) ≤ 1000000 }
+    ensures { OnOk result (lists.new ≡ lists.old ++ map (numbers walkables.now.ids.items) (corner_names inside unit.now)) }
+{
+    let count = corner_number(unit, inside);
+    if count == 0 {
+        return Ok(());
+    }
+    let numbers = walkables.numbers(alloc, &[unit.id])?;
+    for _ in 0..count {
+        lists.add(&numbers)?;
     }
     Ok(())
 }

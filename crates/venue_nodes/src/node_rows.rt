@@ -32,6 +32,7 @@ impl HasNode for AmenityRow {
         Node {
             id: self.id,
             class: Class::Amenity,
+            corner: 0,
             spot: middle(self.point, self.point),
         }
     }
@@ -46,6 +47,7 @@ impl HasNode for AnchorRow {
         Node {
             id: self.id,
             class: Class::Anchor,
+            corner: 0,
             spot: middle(self.point, self.point),
         }
     }
@@ -60,6 +62,7 @@ impl HasNode for OpeningRow {
         Node {
             id: self.id,
             class: Class::Opening,
+            corner: 0,
             spot: line_middle(self.line.points.as_slice()),
         }
     }
@@ -74,6 +77,7 @@ impl HasNode for UnitRow {
         Node {
             id: self.id,
             class: Class::Unit,
+            corner: 0,
             spot: unit_spot(self),
         }
     }

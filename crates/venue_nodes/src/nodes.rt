@@ -1,9 +1,12 @@
 //! The nodes of a venue, and what can be closed in it.
 
 ghost use Rattle.std.specs.Prelude.{◌≤◌, length};
+ghost use Rattle.feature_rows.specs.Figures.{judged_positions};
 ghost use Rattle.feature_rows.specs.Sound.{AreSound};
+ghost use Rattle.plane_exact.specs.Figure.{AllClose};
 ghost use Rattle.venue_nodes.specs.Making.{CanPlace};
 
+use crate::corner_nodes::{CornerRange, add_corners};
 use crate::ids::{anchors_of, closables_of, ids_of};
 use crate::node_rows::nodes_of;
 use crate::numbers::Numbers;
@@ -14,7 +17,10 @@ use venue_types::{FeatureId, Features, Node, OutOfMemory, Settings};
 #[derive(Drop)]
 pub struct Nodes {
     list: Vec<Node>,
+    // Those of the places alone, by their identifiers.
     numbers: Numbers,
+    // Where the corners of each unit that can be walked through stand.
+    corners: Vec<CornerRange>,
     occupants: Numbers,
     // The anchor of each occupant, by the occupant's number.
     anchors: Vec<FeatureId>,
@@ -26,11 +32,13 @@ pub struct Nodes {
 
 impl Nodes {
     ghost use Rattle.std.specs.Prelude.{◌≡◌, ◌<◌, IfOk, Some, slice_get};
-    ghost use Rattle.venue_nodes.specs.Views.{AreNodes, node_list, find_place, closable_list, find_closable};
+    ghost use Rattle.venue_nodes.specs.Views.{AreNodes, node_list, corner_ranges, find_place, closable_list, find_closable};
 
-    /// Of the features of a folder. Takes n log n time, and some 100 bytes a feature.
+    /// Of the features of a folder any two of whose positions are close. Takes n log n time, and some 100 bytes a feature and 48 a
+    /// corner.
     pub fn of(alloc: Global, features: &Features, settings: &Settings) -> Result<Nodes, OutOfMemory>
-        requires { AreSound features.now }
+        requires sound { AreSound features.now }
+        requires close { AllClose (judged_positions features.now) }
         ensures { IfOk result (AreNodes features.now settings.now) }
     {
         Nodes::placed(alloc, features, settings)
@@ -45,8 +53,9 @@ impl Nodes {
         requires { CanPlace features.now }
         ensures { IfOk result (AreNodes features.now settings.now) }
     {
-        let list = nodes_of(alloc, features)?;
+        let mut list = nodes_of(alloc, features)?;
         let numbers = Numbers::of(alloc, &ids_of(alloc, &list)?)?;
+        let corners = add_corners(alloc, &mut list, features.units.as_slice(), settings.inside)?;
         let occupants = Numbers::of(alloc, &ids_of(alloc, features.occupants.as_slice())?)?;
         let anchors = anchors_of(alloc, features.occupants.as_slice())?;
         let closable_ids = closables_of(alloc, features)?;
@@ -54,6 +63,7 @@ impl Nodes {
         Ok(Nodes {
             list,
             numbers,
+            corners,
             occupants,
             anchors,
             closable_ids,
@@ -77,6 +87,15 @@ impl Nodes {
         ensures { slice_get (node_list self.now) n ≡ Some result }
     {
         self.list[n as usize]
+    }
+
+    /// Where the nodes of a unit's corners stand, of the unit of this number among those that can be walked through.
+    #[tactic(auto, unfolding(crate::specs::Views::corner_ranges))]
+    pub fn corners(&self, w: u32) -> CornerRange
+        requires { w < length (corner_ranges self.now) }
+        ensures { slice_get (corner_ranges self.now) w ≡ Some result }
+    {
+        self.corners[w as usize]
     }
 
     /// The number of the node at which a feature is, if it is a place: an occupant is at its anchor. Takes log n time.

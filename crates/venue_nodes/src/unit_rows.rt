@@ -23,7 +23,7 @@ pub(crate) fn filled(
     walkables: &Walkables,
     named: &Lists<u32>,
 ) -> Result<Filling, OutOfMemory>
-    requires few { length named.now ≤ 100000 }
+    requires few { length named.now ≤ 1100000 }
     requires named { (nodes : List (List FeatureId)) × AreNumbers walkables.now.ids.items nodes named.now }
     ensures { IfOk result (λ filling. (nodes : List (List FeatureId)) → AreNumbers walkables.now.ids.items nodes named.now → AreFilled walkables.now.ids.items nodes filling.rows.items filling.seats) }
 {
@@ -51,7 +51,7 @@ fn empty_rows(alloc: Global, count: usize) -> Result<Vec<List<u32>>, OutOfMemory
 // Seats a node in the rows of these numbers.
 fn fill(alloc: Global, filling: &mut Filling, numbers: &[u32], node: u32) -> Result<(), OutOfMemory>
     requires within { All (λ w. w < vec_len filling.old.rows) numbers.now }
-    requires few { All (λ row. length row ≤ 100000) filling.old.rows.items }
+    requires few { All (λ row. length row ≤ 1100000) filling.old.rows.items }
     ensures rows { OnOk result (filling.new.rows.items ≡ joined node numbers.now filling.old.rows.items) }
     ensures seats { OnOk result (filling.new.seats ≡ filling.old.seats ++ map (seat filling.old.rows.items) numbers.now ∷ []) }
 {
@@ -67,7 +67,7 @@ fn seats_in(
     numbers: &[u32],
 ) -> Result<Vec<Membership>, OutOfMemory>
     requires within { All (λ w. w < length rows.now) numbers.now }
-    requires few { All (λ row. length row ≤ 100000) rows.now }
+    requires few { All (λ row. length row ≤ 1100000) rows.now }
     ensures { IfOk result (λ seats. seats.items ≡ map (seat rows.now) numbers.now) }
 {
     let mut seats = Vec::with_capacity(alloc, numbers.len())?;
