@@ -46,6 +46,15 @@ def strip(tooth, corners):
     return (down + up + down[:1])[:: -1 if tooth % 2 else 1]
 
 
+def stairs(room):
+    """A room with 300 corners, above stairs of 301 steps."""
+    west, south = -9_900_000 + 310_000 * (room % 32), -9_900_000 + 310_000 * (room // 32)
+    ring = [(west, south)]
+    for i in range(301):
+        ring += [(west + 1000 * i + 1000, south + 1000 * i), (west + 1000 * i + 1000, south + 1000 * i + 1000)]
+    return ring + [(west, south + 301_000), (west, south)]
+
+
 def turned(ring, angle):
     c, s = math.cos(angle), math.sin(angle)
     return [(round(c * x - s * y), round(s * x + c * y)) for x, y in ring]
@@ -87,6 +96,7 @@ def main():
     write(base, "staircases", [staircase()] * 40)
     write(base, "comb", [comb()], [strip(tooth, 200) for tooth in range(4_875)])
     write(base, "all_rings", [rough(chance) for _ in range(49)])
+    write(base, "stairs", [box(-10_000_000, -10_000_000, 10_000_000, 10_000_000)], [stairs(room) for room in range(1000)])
     write(base, "comb_turned", [turned(comb(), math.pi / 8)], [turned(strip(tooth, 200), math.pi / 8) for tooth in range(100)])
 
 

@@ -62,10 +62,27 @@ class Station:
         start = 9_000_000_000
         self.list(kind).extend({"type": "Feature", "id": NAME.format(start + k), "feature_type": kind, "geometry": geometry, "properties": properties} for k in range(count))
 
+    def room(self, outline):
+        """A walkway more on the lowest level."""
+        self.more("unit", 1, {"type": "Polygon", "coordinates": [outline]}, category="walkway", level_id=NAME.format(10))
+        self.list("unit")[-1]["id"] = NAME.format(7_000_000_000 + len(self.list("unit")))
+
     def write(self, folder):
         for name, content in self.files.items():
             with open(os.path.join(folder, name), "w", encoding="utf-8") as file:
                 file.write(content if isinstance(content, str) else json.dumps(content))
+
+
+def bowl(k):
+    """The outline of a bowl as wide as a metre, with 48 corners along its hollow."""
+    left, low = k % 90 * 1.1, k // 90 * 0.4
+    return ring((left, low), (left + 1, low), *((left + i / 50, low + 0.2 + (i - 25) ** 2 / 10_000) for i in range(49, -1, -1)), (left, low))
+
+
+def steps(count):
+    """The outline of a room above stairs, each step a centimetre wide and high."""
+    treads = [place for i in range(count) for place in (((i + 1) / 100, i / 100), ((i + 1) / 100, (i + 1) / 100))]
+    return ring((0, 0), *treads, (0, count / 100), (0, 0))
 
 
 def put(mapping, **members):
@@ -108,12 +125,16 @@ EXAMPLES = {
     "K4": (True, lambda s: s.shape("opening", 112, ring((10, 14), (10, 61)))),
     "S5": (True, lambda s: s.more("opening", 4_091, {"type": "LineString", "coordinates": ring((80, 10), (81, 10))}, level_id=NAME.format(11))),
     "S6": (True, lambda s: s.more("amenity", 3_160, CORNER, category="atm", unit_ids=ROOMS)),
+    "S7": (True, lambda s: [s.room(bowl(k)) for k in range(8163)]),
+    "S8": (True, lambda s: s.room(steps(4_094))),
     "N1": (True, lambda s: put(s.its("unit", 306), category="shop")),
     "N2": (False, lambda s: put(s.its("relationship", 22), category="walk")),
     "N3": (False, lambda s: put(s.its("relationship", 21), intermediary=[{"id": NAME.format(10), "feature_type": "level"}])),
     "N4": (True, lambda s: s.shape("opening", 106, ring((49, 12), (51, 12)))),
     "N5": (True, lambda s: put(s.its("unit", 307), restriction="staff")),
 }
+# Those that are judged only where ways go round walls.
+ROUND_WALLS = ["S7", "S8"]
 # Where a picture tells more than words, it is kept, with the level that it shows.
 KEPT = dict.fromkeys(["G6", "G3", "G4", "G5", "K1", "K2", "K3", "K4", "N4"], "0")
 
@@ -129,10 +150,19 @@ def draw(program, base, level=None, folder="example"):
     return subprocess.run(words, capture_output=True, env=os.environ | {"VENUE": program}, timeout=50).stdout.decode()
 
 
+def set_up(base, round_walls):
+    """The settings of the station, under which ways go round walls or straight."""
+    with open(os.path.join(TOP, "examples", "venue.toml"), encoding="utf-8") as file:
+        settings = file.read()
+    with open(os.path.join(base, "venue.toml"), "w", encoding="utf-8") as file:
+        file.write(('inside = "clear"\n' if round_walls else "") + settings)
+
+
 def differs(program, base, rule, wanted, write):
     """What is wrong with one example, None where nothing is."""
     has_place, change = EXAMPLES[rule]
     folder, station = os.path.join(base, "example"), Station()
+    set_up(base, rule in ROUND_WALLS)
     shutil.rmtree(folder, ignore_errors=True)
     os.mkdir(folder)
     change(station)
@@ -206,7 +236,6 @@ def main(words):
     missing = sorted(set(rules) - set(EXAMPLES) - set(LEFT_OUT))
     differences += [f"{rule}: no example is made" for rule in missing]
     with tempfile.TemporaryDirectory() as base:
-        shutil.copy(os.path.join(TOP, "examples", "venue.toml"), base)
         for rule in EXAMPLES:
             wrong = differs(program, base, rule, rules.get(rule), write)
             differences += [f"{rule}: {wrong}"] if wrong else []

@@ -312,4 +312,6 @@ BY_RULE = {
     "S2": lambda raw, it: "the folder has more than 1,000,000 positions",
     "S5": lambda raw, it: "it has more than 4,096 openings, anchors and amenities",
     "S6": lambda raw, it: "the units of the folder have so many openings, anchors and amenities that ways across them would be more than 20,000,000",
+    "S7": lambda raw, it: "the folder has more than 400,000 places and corners",
+    "S8": lambda raw, it: "the units of the folder have so many places, corners and edges that looking through them would take too long",
 }

@@ -81,14 +81,14 @@ unit_row features settings rows row are h =
 
 row_short : (features : Features) (settings : Settings) (row : List ℕ) → IsUnitRow features settings row → Crowds features settings None → length row ≤ 4096
 row_short features settings row h crowds = elim (cases_lt 4096 (length row)) [
-  | inl many ↦ absurd (crowds.0 h.k (record { unit = h.u; there = h.there; walkable = h.passes; many = subst (λ (r : List ℕ). 4096 < length r) (sym h.is) many }))
+  | inl many ↦ absurd (crowds.0.0 h.k (record { unit = h.u; there = h.there; walkable = h.passes; many = subst (λ (r : List ℕ). 4096 < length r) (sym h.is) many }))
   | inr few ↦ few
 ]
 
 pub rows_roomy : (features : Features) (settings : Settings) (rows : Rows) → AreRowsOf features settings rows → Crowds features settings None → AreRoomy (row_list rows)
 rows_roomy features settings rows are crowds = record {
   each = all_of IsRoomy (row_list rows) (λ row h. row_short features settings row (unit_row features settings rows row are h) crowds);
-  squares = subst (λ n. n ≤ 20000000) (sym (squares_are features settings rows are)) crowds.1;
+  squares = subst (λ n. n ≤ 20000000) (sym (squares_are features settings rows are)) crowds.0.1;
 }
 
 members_rise : (features : Features) (settings : Settings) (u : UnitRow) → IsStrictlyIncreasing (members features settings u)

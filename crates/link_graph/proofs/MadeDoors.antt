@@ -1,8 +1,8 @@
 -- What is known of nodes, as it is made.
-use Rattle.std.proofs.Common.{◌≡◌, ℕ, Bool, List, [], ◌++◌, Option, Some, None, map, filter, length, refl, sym, ap, ◌∙◌}
+use Rattle.std.proofs.Common.{◌≡◌, ℕ, suc, ◌+◌, ◌-◌, Bool, List, [], ◌∷◌, ◌++◌, Option, Some, None, map, filter, flat_map, replicate, length, refl, sym, ap, ap₂, ◌∙◌, arith, append_assoc, append-nil}
 use Rattle.std.specs.Prelude.{slice_get}
 use Rattle.std.specs.Option.{option_map}
-use Rattle.std.proofs.lemmas.List.{length-map}
+use Rattle.std.proofs.lemmas.List.{length-map, map-append}
 use Rattle.std.proofs.lemmas.Option.{slice_get-map, same_Some}
 use Rattle.venue_types.specs.declared.feature_id.FeatureId.{FeatureId}
 use Rattle.venue_types.specs.declared.features.Features.{Features}
@@ -11,16 +11,21 @@ use Rattle.venue_types.specs.declared.features.AnchorRow.{AnchorRow}
 use Rattle.venue_types.specs.declared.features.OpeningRow.{OpeningRow}
 use Rattle.venue_types.specs.declared.features.UnitRow.{UnitRow}
 use Rattle.venue_types.specs.declared.link.Node.{Node}
+use Rattle.venue_types.specs.declared.point.Point.{Point}
+use Rattle.venue_types.specs.declared.settings.Inside.{Inside}
 use Rattle.venue_types.specs.declared.settings.Settings.{Settings}
 use Rattle.imdf_access.specs.Access.{elsewhere}
 use Rattle.imdf_access.specs.Categories.{is_walkable}
 use Rattle.imdf_access.specs.Parts.{end_facts}
-use Rattle.venue_nodes.specs.Nodes.{NodeRow, amenity, anchor, opening, unit, node_of_row, place_node_rows, node_rows, nodes, walkable_units}
+use Rattle.venue_nodes.specs.declared.corner_nodes.CornerRange.{CornerRange}
+use Rattle.venue_nodes.specs.declared.nodes.Nodes.{Nodes}
+use Rattle.venue_nodes.specs.Nodes.{NodeRow, amenity, anchor, opening, unit, corner, node_of_row, place_node_rows, place_nodes, room_corners, corner_points, corner_rows, corner_rows_from, node_rows, nodes, walkable_units}
+use Rattle.venue_nodes.specs.Views.{AreNodes, corner_ranges, ranges_from}
 use Rattle.venue_nodes.proofs.Items.{four_passes, from_map}
 use Rattle.link_graph.specs.declared.parts.Door.{Door}
 use Rattle.link_graph.specs.Cores.{asks_of}
 use Rattle.link_graph.specs.Facts.{end_of, end_at}
-use Rattle.link_graph.specs.Making.{door_of, id_of_row}
+use Rattle.link_graph.specs.Making.{copies_by, door_of, id_of_row}
 
 abbrev walks : UnitRow → Bool
 walks row = is_walkable row.category
@@ -35,10 +40,69 @@ doors_joined features find am bs os us n a b d e none p q r s one two three four
     four_passes (door_of find) amenity anchor opening unit features.amenities am features.anchors bs features.openings os (walkable_units features) (filter walks us) n a b d e
     none p q r (ap (filter walks) s) one two three four
 
--- those of the places are those of the nodes
-pub doors_all : (features : Features) (settings : Settings) (find : FeatureId → Option ℕ) (doors : List Door) → doors ≡ map (door_of find) (place_node_rows features) → doors ≡ map (door_of find) (node_rows features settings)
-unfolding node_rows
-doors_all features settings find doors e = e
+-- ---- corners
+
+-- what is known of a corner is what is known of its unit
+corners_same : (find : FeatureId → Option ℕ) (row : UnitRow) (n : ℕ) (points : List Point) → replicate (length points) (door_of find (unit row)) ≡ map (door_of find) (corner_rows_from row n points)
+corners_same find row n [] = refl
+corners_same find row n (p ∷ points) = ap (λ (ds : List Door). door_of find (unit row) ∷ ds) (corners_same find row (n + 1) points)
+
+abbrev unit_doors : (FeatureId → Option ℕ) → List UnitRow → List Door
+unit_doors find units = map (λ (row : UnitRow). door_of find (unit row)) units
+
+abbrev counts_of : Inside → List UnitRow → List ℕ
+counts_of inside units = map (λ (row : UnitRow). length (corner_points inside row)) units
+
+copies_same : (find : FeatureId → Option ℕ) (inside : Inside) (at : ℕ) (units : List UnitRow) → copies_by (ranges_from at (counts_of inside units)) (unit_doors find units) ≡ map (door_of find) (flat_map (corner_rows inside) units)
+copies_same find inside at [] = refl
+copies_same find inside at (u ∷ units) =
+    let many : at + length (corner_points inside u) - at ≡ length (corner_points inside u) = omega arith in
+    let rest = copies_by (ranges_from (at + length (corner_points inside u)) (counts_of inside units)) (unit_doors find units) in
+    ap (λ (n : ℕ). replicate n (door_of find (unit u)) ++ rest) many
+    ∙ ap₂ (λ (ds es : List Door). ds ++ es) (corners_same find u 1 (corner_points inside u)) (copies_same find inside (at + length (corner_points inside u)) units)
+    ∙ sym (map-append (door_of find) (corner_rows inside u) (flat_map (corner_rows inside) units))
+
+-- those of the places and those of the corners are those of the nodes
+pub doors_all : (features : Features) (settings : Settings) (nodes : Nodes) (find : FeatureId → Option ℕ) (places doors : List Door) (us : List UnitRow) → AreNodes features settings nodes → us ≡ features.units
+    → places ≡ map (door_of find) (place_node_rows features) → doors ≡ places ++ copies_by (corner_ranges nodes) (unit_doors find (filter walks us)) → doors ≡ map (door_of find) (node_rows features settings)
+unfolding node_rows room_corners
+doors_all features settings nodes find places doors us are whole front back =
+    let ways = walkable_units features in
+    back
+    ∙ ap₂ (λ (ds es : List Door). ds ++ es) front
+    (ap₂ (λ (ranges : List CornerRange) (rows : List UnitRow). copies_by ranges (unit_doors find rows)) are.corners (ap (filter walks) whole)
+    ∙ copies_same find settings.inside (length (place_nodes features)) ways)
+    ∙ sym (map-append (door_of find) (place_node_rows features) (flat_map (corner_rows settings.inside) ways))
+
+ranges_many : (at : ℕ) (counts : List ℕ) → length (ranges_from at counts) ≡ length counts
+ranges_many at [] = refl
+ranges_many at (count ∷ counts) = ap suc (ranges_many (at + count) counts)
+
+-- there is a range for each unit that can be walked through
+pub ranges_paired : (features : Features) (settings : Settings) (nodes : Nodes) → AreNodes features settings nodes → length (corner_ranges nodes) ≡ length (walkable_units features)
+ranges_paired features settings nodes are =
+    ap (λ (ranges : List CornerRange). length ranges) are.corners
+    ∙ ranges_many (length (place_nodes features)) (counts_of settings.inside (walkable_units features))
+    ∙ length-map (walkable_units features) (λ (row : UnitRow). length (corner_points settings.inside row))
+
+-- ---- copies, unit by unit
+
+-- one unit more
+pub copies_more : (ranges : List CornerRange) (doors : List Door) (door : Door) (range : CornerRange) → slice_get ranges (length doors) ≡ Some range
+    → copies_by ranges (doors ++ door ∷ []) ≡ copies_by ranges doors ++ replicate (range.end - range.start) door
+copies_more [] doors door range at = absurd (cc)
+copies_more (r ∷ ranges) [] door range at =
+    let same : r ≡ range = same_Some r range at in
+    ap (λ (s : CornerRange). replicate (s.end - s.start) door ++ copies_by ranges []) same
+    ∙ ap (λ (ds : List Door). replicate (range.end - range.start) door ++ ds) (copies_none ranges)
+    ∙ append-nil (replicate (range.end - range.start) door)
+  where
+    copies_none : (rs : List CornerRange) → copies_by rs [] ≡ []
+    copies_none [] = refl
+    copies_none (s ∷ rs) = refl
+copies_more (r ∷ ranges) (d ∷ doors) door range at =
+    ap (λ (ds : List Door). replicate (r.end - r.start) d ++ ds) (copies_more ranges doors door range at)
+    ∙ sym (append_assoc (replicate (r.end - r.start) d) (copies_by ranges doors) (replicate (range.end - range.start) door))
 
 -- ---- what nodes ask
 
@@ -67,6 +131,7 @@ row_id (amenity row) = refl
 row_id (anchor row) = refl
 row_id (opening row) = refl
 row_id (unit row) = refl
+row_id (corner row n p) = refl
 
 pub door_own : (features : Features) (settings : Settings) (find : FeatureId → Option ℕ) (doors : List Door) (list : List Node) (n : ℕ) (node : Node) (door : Door) → doors ≡ map (door_of find) (node_rows features settings) → list ≡ nodes features settings
     → slice_get list n ≡ Some node → slice_get doors n ≡ Some door → door.closable ≡ find node.id

@@ -16,7 +16,7 @@ use Rattle.venue_types.specs.declared.point.Spot.{Spot}
 use Rattle.venue_types.specs.declared.settings.Settings.{Settings}
 use Rattle.imdf_access.specs.Categories.{is_walkable, unit_kind_of}
 use Rattle.venue_nodes.specs.Members.{members, places_where}
-use Rattle.venue_nodes.specs.Nodes.{nodes}
+use Rattle.venue_nodes.specs.Nodes.{nodes, carries}
 use Rattle.venue_nodes.specs.Views.{node_list}
 use Rattle.venue_nodes.proofs.Items.{at_member, at_map}
 use Rattle.venue_nodes.proofs.Places.{places_rise, place_at}
@@ -24,7 +24,7 @@ use Rattle.link_graph.specs.declared.parts.Core.{Core}
 use Rattle.link_graph.specs.declared.parts.Crossing.{Crossing}
 use Rattle.link_graph.specs.Cores.{way_in, links_across, links_across_all, joined_in}
 use Rattle.link_graph.specs.Lengths.{length_between}
-use Rattle.link_graph.specs.Links.{spot_of, are_joined, inside_link, is_moving, unit_links, way}
+use Rattle.link_graph.specs.Links.{spot_of, are_joined, inside_link, unit_links, way}
 use Rattle.link_graph.specs.Making.{crossing_of, crossings_from, barred_from}
 use Rattle.link_graph.proofs.Joined.{filter_same, kept_so}
 
@@ -125,14 +125,14 @@ across_same features settings core via u row ground =
 unit_same : (features : Features) (settings : Settings) (core : Core) (via : ℕ) (u : UnitRow) → walks u ≡ true → HasGround features settings core
     → links_across core (crossing_of via u) (members features settings u) ≡ unit_links features settings (via, u)
 unit_same features settings core via u walked ground =
-    let moving = not (is_moving (unit_kind_of u.category)) in
+    let moving = not (carries u) in
     let inside = flat_map (λ a. map (inside_link features settings via u a) (filter (are_joined features settings u a) (members features settings u))) (members features settings u) in
     ap (λ (ls : List Link). cond moving ls []) (across_same features settings core via u (members features settings u) ground)
     ∙ ap (λ (b : Bool). cond (b && moving) inside []) (sym walked)
 
 solid_none : (features : Features) (settings : Settings) (via : ℕ) (u : UnitRow) → walks u ≡ false → unit_links features settings (via, u) ≡ []
 solid_none features settings via u solid =
-    let moving = not (is_moving (unit_kind_of u.category)) in
+    let moving = not (carries u) in
     let inside = flat_map (λ a. map (inside_link features settings via u a) (filter (are_joined features settings u a) (members features settings u))) (members features settings u) in
     ap (λ (b : Bool). cond (b && moving) inside []) solid
 

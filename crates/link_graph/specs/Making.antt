@@ -11,6 +11,7 @@ use Rattle.venue_types.specs.declared.settings.Settings.{Settings}
 use Rattle.imdf_access.specs.Categories.{is_walkable, unit_kind_of}
 use Rattle.imdf_access.specs.Parts.{end_facts}
 use Rattle.plane_exact.specs.Plane.{IsCloseDoubled}
+use Rattle.venue_nodes.specs.declared.corner_nodes.CornerRange.{CornerRange}
 use Rattle.venue_nodes.specs.declared.members.Membership.{Membership}
 use Rattle.venue_nodes.specs.declared.nodes.Nodes.{Nodes}
 use Rattle.venue_nodes.specs.Crowds.{IsRoomy, square_of}
@@ -54,6 +55,12 @@ id_of_row (corner row n p) = row.id
 -- what is known of the node of a feature, by the numbers of what can be closed
 abbrev pub door_of : (FeatureId → Option ℕ) → NodeRow → Door
 door_of find row = record { facts = end_facts (end_of row); closable = find (id_of_row row) }
+
+-- of each of these as many as its range has numbers
+abbrev pub copies_by : List CornerRange → List Door → List Door
+copies_by [] doors = []
+copies_by (range ∷ ranges) [] = []
+copies_by (range ∷ ranges) (door ∷ doors) = replicate (range.end - range.start) door ++ copies_by ranges doors
 
 -- any two nodes are close
 pub record AreClose (nodes : Nodes) : Type 0 where

@@ -1,16 +1,17 @@
 //! What is known of nodes.
 
-ghost use Rattle.std.specs.Prelude.{◌≡◌, ◌++◌, OnOk, IfOk, map, filter};
+ghost use Rattle.std.specs.Prelude.{◌≡◌, ◌-◌, ◌++◌, OnOk, IfOk, length, map, filter, replicate};
 ghost use Rattle.venue_types.specs.declared.features.UnitRow.{UnitRow as AUnit};
 ghost use Rattle.imdf_access.specs.Categories.{is_walkable};
-ghost use Rattle.venue_nodes.specs.Nodes.{NodeRow, unit as of_unit, place_node_rows};
-ghost use Rattle.venue_nodes.specs.Views.{find_closable};
-ghost use Rattle.link_graph.specs.Making.{door_of};
+ghost use Rattle.venue_types.specs.declared.settings.Settings.{Settings as ASettings};
+ghost use Rattle.venue_nodes.specs.Nodes.{NodeRow, unit as of_unit, node_rows, walkable_units};
+ghost use Rattle.venue_nodes.specs.Views.{AreNodes, corner_ranges, find_closable};
+ghost use Rattle.link_graph.specs.Making.{copies_by, door_of};
 
 use crate::parts::Door;
 use imdf_access::{EndFacts, walkable};
 use std::alloc::Global;
-use venue_nodes::Nodes;
+use venue_nodes::{CornerRange, Nodes};
 use venue_types::{AmenityRow, AnchorRow, FeatureId, Features, OpeningRow, OutOfMemory, UnitRow};
 
 // A row of a feature for which a node stands.
@@ -128,19 +129,49 @@ fn add_unit_doors(
     Ok(())
 }
 
-/// What is known of each node. Takes log n time a node, for the number of what can be closed.
+// Adds for each unit that can be walked through what is known of it once more for each of its corners.
+fn add_corner_doors(
+    doors: &mut Vec<Door>,
+    nodes: &Nodes,
+    units: &[UnitRow],
+) -> Result<(), OutOfMemory>
+    requires { length (corner_ranges nodes.now) ≡ length (filter (λ (row : AUnit). is_walkable row.category) units.now) }
+    ensures { OnOk result (doors.new.items ≡ doors.old.items ++ copies_by (corner_ranges nodes.now) (map (λ row. door_of (find_closable nodes.now) (of_unit row)) (filter (λ (row : AUnit). is_walkable row.category) units.now))) }
+{
+    let mut w = 0;
+    for unit in units {
+        if walkable(unit.category.as_str().as_bytes()) {
+            add_copies(doors, unit.door(nodes), nodes.corners(w))?;
+            w += 1;
+        }
+    }
+    Ok(())
+}
+
+// Adds the same for each number of the range.
+fn add_copies(doors: &mut Vec<Door>, door: Door, range: CornerRange) -> Result<(), OutOfMemory>
+    ensures { OnOk result (doors.new.items ≡ doors.old.items ++ replicate (range.end - range.start) door) }
+{
+    for _ in range.start..range.end {
+        doors.push(door)?;
+    }
+    Ok(())
+}
+
+/// What is known of each node. Takes log n time a feature, for the number of what can be closed.
 pub(crate) fn doors_of(
     alloc: Global,
     features: &Features,
     nodes: &Nodes,
 ) -> Result<Vec<Door>, OutOfMemory>
-    requires { AreNodes features.now settings nodes.now }
-    ensures { IfOk result (λ doors. doors.items ≡ map (door_of (find_closable nodes.now)) (node_rows features.now settings)) }
+    requires { length (corner_ranges nodes.now) ≡ length (walkable_units features.now) }
+    ensures { IfOk result (λ doors. (settings : ASettings) → AreNodes features.now settings nodes.now → doors.items ≡ map (door_of (find_closable nodes.now)) (node_rows features.now settings)) }
 {
     let mut doors = Vec::new(alloc);
     add_doors(&mut doors, nodes, features.amenities.as_slice())?;
     add_doors(&mut doors, nodes, features.anchors.as_slice())?;
     add_doors(&mut doors, nodes, features.openings.as_slice())?;
     add_unit_doors(&mut doors, nodes, features.units.as_slice())?;
+    add_corner_doors(&mut doors, nodes, features.units.as_slice())?;
     Ok(doors)
 }

@@ -15,7 +15,7 @@ fn lines(text: &str) -> usize {
 }
 
 // A number, the rule of it and the file of it.
-static NAMES: [(u8, &str, &str); 9] = [
+static NAMES: [(u8, &str, &str); 11] = [
     (0, "?", "manifest.json"),
     (1, "F1", "address.geojson"),
     (6, "M2", "fixture.geojson"),
@@ -24,7 +24,9 @@ static NAMES: [(u8, &str, &str); 9] = [
     (17, "S1", "?"),
     (26, "G6", "?"),
     (35, "S6", "?"),
-    (36, "?", "?"),
+    (36, "S7", "?"),
+    (37, "S8", "?"),
+    (38, "?", "?"),
 ];
 
 fn judge_names(rt: &impl Abort) {

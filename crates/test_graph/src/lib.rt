@@ -3,6 +3,8 @@
 
 // A module for each crate of the graph, and the venues that they share.
 #[cfg(test)]
+mod corners;
+#[cfg(test)]
 mod folders;
 #[cfg(test)]
 mod members;

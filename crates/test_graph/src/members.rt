@@ -8,8 +8,8 @@ use std::alloc::{AllocError, Global};
 use std::process::Abort;
 use std::test::Fail;
 use test_station::{AMENITY, Change, Edit, slots_of};
-use venue_nodes::{Crowding, Membership, Rows, first_crowding, limit_findings};
-use venue_types::{Files, OutOfMemory};
+use venue_nodes::{Crowding, Membership, Rows, limit_findings};
+use venue_types::{Files, Inside, OutOfMemory};
 
 /// The numbers of members, and the indexes of the units.
 fn counts(alloc: Global, rows: &Rows) -> Result<Vec<(usize, u32)>, OutOfMemory> {
@@ -49,7 +49,8 @@ fn counts_the_station_s_members(rt: HostRuntime) -> Result<(), Fail> {
     ];
     for edits in table {
         let files = slots_of(rt.alloc(), Change::of(edits))?;
-        let rows = rows_of(rt.alloc(), &files)?;
+        let (rows, _) = rows_of(rt.alloc(), &files, Inside::Straight)?;
+        assert!(rt; rows.nodes() == 31);
         let counts = counts(rt.alloc(), &rows)?;
         assert!(rt; counts.as_slice() == want.as_slice());
         assert!(rt; rows.memberships(7) == fifth.as_slice());
@@ -150,8 +151,8 @@ fn tells_the_first_limit(rt: HostRuntime) -> Result<(), Fail> {
     ];
     for (counts, limit, told) in table {
         let files = crowd(rt.alloc(), counts)?;
-        let rows = rows_of(rt.alloc(), &files)?;
-        assert!(rt; first_crowding(&rows) == limit);
+        let (_, found) = rows_of(rt.alloc(), &files, Inside::Straight)?;
+        assert!(rt; found == limit);
         if let Some(crowding) = limit {
             judge_told(&rt, rt.alloc(), crowding, told)?;
         }

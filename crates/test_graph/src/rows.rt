@@ -14,8 +14,8 @@ use ring_rules::is_spread;
 use std::alloc::Global;
 use std::test::Fail;
 use test_station::station_settings;
-use venue_nodes::{Crowding, Rows, crowding_by};
-use venue_types::{Features, Files, Settings, Touches};
+use venue_nodes::{Crowding, Nodes, Rows, crowding_by, first_crowding};
+use venue_types::{Features, Files, Inside, Settings, Touches};
 
 /// The rows of a folder in which the first phase finds nothing.
 fn sound(alloc: Global, files: &Files) -> Result<Features, Fail>
@@ -72,25 +72,58 @@ fn judge_names(alloc: Global, features: &Features) -> Result<(), Fail>
     Ok(())
 }
 
-/// The members of the units of a folder.
-pub(crate) fn rows_of(alloc: Global, files: &Files) -> Result<Rows, Fail>
+/// The rows of a folder in which the first three phases find nothing.
+fn judged(alloc: Global, files: &Files) -> Result<Features, Fail>
     requires { length files.now.slots ≡ 17 }
+    ensures sound { IfOk result AreSound }
+    ensures own_ids { IfOk result HaveOwnIds }
+    ensures close { IfOk result (λ features. AllClose (judged_positions features)) }
 {
     let features = sound(alloc, files)?;
     judge_names(alloc, &features)?;
     if is_spread(&features) {
         return Err(Fail::new("the folder is spread"));
     }
-    let settings = station_settings(alloc)?;
+    Ok(features)
+}
+
+/// The settings of the station, in which ways go so through a room.
+fn settings_for(alloc: Global, inside: Inside) -> Result<Settings, Fail> {
+    let mut settings = station_settings(alloc)?;
+    settings.inside = inside;
+    Ok(settings)
+}
+
+/// The members of the units of a folder, and the limit that they pass first.
+pub(crate) fn rows_of(
+    alloc: Global,
+    files: &Files,
+    inside: Inside,
+) -> Result<(Rows, Option<Crowding>), Fail>
+    requires { length files.now.slots ≡ 17 }
+{
+    let features = judged(alloc, files)?;
+    let settings = settings_for(alloc, inside)?;
     let touches = each_touch(alloc, &features, &settings)?;
-    Ok(Rows::of(alloc, &features, &settings, &touches)?)
+    let rows = Rows::of(alloc, &features, &settings, &touches)?;
+    let limit = first_crowding(&features, &settings, &rows);
+    Ok((rows, limit))
+}
+
+/// The nodes of a folder.
+pub(crate) fn nodes_of(alloc: Global, files: &Files, inside: Inside) -> Result<Nodes, Fail>
+    requires { length files.now.slots ≡ 17 }
+{
+    let features = judged(alloc, files)?;
+    let settings = settings_for(alloc, inside)?;
+    Ok(Nodes::of(alloc, &features, &settings)?)
 }
 
 /// The limit that a folder passes by so many openings at each of its first units.
 pub(crate) fn crowding_of(alloc: Global, files: &Files, counts: &[usize]) -> Result<Crowding, Fail>
     requires { length files.now.slots ≡ 17 }
 {
-    let features = sound(alloc, files)?;
-    judge_names(alloc, &features)?;
-    Ok(crowding_by(alloc, &features, counts)?)
+    let features = judged(alloc, files)?;
+    let settings = settings_for(alloc, Inside::Straight)?;
+    Ok(crowding_by(alloc, &features, &settings, counts)?)
 }

@@ -13,7 +13,7 @@ use Rattle.venue_types.specs.declared.features.OpeningRow.{OpeningRow}
 use Rattle.venue_types.specs.declared.features.UnitRow.{UnitRow}
 use Rattle.venue_types.specs.declared.settings.Settings.{Settings}
 use Rattle.venue_types.proofs.Items.{Contains-nil, Contains-only, Contains-first, IsStrictlyIncreasing-push, at_map}
-use Rattle.venue_history.specs.Nodes.{NodeRow, amenity, anchor, opening, unit, node_of_row, place_node_rows, node_rows, nodes, walkable_units}
+use Rattle.venue_history.specs.Nodes.{NodeRow, amenity, anchor, opening, unit, node_of_row, place_node_rows, room_corners, node_rows, nodes, walkable_units}
 use Rattle.venue_history.specs.Nearest.{AreCandidates, IsCandidate}
 use Rattle.venue_state.specs.Nearing.{AreCandidatesTo}
 
@@ -143,19 +143,19 @@ whole features category count found all are = record {
   );
 }
 
-nodes_many : (features : Features) (settings : Settings) → length (nodes features settings) ≡ length (place_node_rows features)
+nodes_many : (features : Features) (settings : Settings) → length (place_node_rows features) ≤ length (nodes features settings)
 unfolding nodes node_rows
-nodes_many features settings = length-map (place_node_rows features) node_of_row
+nodes_many features settings = omega (arith, length-map (place_node_rows features ++ room_corners features settings) node_of_row, length-append (place_node_rows features) (room_corners features settings))
 
 -- amenities are no more than nodes
 pub few_amenities : (features : Features) (settings : Settings) → length features.amenities ≤ length (nodes features settings)
-unfolding nodes node_rows place_node_rows
+unfolding place_node_rows
 few_amenities features settings =
     let ams = map amenity features.amenities in
     let bs = map anchor features.anchors in
     let os = map opening features.openings in
     let us = map unit (walkable_units features) in
-    omega (arith, length-map (ams ++ bs ++ os ++ us) node_of_row, length-append (ams ++ bs ++ os) us, length-append (ams ++ bs) os, length-append ams bs, length-map features.amenities amenity)
+    omega (arith, nodes_many features settings, length-append (ams ++ bs ++ os) us, length-append (ams ++ bs) os, length-append ams bs, length-map features.amenities amenity)
 
 pub within : (features : Features) (settings : Settings) (category candidates : List ℕ) → AreCandidates features category candidates → All (λ (n : ℕ). n < length (nodes features settings)) candidates
 within features settings category candidates are k d inside =

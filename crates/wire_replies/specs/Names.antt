@@ -19,13 +19,14 @@ kind_name kind.Ramp = codes "ramp"
 kind_name kind.Stairs = codes "stairs"
 kind_name kind.Traversal = codes "traversal"
 
--- what a place is
+-- what a node is
 abbrev pub class_name : Class → List ℕ
 class_name class.Amenity = codes "amenity"
 class_name class.Anchor = codes "anchor"
 class_name class.Occupant = codes "occupant"
 class_name class.Opening = codes "opening"
 class_name class.Unit = codes "unit"
+class_name class.Corner = codes "corner"
 
 -- the identifier of a question that names no place
 abbrev pub which_name : Which → List ℕ

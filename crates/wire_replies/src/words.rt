@@ -122,7 +122,7 @@ impl Written for Kind {
     }
 }
 
-// What a place is.
+// What a node is.
 fn class_name(class: Class) -> &'static str
     ensures { result.now ≡ class_name class }
 {
@@ -132,6 +132,7 @@ fn class_name(class: Class) -> &'static str
         Class::Occupant => "occupant",
         Class::Opening => "opening",
         Class::Unit => "unit",
+        Class::Corner => "corner",
     }
 }
 

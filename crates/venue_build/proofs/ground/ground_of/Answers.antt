@@ -9,4 +9,4 @@ returns-in-Many-clause-fault c =
     let features = c.args.features.now in
     let border_tol = c.args.settings.now.border_tol in
     let many : AreKept border_tol features (Many c.in-Many.counts) = subst (λ (m : Matches). AreKept border_tol features m) c.in-Many.is c.in_ok-counts.ensures in
-    c.of_counts.ensures c.args.settings.now (subst (λ (ns : List ℕ). AreKept border_tol features (Many ns)) (sym c.as_slice.ensures) many)
+    c.of_counts.ensures (subst (λ (ns : List ℕ). AreKept border_tol features (Many ns)) (sym c.as_slice.ensures) many)

@@ -1,4 +1,4 @@
 use Rattle.link_graph.proofs.faults.GraphFault.of_counts.Goals as goal
 
 pub returns-in-Ok : goal.returns-in-Ok
-returns-in-Ok c = λ settings many. c.of.ensures c.args.features.now settings (c.in-Ok.ensures settings many)
+returns-in-Ok c = λ many. c.of.ensures c.args.features.now c.args.settings.now (c.in-Ok.ensures many)
