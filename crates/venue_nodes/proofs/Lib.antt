@@ -9,6 +9,8 @@ pub mod Limiting
 mod Overfull
 pub mod Seating
 pub mod Judged
+pub mod CornerTotals
+pub mod Placeable
 pub mod Counts
 pub mod Finding
 pub mod Joining

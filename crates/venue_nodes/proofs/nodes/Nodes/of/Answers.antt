@@ -1,5 +1,5 @@
-use Rattle.venue_nodes.proofs.Judged.{placeable}
+use Rattle.venue_nodes.proofs.Placeable.{placeable}
 use Rattle.venue_nodes.proofs.nodes.Nodes.of.Goals as goal
 
 pub placed-requires : goal.placed-requires
-placed-requires c = placeable c.args.features.now c.requires
+placed-requires c = placeable c.args.features.now c.requires.sound c.requires.close
