@@ -8,11 +8,10 @@ use Rattle.venue_types.specs.declared.features.OccupantRow.{OccupantRow}
 use Rattle.venue_types.specs.declared.features.OpeningRow.{OpeningRow}
 use Rattle.venue_types.specs.declared.features.RelationshipRow.{RelationshipRow}
 use Rattle.venue_types.specs.declared.features.UnitRow.{UnitRow}
-use Rattle.venue_types.specs.declared.settings.Settings.{Settings}
 use Rattle.imdf_access.specs.Categories.{is_walkable}
 use Rattle.feature_rows.specs.Sound.{AreSound}
 use Rattle.venue_nodes.specs.Making.{AreFew}
-use Rattle.venue_nodes.specs.Nodes.{amenity, anchor, opening, unit, node_of_row, place_node_rows, place_nodes, node_rows, nodes, closables, walkable_units}
+use Rattle.venue_nodes.specs.Nodes.{amenity, anchor, opening, unit, node_of_row, place_node_rows, place_nodes, closables, walkable_units}
 
 kept_one : {X : Type 0} (b : Bool) (x : X) (ys xs : List X) → length ys ≤ length xs → length (cond b (x ∷ ys) ys) ≤ length (x ∷ xs)
 kept_one true x ys xs h = omega arith
@@ -50,10 +49,6 @@ few_places features few =
     let whole = joined (map amenity features.amenities) (map anchor features.anchors) (map opening features.openings) (map unit (walkable_units features)) 100000 (omega arith) in
     let f = length-map (place_node_rows features) node_of_row in
     omega arith
-
-pub few_nodes : (features : Features) (settings : Settings) → AreFew features → length (nodes features settings) ≤ 100000
-unfolding nodes node_rows place_nodes
-few_nodes features settings few = few_places features few
 
 pub few_closables : (features : Features) → AreFew features → length (closables features) ≤ 100000
 unfolding closables

@@ -10,7 +10,9 @@ mod Overfull
 pub mod Seating
 pub mod Judged
 pub mod CornerTotals
+pub mod Behind
 pub mod Placeable
+pub mod CornerSteps
 pub mod Counts
 pub mod Finding
 pub mod Joining

@@ -39,10 +39,14 @@ find_closable made id = number_of made.closable_numbers id
 unfoldable pub corner_ranges : Nodes → List CornerRange
 corner_ranges made = made.corners.items
 
+-- the range of so many numbers from this one on
+abbrev pub range_behind : ℕ → ℕ → CornerRange
+range_behind at count = record { start = at; end = at + count }
+
 -- ranges one behind the other, the first from this number on, so many numbers in each
 abbrev pub ranges_from : ℕ → List ℕ → List CornerRange
 ranges_from at [] = []
-ranges_from at (count ∷ counts) = record { start = at; end = at + count } ∷ ranges_from (at + count) counts
+ranges_from at (count ∷ counts) = range_behind at count ∷ ranges_from (at + count) counts
 
 -- how many corners of each unit that can be walked through are nodes
 abbrev pub corner_counts : Features → Settings → List ℕ

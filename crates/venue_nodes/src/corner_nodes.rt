@@ -8,7 +8,7 @@ ghost use Rattle.venue_nodes.specs.Naming.{can_walk};
 ghost use Rattle.venue_nodes.specs.Nodes.{carries, corner_points, corner_rows, corner_rows_from, node_of_row};
 ghost use Rattle.venue_nodes.specs.Bounds.{IsPlaced};
 ghost use Rattle.venue_nodes.specs.Nodes.{unit as of_unit};
-ghost use Rattle.venue_nodes.specs.Views.{ranges_from};
+ghost use Rattle.venue_nodes.specs.Views.{range_behind, ranges_from};
 
 use crate::spots::middle;
 use imdf_access::{unit_kind, walkable};
@@ -39,29 +39,32 @@ pub(crate) fn add_corners(
     let mut ranges = Vec::new(alloc);
     for unit in units {
         if walkable(unit.category.as_str().as_bytes()) {
-            let start = nodes.len() as u32;
-            add_unit_corners(alloc, nodes, unit, inside)?;
-            let end = nodes.len() as u32;
-            ranges.push(CornerRange { start, end })?;
+            ranges.push(add_unit_corners(alloc, nodes, unit, inside)?)?;
         }
     }
     Ok(ranges)
 }
 
-// Adds the nodes of the corners of one unit.
+// Adds the nodes of the corners of one unit, and tells where they stand.
 fn add_unit_corners(
     alloc: Global,
     nodes: &mut Vec<Node>,
     unit: &UnitRow,
     inside: Inside,
-) -> Result<(), OutOfMemory>
+) -> Result<CornerRange, OutOfMemory>
     requires placed { IsPlaced (of_unit unit.now) }
     requires near { AllNearby (vertices unit.now.shape) }
-    requires few { length (corner_points inside unit.now) ≤ 1100000 }
-    ensures { OnOk result (nodes.new.items ≡ nodes.old.items ++ map node_of_row (corner_rows inside unit.now)) }
+    requires few { length nodes.old.items + length (corner_rows inside unit.now) ≤ 1100000 }
+    ensures nodes { IfOk result (λ _. nodes.new.items ≡ nodes.old.items ++ map node_of_row (corner_rows inside unit.now)) }
+    ensures range { IfOk result (λ range. range ≡ range_behind (length nodes.old.items) (length (corner_points inside unit.now))) }
 {
+    let start = nodes.len() as u32;
     let points = corner_points(alloc, unit, inside)?;
-    add_numbered(nodes, unit, points.as_slice())
+    add_numbered(nodes, unit, points.as_slice())?;
+    Ok(CornerRange {
+        start,
+        end: nodes.len() as u32,
+    })
 }
 
 // Adds the nodes of these corners of a unit, numbered from 1.
