@@ -6,6 +6,7 @@ pub mod Spanned
 pub mod Items
 pub mod Named
 pub mod Limiting
+mod Sights
 mod Overfull
 pub mod Seating
 pub mod Judged

@@ -1,6 +1,6 @@
 -- The limits, from rows to units and back.
-use Rattle.std.proofs.Common.{◌≡◌, ℕ, Bool, true, false, ◌+◌, ◌*◌, ◌≤◌, ◌<◌, zero, suc, List, [], ◌∷◌, ◌++◌, Option, Some, None, length, map, take, get_or, refl, sym, ap, subst, ◌∙◌, arith, inl, inr}
-use Rattle.std.specs.Prelude.{Contains, All, IsTrue, slice_get, sum_by}
+use Rattle.std.proofs.Common.{◌≡◌, ℕ, Bool, ◌+◌, ◌*◌, ◌≤◌, ◌<◌, zero, suc, List, [], ◌∷◌, ◌++◌, Option, Some, None, length, map, take, get_or, refl, sym, ap, subst, ◌∙◌, arith, inl, inr}
+use Rattle.std.specs.Prelude.{Contains, All, slice_get, sum_by}
 use Rattle.std.specs.Option.{option_map, option_to_list}
 use Rattle.std.specs.List.Sorted.{IsStrictlySortedBy}
 use Rattle.std.proofs.Math.Nat.{mul-le-mul}
@@ -15,19 +15,20 @@ use Rattle.venue_types.specs.declared.finding.Finding.{Finding}
 use Rattle.imdf_access.specs.Categories.{is_walkable}
 use Rattle.venue_types.specs.declared.folder_file.File.TheVariants as file
 use Rattle.venue_types.specs.FolderFiles.{file_number}
+use Rattle.venue_types.specs.declared.settings.Inside.TheVariants.{Straight, Clear}
 use Rattle.venue_types.specs.declared.settings.Settings.{Settings}
 use Rattle.rule_reports.specs.Reports.{IsReport}
 use Rattle.venue_nodes.specs.declared.limits.Crowding.{Crowding}
-use Rattle.venue_nodes.specs.declared.limits.Crowding.TheVariants.{Members, Squares}
+use Rattle.venue_nodes.specs.declared.limits.Crowding.TheVariants.{Members, Squares, Nodes, Sight}
 use Rattle.venue_nodes.specs.declared.rules.LimitRule.{LimitRule}
-use Rattle.venue_nodes.specs.declared.rules.LimitRule.TheVariants.{S5, S6}
+use Rattle.venue_nodes.specs.declared.rules.LimitRule.TheVariants.{S5, S6, S7, S8}
 use Rattle.venue_nodes.specs.declared.members.Rows.{Rows}
 use Rattle.venue_nodes.specs.Nodes.{walkable_units}
 use Rattle.venue_nodes.specs.Members.{members, places_where}
 use Rattle.imdf_schema.specs.Rules.{rule_number}
-use Rattle.venue_nodes.specs.Limits.{IsCrowded, LimitBreaks, BreaksLimit, square_sum, rule_of}
-use Rattle.venue_nodes.specs.Crowds.{Crowds, NoneCrowded, IsFirstFull, IsRoomy, limit_finding, square_of}
-use Rattle.venue_nodes.specs.Rows.{AreRowsOf, row_list, unit_indexes}
+use Rattle.venue_nodes.specs.Limits.{IsCrowded, HasManyNodes, HasMuchSight, LimitBreaks, BreaksLimit, square_sum, rule_of}
+use Rattle.venue_nodes.specs.Crowds.{Crowds, NoneCrowded, IsRoomyVenue, IsFirstFull, IsRoomy, limit_finding, square_of}
+use Rattle.venue_nodes.specs.Rows.{AreRowsOf, node_total, row_list, unit_indexes}
 use Rattle.venue_nodes.proofs.Items.{from_map}
 use Rattle.venue_nodes.proofs.Places.{places_rise, kept_at, number_of, lesser_number}
 
@@ -48,12 +49,6 @@ sum_on rows w sum row at before =
     let here : get_or rows w row ≡ row = get_or_from_slice_get rows w row row at in
     let more : sum_by square_of (take (w + 1) rows) ≡ sum_by square_of (take w rows) + square_of (get_or rows w row) = sum_by_more square_of rows w row (slice_get_within rows w row at) in
     ap (λ (n : ℕ). n + length row * length row) before ∙ ap (λ (r : List ℕ). sum_by square_of (take w rows) + square_of r) (sym here) ∙ sym more
-
-pub not_above : (n : ℕ) → (20000000 < n → IsTrue false) → n ≤ 20000000
-not_above n denied = elim (cases_lt 20000000 n) [
-  | inl over ↦ absurd (let e : false ≡ true = denied over in cc)
-  | inr under ↦ under
-]
 
 -- ---- the squares
 
@@ -113,15 +108,48 @@ first_crowded features settings rows w k are first at =
           omega arith,
     )
 
+-- ---- walks round walls
+
+pub roomy_venue : (features : Features) (settings : Settings) (rows : Rows) → AreRowsOf features settings rows → All IsRoomy (row_list rows) → sum_by square_of (row_list rows) ≤ 20000000 → IsRoomyVenue features settings
+roomy_venue features settings rows are all few = (none_crowded features settings rows are all, subst (λ (n : ℕ). n ≤ 20000000) (squares_are features settings rows are) few)
+
+pub straight_is_none : (features : Features) (settings : Settings) → settings.inside ≡ Straight → (¬ HasManyNodes features settings) × (¬ HasMuchSight features settings)
+straight_is_none features settings straight =
+    let other : settings.inside ≡ Clear → ⊥ = λ clear. let same : Straight ≡ Clear = sym straight ∙ clear in cc in
+    (λ many. other many.0, λ much. other much.0)
+
+pub few_nodes : (features : Features) (settings : Settings) (rows : Rows) (n : ℕ) → AreRowsOf features settings rows → n ≡ node_total rows → n ≤ 400000 → ¬ HasManyNodes features settings
+few_nodes features settings rows n are is few many = let total = is ∙ are.nodes_are in let more = many.1 in omega (arith, few, total, more)
+
 -- ---- the report
 
 no_rule_before_S5 : (before : LimitRule) → rule_number (rule_of before) < rule_number (rule_of S5) → ⊥
 no_rule_before_S5 S5 under = omega arith
 no_rule_before_S5 S6 under = omega arith
+no_rule_before_S5 S7 under = omega arith
+no_rule_before_S5 S8 under = omega arith
 
 only_S5_before_S6 : (features : Features) (settings : Settings) → NoneCrowded features settings → (before : LimitRule) (k : ℕ) → rule_number (rule_of before) < rule_number (rule_of S6) → ¬ LimitBreaks before features settings k
 only_S5_before_S6 features settings none S5 k under breaks = none k breaks.0
 only_S5_before_S6 features settings none S6 k under breaks = omega arith
+only_S5_before_S6 features settings none S7 k under breaks = omega arith
+only_S5_before_S6 features settings none S8 k under breaks = omega arith
+
+-- of a roomy venue the squares keep their limit
+few_squares : (features : Features) (settings : Settings) (k : ℕ) → IsRoomyVenue features settings → ¬ LimitBreaks S6 features settings k
+few_squares features settings k roomy breaks = let few = roomy.1 in let many = breaks.0 in omega (arith, few, many)
+
+roomy_before_S7 : (features : Features) (settings : Settings) → IsRoomyVenue features settings → (before : LimitRule) (k : ℕ) → rule_number (rule_of before) < rule_number (rule_of S7) → ¬ LimitBreaks before features settings k
+roomy_before_S7 features settings roomy S5 k under breaks = roomy.0 k breaks.0
+roomy_before_S7 features settings roomy S6 k under breaks = few_squares features settings k roomy breaks
+roomy_before_S7 features settings roomy S7 k under breaks = omega arith
+roomy_before_S7 features settings roomy S8 k under breaks = omega arith
+
+few_before_S8 : (features : Features) (settings : Settings) → IsRoomyVenue features settings → ¬ HasManyNodes features settings → (before : LimitRule) (k : ℕ) → rule_number (rule_of before) < rule_number (rule_of S8) → ¬ LimitBreaks before features settings k
+few_before_S8 features settings roomy few S5 k under breaks = roomy.0 k breaks.0
+few_before_S8 features settings roomy few S6 k under breaks = few_squares features settings k roomy breaks
+few_before_S8 features settings roomy few S7 k under breaks = few breaks.0
+few_before_S8 features settings roomy few S8 k under breaks = omega arith
 
 same_finding : (x y : Finding) → x.rule ≡ y.rule → x.file ≡ y.file → x.index ≡ y.index → x.member ≡ y.member → x ≡ y
 same_finding x y rule file index member =
@@ -155,6 +183,26 @@ breaks_squares features settings none many = record {
   at_member = refl;
 }
 
+breaks_nodes : (features : Features) (settings : Settings) → IsRoomyVenue features settings → HasManyNodes features settings → BreaksLimit features settings (limit_finding Nodes)
+breaks_nodes features settings roomy many = record {
+  rule = S7;
+  number = refl;
+  breaks = (many, refl);
+  first = roomy_before_S7 features settings roomy;
+  in_file = refl;
+  at_member = refl;
+}
+
+breaks_sight : (features : Features) (settings : Settings) → IsRoomyVenue features settings → ¬ HasManyNodes features settings → HasMuchSight features settings → BreaksLimit features settings (limit_finding Sight)
+breaks_sight features settings roomy few much = record {
+  rule = S8;
+  number = refl;
+  breaks = (much, refl);
+  first = few_before_S8 features settings roomy few;
+  in_file = refl;
+  at_member = refl;
+}
+
 one_first : (features : Features) (settings : Settings) (k j : ℕ) → LimitBreaks S5 features settings k → LimitBreaks S5 features settings j → j ≡ k
 one_first features settings k j here there = elim (cases_lt k j) [
   | inl before ↦ absurd (there.1 k before here.0)
@@ -164,19 +212,43 @@ one_first features settings k j here there = elim (cases_lt k j) [
   ]
 ]
 
+-- no rule before this one is broken
+abbrev AreKeptBefore : LimitRule → Features → Settings → Type 0
+AreKeptBefore rule features settings = (before : LimitRule) (j : ℕ) → rule_number (rule_of before) < rule_number (rule_of rule) → ¬ LimitBreaks before features settings j
+
 told_members : (features : Features) (settings : Settings) (k : ℕ) (x : Finding) → LimitBreaks S5 features settings k → (rule : LimitRule) → x.rule ≡ rule_number (rule_of rule) → LimitBreaks rule features settings x.index
-    → ((before : LimitRule) (j : ℕ) → rule_number (rule_of before) < rule_number (rule_of rule) → ¬ LimitBreaks before features settings j) → x.file ≡ file_number file.Unit → x.member ≡ 0 → x ≡ limit_finding (Members k)
+    → AreKeptBefore rule features settings → x.file ≡ file_number file.Unit → x.member ≡ 0 → x ≡ limit_finding (Members k)
 told_members features settings k x crowd S5 number breaks first in_file at_member = same_finding x (limit_finding (Members k)) number in_file (one_first features settings k x.index crowd breaks) at_member
 told_members features settings k x crowd S6 number breaks first in_file at_member = absurd (first S5 k (omega arith) crowd)
+told_members features settings k x crowd S7 number breaks first in_file at_member = absurd (first S5 k (omega arith) crowd)
+told_members features settings k x crowd S8 number breaks first in_file at_member = absurd (first S5 k (omega arith) crowd)
 
-told_squares : (features : Features) (settings : Settings) (x : Finding) → NoneCrowded features settings → (rule : LimitRule) → x.rule ≡ rule_number (rule_of rule) → LimitBreaks rule features settings x.index
-    → x.file ≡ file_number file.Unit → x.member ≡ 0 → x ≡ limit_finding Squares
-told_squares features settings x none S5 number breaks in_file at_member = absurd (none x.index breaks.0)
-told_squares features settings x none S6 number breaks in_file at_member = same_finding x (limit_finding Squares) number in_file breaks.1 at_member
+told_squares : (features : Features) (settings : Settings) (x : Finding) → NoneCrowded features settings → 20000000 < square_sum features settings → (rule : LimitRule) → x.rule ≡ rule_number (rule_of rule) → LimitBreaks rule features settings x.index
+    → AreKeptBefore rule features settings → x.file ≡ file_number file.Unit → x.member ≡ 0 → x ≡ limit_finding Squares
+told_squares features settings x none many S5 number breaks first in_file at_member = absurd (none x.index breaks.0)
+told_squares features settings x none many S6 number breaks first in_file at_member = same_finding x (limit_finding Squares) number in_file breaks.1 at_member
+told_squares features settings x none many S7 number breaks first in_file at_member = absurd (first S6 0 (omega arith) (many, refl))
+told_squares features settings x none many S8 number breaks first in_file at_member = absurd (first S6 0 (omega arith) (many, refl))
 
-told_nothing : (features : Features) (settings : Settings) (x : Finding) → NoneCrowded features settings → square_sum features settings ≤ 20000000 → (rule : LimitRule) → LimitBreaks rule features settings x.index → ⊥
-told_nothing features settings x none few S5 breaks = none x.index breaks.0
-told_nothing features settings x none few S6 breaks = let many : 20000000 < square_sum features settings = breaks.0 in omega arith
+told_nodes : (features : Features) (settings : Settings) (x : Finding) → IsRoomyVenue features settings → HasManyNodes features settings → (rule : LimitRule) → x.rule ≡ rule_number (rule_of rule) → LimitBreaks rule features settings x.index
+    → AreKeptBefore rule features settings → x.file ≡ file_number file.Unit → x.member ≡ 0 → x ≡ limit_finding Nodes
+told_nodes features settings x roomy many S5 number breaks first in_file at_member = absurd (roomy.0 x.index breaks.0)
+told_nodes features settings x roomy many S6 number breaks first in_file at_member = absurd (few_squares features settings x.index roomy breaks)
+told_nodes features settings x roomy many S7 number breaks first in_file at_member = same_finding x (limit_finding Nodes) number in_file breaks.1 at_member
+told_nodes features settings x roomy many S8 number breaks first in_file at_member = absurd (first S7 0 (omega arith) (many, refl))
+
+told_sight : (features : Features) (settings : Settings) (x : Finding) → IsRoomyVenue features settings → ¬ HasManyNodes features settings → (rule : LimitRule) → x.rule ≡ rule_number (rule_of rule) → LimitBreaks rule features settings x.index
+    → x.file ≡ file_number file.Unit → x.member ≡ 0 → x ≡ limit_finding Sight
+told_sight features settings x roomy few S5 number breaks in_file at_member = absurd (roomy.0 x.index breaks.0)
+told_sight features settings x roomy few S6 number breaks in_file at_member = absurd (few_squares features settings x.index roomy breaks)
+told_sight features settings x roomy few S7 number breaks in_file at_member = absurd (few breaks.0)
+told_sight features settings x roomy few S8 number breaks in_file at_member = same_finding x (limit_finding Sight) number in_file breaks.1 at_member
+
+told_nothing : (features : Features) (settings : Settings) (k : ℕ) → Crowds features settings None → (rule : LimitRule) → ¬ LimitBreaks rule features settings k
+told_nothing features settings k crowds S5 breaks = crowds.0.0 k breaks.0
+told_nothing features settings k crowds S6 breaks = few_squares features settings k crowds.0 breaks
+told_nothing features settings k crowds S7 breaks = crowds.1 breaks.0
+told_nothing features settings k crowds S8 breaks = crowds.2 breaks.0
 
 listed_one : {P : Finding → Type 0} (x : Finding) → P x → ((y : Finding) → P y → y ≡ x) → IsReport P (x ∷ [])
 unfolding IsStrictlySortedBy
@@ -195,12 +267,14 @@ listed_none none = record {
 }
 
 pub report : (features : Features) (settings : Settings) (limit : Option Crowding) → Crowds features settings limit → IsReport (BreaksLimit features settings) (option_to_list (option_map limit_finding limit))
-report features settings None crowds = listed_none (λ y b. told_nothing features settings y crowds.0 crowds.1 b.rule b.breaks)
+report features settings None crowds = listed_none (λ y b. told_nothing features settings y.index crowds b.rule b.breaks)
 report features settings (Some (Members k)) crowds = listed_one (limit_finding (Members k)) (breaks_members features settings k crowds) (λ y b. told_members features settings k y crowds b.rule b.number b.breaks b.first b.in_file b.at_member)
-report features settings (Some Squares) crowds = listed_one (limit_finding Squares) (breaks_squares features settings crowds.0 crowds.1) (λ y b. told_squares features settings y crowds.0 b.rule b.number b.breaks b.in_file b.at_member)
+report features settings (Some Squares) crowds = listed_one (limit_finding Squares) (breaks_squares features settings crowds.0 crowds.1) (λ y b. told_squares features settings y crowds.0 crowds.1 b.rule b.number b.breaks b.first b.in_file b.at_member)
+report features settings (Some Nodes) crowds = listed_one (limit_finding Nodes) (breaks_nodes features settings crowds.0 crowds.1) (λ y b. told_nodes features settings y crowds.0 crowds.1 b.rule b.number b.breaks b.first b.in_file b.at_member)
+report features settings (Some Sight) crowds = listed_one (limit_finding Sight) (breaks_sight features settings crowds.0 crowds.1 crowds.2) (λ y b. told_sight features settings y crowds.0 crowds.1 b.rule b.number b.breaks b.in_file b.at_member)
 
 pub told_one : (none found : List Finding) (x y : Finding) → none ≡ [] → x ≡ y → found ≡ none ++ x ∷ [] → found ≡ y ∷ []
 told_one none found x y empty is pushed = pushed ∙ ap (λ (xs : List Finding). xs ++ x ∷ []) empty ∙ ap (λ (z : Finding). z ∷ []) is
 
 pub limits_told : (features : Features) (settings : Settings) (x : Finding) → Crowds features settings None → ¬ BreaksLimit features settings x
-limits_told features settings x crowds breaks = told_nothing features settings x crowds.0 crowds.1 breaks.rule breaks.breaks
+limits_told features settings x crowds breaks = told_nothing features settings x.index crowds breaks.rule breaks.breaks

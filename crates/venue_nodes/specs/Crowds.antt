@@ -1,6 +1,8 @@
 -- Which limit the rows pass first.
-use Rattle.std.specs.Prelude.{◌≡◌, ℕ, ◌+◌, ◌*◌, ◌≤◌, ◌<◌, List, length, slice_get, slice_index_or, Option, Some, None}
+use Rattle.std.specs.Prelude.{◌≡◌, ℕ, ◌+◌, ◌*◌, ◌≤◌, ◌<◌, List, length, slice_get, slice_index_or, Option, Some, None, if◌then◌else◌}
 use Rattle.venue_types.specs.declared.features.Features.{Features}
+use Rattle.venue_types.specs.declared.features.UnitRow.{UnitRow}
+use Rattle.plane_exact.specs.Figure.{all_edges}
 use Rattle.venue_types.specs.declared.settings.Settings.{Settings}
 use Rattle.venue_nodes.specs.declared.limits.Crowding.{Crowding}
 use Rattle.venue_nodes.specs.declared.limits.Crowding.TheVariants.{Members, Squares, Nodes, Sight}
@@ -9,6 +11,7 @@ use Rattle.venue_types.specs.declared.folder_file.File.TheVariants as file
 use Rattle.imdf_schema.specs.Places.{finding_at}
 use Rattle.venue_nodes.specs.declared.rules.LimitRule.TheVariants.{S5, S6, S7, S8}
 use Rattle.venue_nodes.specs.declared.members.Rows.{Rows}
+use Rattle.venue_nodes.specs.Nodes.{carries}
 use Rattle.venue_nodes.specs.Limits.{IsCrowded, HasManyNodes, HasMuchSight, square_sum, rule_of}
 use Rattle.venue_nodes.specs.Rows.{row_list, unit_indexes}
 
@@ -63,3 +66,11 @@ pub record IsFirstOver (rows : Rows) (counts : List ℕ) (k : ℕ) : Type 0 wher
 -- the square of the number of members in a row
 abbrev pub square_of : List ℕ → ℕ
 square_of row = length row * length row
+
+-- how much there is to look through in a unit of so many members: their square, times the unit's edges; nothing where people are carried
+abbrev pub sight_of : UnitRow → ℕ → ℕ
+sight_of u count = if carries u then 0 else count * count * length (all_edges u.shape)
+
+-- the same in the unit of this index; nothing where there is none
+abbrev pub sight_at : List UnitRow → ℕ → ℕ → ℕ
+sight_at units k count = elim (slice_get units k) [ None ↦ 0 | Some u ↦ sight_of u count ]

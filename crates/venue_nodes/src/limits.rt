@@ -1,17 +1,16 @@
 //! Which limit on members and nodes a folder passes.
 
-ghost use Rattle.std.specs.Prelude.{◌≡◌, ◌≢◌, ◌↔◌, ◌+◌, ◌<◌, ◌≤◌, ◌*◌, ℕ, List, [], All, IfOk, IsTrue, MatchOption, Some, None, slice_index_or, sum_by, length, if◌then◌else◌};
+ghost use Rattle.std.specs.Prelude.{◌≡◌, ◌≢◌, ◌↔◌, ◌+◌, ◌<◌, ◌≤◌, ℕ, List, [], All, IfOk, IsTrue, MatchOption, Some, None, slice_index_or, sum_by, length};
 ghost use Rattle.venue_types.specs.declared.features.Features.{Features as AFeatures};
 ghost use Rattle.venue_types.specs.declared.finding.Finding.{Finding as AFinding};
-ghost use Rattle.plane_exact.specs.Figure.{AllClose, all_edges, vertices};
+ghost use Rattle.plane_exact.specs.Figure.{AllClose, vertices};
 ghost use Rattle.venue_types.specs.declared.settings.Settings.{Settings as ASettings};
 ghost use Rattle.feature_rows.specs.Figures.{judged_positions};
 ghost use Rattle.feature_rows.specs.Rows.{HaveOwnIds};
 ghost use Rattle.feature_rows.specs.Sound.{AreSound};
 ghost use Rattle.rule_reports.specs.Reports.{IsReport};
-ghost use Rattle.venue_nodes.specs.Crowds.{Crowds, IsFirstFull, IsFirstOver, IsOver, IsRoomy, IsRoomyVenue, limit_finding, square_of};
+ghost use Rattle.venue_nodes.specs.Crowds.{Crowds, IsFirstFull, IsFirstOver, IsOver, IsRoomy, limit_finding, sight_at, sight_of, square_of};
 ghost use Rattle.venue_nodes.specs.Limits.{BreaksLimit, sight_sum};
-ghost use Rattle.venue_nodes.specs.Nodes.{carries};
 ghost use Rattle.venue_nodes.specs.Rows.{AreRowsOf, row_list};
 ghost use Rattle.venue_nodes.specs.TouchCounts.{TouchMany};
 
@@ -66,11 +65,7 @@ impl Crowding {
 }
 
 /// The limit that the rows pass first, if they pass one.
-pub fn first_crowding(
-    features: &Features,
-    settings: &Settings,
-    rows: &Rows,
-) -> Option<Crowding>
+pub fn first_crowding(features: &Features, settings: &Settings, rows: &Rows) -> Option<Crowding>
     requires sound { AreSound features.now }
     requires rows { AreRowsOf features.now settings.now rows.now }
     ensures { Crowds features.now settings.now result }
@@ -83,14 +78,11 @@ pub fn first_crowding(
 }
 
 // The limit on walks round walls that is passed first, of rows whose members keep theirs.
-fn crowding_by_walls(
-    features: &Features,
-    settings: &Settings,
-    rows: &Rows,
-) -> Option<Crowding>
+fn crowding_by_walls(features: &Features, settings: &Settings, rows: &Rows) -> Option<Crowding>
     requires sound { AreSound features.now }
     requires rows { AreRowsOf features.now settings.now rows.now }
-    requires roomy { IsRoomyVenue features.now settings.now }
+    requires roomy { All IsRoomy (row_list rows.now) }
+    requires squares { sum_by square_of (row_list rows.now) ≤ 20000000 }
     ensures { Crowds features.now settings.now result }
 {
     match settings.inside {
@@ -203,18 +195,28 @@ fn sight_passes(features: &Features, rows: &Rows) -> bool
 {
     let mut sum: u64 = 0;
     for w in 0..rows.len() {
-        if let Some(unit) = features.units.get(rows.unit_index(w) as usize) {
-            sum += sight_of(unit, rows.row(w).len() as u64);
-        }
+        sum += sight_at(features, rows.unit_index(w), rows.row(w).len() as u64);
     }
     sum > MOST_SIGHT
+}
+
+// The same of the unit of an index and its number of members; nothing where there is no unit.
+fn sight_at(features: &Features, k: u32, count: u64) -> u64
+    requires sound { AreSound features.now }
+    requires few { count ≤ 4096 }
+    ensures { result ≡ sight_at features.now.units k count }
+{
+    match features.units.get(k as usize) {
+        Some(unit) => sight_of(unit, count),
+        None => 0,
+    }
 }
 
 // The square of the number of members times the number of the unit's edges; nothing where people are carried.
 fn sight_of(unit: &UnitRow, count: u64) -> u64
     requires few { count ≤ 4096 }
     requires few_points { length (vertices unit.now.shape) ≤ 1000000 }
-    ensures { result ≡ (if carries unit.now then 0 else count * count * length (all_edges unit.now.shape)) }
+    ensures { result ≡ sight_of unit.now count }
 {
     if carries(unit) {
         0

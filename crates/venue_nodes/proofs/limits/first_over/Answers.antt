@@ -1,4 +1,4 @@
-use Rattle.std.proofs.Common.{◌<◌, arith}
+use Rattle.std.proofs.Common.{arith}
 use Rattle.std.proofs.lemmas.Option.{slice_get_within}
 use Rattle.venue_nodes.specs.Rows.{row_list}
 use Rattle.venue_nodes.proofs.Overfull.{none_next, not_so}
