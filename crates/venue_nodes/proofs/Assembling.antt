@@ -10,9 +10,9 @@ use Rattle.venue_types.specs.declared.settings.Settings.{Settings}
 use Rattle.venue_nodes.specs.declared.nodes.Nodes.{Nodes}
 use Rattle.venue_nodes.specs.declared.numbers.Numbers.{Numbers}
 use Rattle.venue_nodes.specs.Identity.{is_same}
-use Rattle.venue_nodes.specs.Nodes.{place_nodes, node_rows, nodes, node_number, place_of, closables}
+use Rattle.venue_nodes.specs.Nodes.{place_nodes, nodes, node_number, place_of, closables}
 use Rattle.venue_nodes.specs.Numbering.{number_among}
-use Rattle.venue_nodes.specs.Views.{number_of, node_list, find_place, closable_list, find_closable, AreNodes}
+use Rattle.venue_nodes.specs.Views.{number_of, node_list, corner_ranges, ranges_from, corner_counts, find_place, closable_list, find_closable, AreNodes}
 use Rattle.venue_nodes.proofs.Finding.{number_map, by_number, occupant_place, number_same}
 
 -- the numbers are those of these identifiers
@@ -23,6 +23,7 @@ pub record Number (ids : List FeatureId) (numbers : Numbers) : Type 0 where
 pub record AreParts (features : Features) (settings : Settings) (made : Nodes) : Type 0 where
   pub list : made.list.items ≡ nodes features settings
   pub numbers : Number (map (λ (node : Node). node.id) (place_nodes features)) made.numbers
+  pub corners : made.corners.items ≡ ranges_from (length (place_nodes features)) (corner_counts features settings)
   pub occupants : Number (map (λ (row : OccupantRow). row.id) features.occupants) made.occupants
   pub anchors : made.anchors.items ≡ map (λ (row : OccupantRow). row.anchor) features.occupants
   pub closable_ids : made.closable_ids.items ≡ closables features
@@ -43,10 +44,11 @@ place_found features settings made parts id =
     ∙ occupant_place g (g id) (λ (row : OccupantRow). is_same row.id id) features.occupants
 
 pub are_nodes : (features : Features) (settings : Settings) (made : Nodes) → AreParts features settings made → AreNodes features settings made
-unfolding node_list closable_list find_closable
+unfolding node_list corner_ranges closable_list find_closable
 are_nodes features settings made parts = record {
   list = parts.list;
   place = place_found features settings made parts;
+  corners = parts.corners;
   closable_ids = parts.closable_ids;
   closable = λ id. parts.closable_numbers.number id ∙ ap (λ (ids : List FeatureId). number_among ids id) parts.closable_ids;
 }
@@ -63,11 +65,3 @@ short_ids f xs ys ids read r e s few =
 
 pub short_list : {X : Type 0} (xs ys : List X) → xs ≡ ys → length ys ≤ 100000 → length xs ≤ 400000
 short_list xs ys e few = let a : length xs ≡ length ys = ap length e in omega arith
-
-pub short_nodes : {X : Type 0} (xs ys : List X) → xs ≡ ys → length ys ≤ 100000 → length xs ≤ 1100000
-short_nodes xs ys e few = let a : length xs ≡ length ys = ap length e in omega arith
-
--- what is made of these features' nodes
-pub all_nodes : (features : Features) (settings : Settings) (list : List Node) → list ≡ place_nodes features → list ≡ nodes features settings
-unfolding nodes node_rows place_nodes
-all_nodes features settings list e = e

@@ -1,15 +1,20 @@
 -- The nodes of corners stand behind those of the places.
-use Rattle.std.proofs.Common.{◌≡◌, ◌+◌, ◌≤◌, List, [], ◌∷◌, ◌++◌, map, flat_map, length, inl, inr, refl, ap, arith, length-append}
+use Rattle.std.proofs.Common.{◌≡◌, ◌+◌, ◌≤◌, List, [], ◌∷◌, ◌++◌, map, filter, flat_map, length, inl, inr, refl, sym, ap, ap₂, ◌∙◌, arith, length-append}
 use Rattle.std.proofs.lemmas.Bool.{cases_lt}
 use Rattle.std.proofs.lemmas.List.{length-map, map-append}
 use Rattle.venue_types.specs.declared.features.Features.{Features}
 use Rattle.venue_types.specs.declared.features.UnitRow.{UnitRow}
+use Rattle.venue_types.specs.declared.link.Node.{Node}
 use Rattle.venue_types.specs.declared.settings.Inside.{Inside}
 use Rattle.venue_types.specs.declared.settings.Inside.TheVariants.{Straight, Clear}
 use Rattle.venue_types.specs.declared.settings.Settings.{Settings}
 use Rattle.feature_rows.specs.Sound.{AreSound}
 use Rattle.venue_nodes.specs.Limits.{HasManyNodes}
-use Rattle.venue_nodes.specs.Nodes.{node_of_row, place_node_rows, place_nodes, walkable_units, corner_rows, room_corners, node_rows, nodes}
+use Rattle.venue_nodes.specs.declared.corner_nodes.CornerRange.{CornerRange}
+use Rattle.venue_nodes.specs.Making.{CanPlace}
+use Rattle.venue_nodes.specs.Naming.{can_walk}
+use Rattle.venue_nodes.specs.Views.{ranges_from, corner_counts}
+use Rattle.venue_nodes.specs.Nodes.{corner_points, node_of_row, place_node_rows, place_nodes, walkable_units, corner_rows, room_corners, node_rows, nodes}
 use Rattle.venue_nodes.proofs.Counts.{are_few, few_places}
 use Rattle.venue_nodes.proofs.CornerTotals.{few_room_corners}
 
@@ -53,3 +58,35 @@ by_inside features settings Clear sound few is = elim (cases_lt 400000 (length (
 
 pub clear_nodes : (features : Features) (settings : Settings) → AreSound features → ¬ HasManyNodes features settings → length (nodes features settings) ≤ 400000
 clear_nodes features settings sound few = by_inside features settings settings.inside sound few refl
+
+-- ---- what is made
+
+pub nodes_made : (features : Features) (settings : Settings) (places after : List Node) (units : List UnitRow) → places ≡ place_nodes features → units ≡ features.units
+    → after ≡ places ++ map node_of_row (flat_map (corner_rows settings.inside) (filter can_walk units)) → after ≡ nodes features settings
+unfolding room_corners
+nodes_made features settings places after units first rows added =
+    added
+    ∙ ap₂ (λ (list : List Node) (us : List UnitRow). list ++ map node_of_row (flat_map (corner_rows settings.inside) (filter can_walk us))) first rows
+    ∙ sym (corners_behind features settings)
+
+pub corners_fit : (features : Features) (settings : Settings) (places : List Node) (units : List UnitRow) → CanPlace features → places ≡ place_nodes features → units ≡ features.units
+    → length places + length (flat_map (corner_rows settings.inside) (filter can_walk units)) ≤ 1100000
+unfolding room_corners
+corners_fit features settings places units can first rows =
+    let few = few_places features can.few in
+    let corners = can.few_corners settings in
+    let front = ap (λ (list : List Node). length list) first in
+    let behind = ap (λ (us : List UnitRow). length (flat_map (corner_rows settings.inside) (filter can_walk us))) rows in
+    omega arith
+
+pub nodes_fit : (features : Features) (settings : Settings) (list : List Node) → CanPlace features → list ≡ nodes features settings → length list ≤ 1100000
+nodes_fit features settings list can e =
+    let few = few_places features can.few in
+    let corners = can.few_corners settings in
+    let all = ap (λ (made : List Node). length made) e in
+    omega (arith, nodes_long features settings)
+
+pub ranges_made : (features : Features) (settings : Settings) (places : List Node) (ranges : List CornerRange) (units : List UnitRow) → places ≡ place_nodes features → units ≡ features.units
+    → ranges ≡ ranges_from (length places) (map (λ (row : UnitRow). length (corner_points settings.inside row)) (filter can_walk units)) → ranges ≡ ranges_from (length (place_nodes features)) (corner_counts features settings)
+ranges_made features settings places ranges units first rows made =
+    made ∙ ap₂ (λ (list : List Node) (us : List UnitRow). ranges_from (length list) (map (λ (row : UnitRow). length (corner_points settings.inside row)) (filter can_walk us))) first rows
