@@ -1,5 +1,5 @@
 -- What a folder's nodes name, and the members of its units.
-use Rattle.std.proofs.Common.{◌≡◌, ◌↔◌, ℕ, ◌+◌, ◌≤◌, zero, suc, List, [], ◌∷◌, ◌++◌, Some, None, Bool, true, false, ◌||◌, length, map, filter, refl, sym, ap, subst, ◌∙◌, arith, length-append}
+use Rattle.std.proofs.Common.{◌≡◌, ◌↔◌, ℕ, ◌+◌, ◌≤◌, zero, suc, List, [], ◌∷◌, ◌++◌, Some, None, Bool, true, false, ◌||◌, length, map, filter, flat_map, replicate, refl, sym, ap, subst, ◌∙◌, arith, length-append}
 use Rattle.std.specs.Prelude.{IsTrue, slice_get}
 use Rattle.std.specs.List.{AllZip}
 use Rattle.std.specs.Option.{option_map}
@@ -13,15 +13,19 @@ use Rattle.venue_types.specs.declared.features.AnchorRow.{AnchorRow}
 use Rattle.venue_types.specs.declared.features.OpeningRow.{OpeningRow}
 use Rattle.venue_types.specs.declared.features.UnitRow.{UnitRow}
 use Rattle.venue_types.specs.declared.link.Touches as touching
+use Rattle.venue_types.specs.declared.point.Point.{Point}
+use Rattle.venue_types.specs.declared.settings.Inside.{Inside}
 use Rattle.venue_types.specs.declared.settings.Settings.{Settings}
 use Rattle.plane_exact.specs.Opening.{Touches, HaveTouch, AreTouches}
 use Rattle.feature_rows.specs.Rows.{feature_count}
 use Rattle.feature_rows.specs.Indexes.{AreOnce}
+use Rattle.feature_rows.specs.Sound.{AreSound}
 use Rattle.venue_nodes.specs.Identity.{is_same}
 use Rattle.venue_nodes.specs.Touching.{does_touch}
-use Rattle.venue_nodes.specs.Nodes.{NodeRow, amenity, anchor, opening, unit, place_node_rows, node_rows, walkable_units}
+use Rattle.venue_nodes.specs.Nodes.{NodeRow, amenity, anchor, opening, unit, corner, corner_points, corner_rows, corner_rows_from, place_node_rows, room_corners, node_rows, nodes, node_of_row, walkable_units}
 use Rattle.venue_nodes.specs.Members.{is_member, members, places_where}
-use Rattle.venue_nodes.specs.Naming.{names, numbers, row_in, can_walk, unit_id, ids_at, named_by, node_bound}
+use Rattle.venue_nodes.specs.Naming.{names, numbers, row_in, can_walk, unit_id, ids_at, corner_names, named_by, named_by_corners, place_bound}
+use Rattle.venue_nodes.proofs.CornerTotals.{few_room_corners, names_many}
 use Rattle.venue_nodes.proofs.Items.{given_from, given_to, map_twice}
 use Rattle.venue_nodes.proofs.Named.{names_one, one_names}
 use Rattle.venue_nodes.proofs.Places.{places-zip, places_count, places_few, kept_at}
@@ -48,6 +52,24 @@ zip_append R (x ∷ xs) xs' (y ∷ ys) ys' zip zip' = (zip.0, zip_append R xs xs
 pub or_false : (b : Bool) → ◌||◌ b false ≡ b
 or_false true = refl
 or_false false = refl
+
+-- the corners of a unit agree with what they name, where each does
+corners_zip : (t : List FeatureId → Bool) (s : NodeRow → Bool) (row : UnitRow) (n : ℕ) (points : List Point) → ((k : ℕ) (p : Point) → t (row.id ∷ []) ≡ s (corner row k p))
+    → AllZip (λ x y. t x ≡ s y) (replicate (length points) (row.id ∷ [])) (corner_rows_from row n points)
+corners_zip t s row n [] same = tt
+corners_zip t s row n (p ∷ ps) same = (same n p, corners_zip t s row (n + 1) ps same)
+
+rooms_zip : (t : List FeatureId → Bool) (s : NodeRow → Bool) (inside : Inside) (rows : List UnitRow) → ((row : UnitRow) (k : ℕ) (p : Point) → t (row.id ∷ []) ≡ s (corner row k p))
+    → AllZip (λ x y. t x ≡ s y) (flat_map (corner_names inside) rows) (flat_map (corner_rows inside) rows)
+rooms_zip t s inside [] same = tt
+rooms_zip t s inside (row ∷ rows) same =
+    zip_append (λ x y. t x ≡ s y) (corner_names inside row) (flat_map (corner_names inside) rows) (corner_rows inside row) (flat_map (corner_rows inside) rows)
+    (corners_zip t s row 1 (corner_points inside row) (same row)) (rooms_zip t s inside rows same)
+
+-- a unit's corners have it as members, and no other unit
+pub own_corners : (u : UnitRow) (border_tol : ℕ) (inside : Inside) (units : List UnitRow) → AllZip (λ ids row. names ids u.id ≡ is_member border_tol u row) (named_by_corners inside units) (flat_map (corner_rows inside) (filter can_walk units))
+unfolding named_by_corners
+own_corners u border_tol inside units = rooms_zip (λ (ids : List FeatureId). names ids u.id) (is_member border_tol u) inside (filter can_walk units) (λ row k p. or_false (is_same row.id u.id))
 
 same_test : (a b : Bool) → (a ≡ true → b ≡ true) → (b ≡ true → a ≡ true) → a ≡ b
 same_test true b into back = sym (into refl)
@@ -90,8 +112,8 @@ touch_back features border_tol touches known o row door at_row at_door k u at_un
 -- ---- a unit's row
 
 pub row_is : (features : Features) (settings : Settings) (touches : touching.Touches) → IsTouched features settings.border_tol touches → (k : ℕ) (u : UnitRow) → slice_get features.units k ≡ Some u
-    → row_in (named_by features touches.rows (map unit_id (filter can_walk features.units))) u.id ≡ members features settings u
-unfolding members node_rows place_node_rows
+    → row_in (named_by features settings.inside touches.rows (map unit_id (filter can_walk features.units))) u.id ≡ members features settings u
+unfolding members node_rows place_node_rows room_corners
 row_is features settings touches known k u at_unit =
     let t : List FeatureId → Bool = λ ids. names ids u.id in
     let s : NodeRow → Bool = is_member settings.border_tol u in
@@ -105,52 +127,97 @@ row_is features settings touches known k u at_unit =
     let four : AllZip R (map (λ (id : FeatureId). id ∷ []) (map unit_id ways)) (map unit ways) =
     subst (λ (xs : List (List FeatureId)). AllZip R xs (map unit ways)) (sym (map_twice (λ (id : FeatureId). id ∷ []) unit_id ways))
     (zip_maps t s (λ (row : UnitRow). row.id ∷ []) unit ways (λ r. or_false (is_same r.id u.id))) in
-    places-zip t s 0 (named_by features touches.rows (map unit_id ways)) (map amenity features.amenities ++ map anchor features.anchors ++ map opening features.openings ++ map unit ways)
-    (zip_append R (map (λ (row : AmenityRow). row.units) features.amenities ++ map (λ (row : AnchorRow). row.unit ∷ []) features.anchors ++ map (ids_at features.units) touches.rows) (map (λ (id : FeatureId). id ∷ []) (map unit_id ways))
-    (map amenity features.amenities ++ map anchor features.anchors ++ map opening features.openings) (map unit ways)
-    (zip_append R (map (λ (row : AmenityRow). row.units) features.amenities ++ map (λ (row : AnchorRow). row.unit ∷ []) features.anchors) (map (ids_at features.units) touches.rows)
-    (map amenity features.amenities ++ map anchor features.anchors) (map opening features.openings)
-    (zip_append R (map (λ (row : AmenityRow). row.units) features.amenities) (map (λ (row : AnchorRow). row.unit ∷ []) features.anchors) (map amenity features.amenities) (map anchor features.anchors) one two)
+    let five : AllZip R (named_by_corners settings.inside features.units) (flat_map (corner_rows settings.inside) ways) = own_corners u settings.border_tol settings.inside features.units in
+    let a1 = map (λ (row : AmenityRow). row.units) features.amenities in
+    let b1 = map (λ (row : AnchorRow). row.unit ∷ []) features.anchors in
+    let c1 = map (ids_at features.units) touches.rows in
+    let d1 = map (λ (id : FeatureId). id ∷ []) (map unit_id ways) in
+    let a2 = map amenity features.amenities in
+    let b2 = map anchor features.anchors in
+    let c2 = map opening features.openings in
+    let d2 = map unit ways in
+    let e2 = flat_map (corner_rows settings.inside) ways in
+    places-zip t s 0 (named_by features settings.inside touches.rows (map unit_id ways)) (a2 ++ b2 ++ c2 ++ d2 ++ e2)
+    (zip_append R (a1 ++ b1 ++ c1 ++ d1) (named_by_corners settings.inside features.units) (a2 ++ b2 ++ c2 ++ d2) e2
+    (zip_append R (a1 ++ b1 ++ c1) d1 (a2 ++ b2 ++ c2) d2
+    (zip_append R (a1 ++ b1) c1 (a2 ++ b2) c2
+    (zip_append R a1 b1 a2 b2 one two)
     three)
     four)
+    five)
 
 map_same_in : {A B : Type 0} (f g : A → B) (xs : List A) → ((w : ℕ) (x : A) → slice_get xs w ≡ Some x → f x ≡ g x) → map f xs ≡ map g xs
 map_same_in f g [] e = refl
 map_same_in {A} {B} f g (x ∷ xs) e = ap (λ (y : B). y ∷ map f xs) (e 0 x refl) ∙ ap (λ (ys : List B). g x ∷ ys) (map_same_in f g xs (λ w y at. e (suc w) y at))
 
 pub rows_are : (features : Features) (settings : Settings) (touches : touching.Touches) → IsTouched features settings.border_tol touches
-    → map (row_in (named_by features touches.rows (map unit_id (filter can_walk features.units)))) (map unit_id (filter can_walk features.units)) ≡ map (members features settings) (walkable_units features)
+    → map (row_in (named_by features settings.inside touches.rows (map unit_id (filter can_walk features.units)))) (map unit_id (filter can_walk features.units)) ≡ map (members features settings) (walkable_units features)
 rows_are features settings touches known =
     let ways = filter can_walk features.units in
     let ids = map unit_id ways in
-    map_twice (row_in (named_by features touches.rows ids)) unit_id ways
-    ∙ map_same_in (λ (u : UnitRow). row_in (named_by features touches.rows ids) u.id) (members features settings) ways
+    map_twice (row_in (named_by features settings.inside touches.rows ids)) unit_id ways
+    ∙ map_same_in (λ (u : UnitRow). row_in (named_by features settings.inside touches.rows ids) u.id) (members features settings) ways
     (λ w u at. let kept = kept_at can_walk 0 features.units w u at in row_is features settings touches known kept.k u kept.there)
 
 -- ---- how many nodes
 
-pub few_rows : (features : Features) (touched : List (List ℕ)) → feature_count features ≤ 100000 → length touched ≡ length features.openings → node_bound features touched ≤ 100000
+pub few_rows : (features : Features) (touched : List (List ℕ)) → feature_count features ≤ 100000 → length touched ≡ length features.openings → place_bound features touched ≤ 100000
 few_rows features touched few paired =
     omega (arith, few, paired, length-map features.amenities (λ (row : AmenityRow). row.id), length-map features.anchors (λ (row : AnchorRow). row.id), length-map features.openings (λ (row : OpeningRow). row.id), length-map features.units (λ (row : UnitRow). row.id))
 
-pub few_lists : (features : Features) (touched : List (List ℕ)) (owns : List FeatureId) (lists : List (List ℕ)) → node_bound features touched ≤ 100000
-    → owns ≡ map unit_id (filter can_walk features.units) → lists ≡ map (numbers owns) (named_by features touched owns) → length lists ≤ 100000
-few_lists features touched owns lists few are is =
+five_long : {X : Type 0} (a b c d e : List X) → length (a ++ b ++ c ++ d ++ e) ≡ length a + length b + length c + length d + length e
+five_long a b c d e = omega (arith, length-append (a ++ b ++ c ++ d) e, length-append (a ++ b ++ c) d, length-append (a ++ b) c, length-append a b)
+
+-- the places that name units, and the corners
+named_long : (features : Features) (inside : Inside) (touched : List (List ℕ)) (owns : List FeatureId)
+    → length (named_by features inside touched owns) ≡ length features.amenities + length features.anchors + length touched + length owns + length (named_by_corners inside features.units)
+named_long features inside touched owns =
     let a = map (λ (row : AmenityRow). row.units) features.amenities in
     let b = map (λ (row : AnchorRow). row.unit ∷ []) features.anchors in
     let c = map (ids_at features.units) touched in
     let d = map (λ (id : FeatureId). id ∷ []) owns in
-    let all : length lists ≡ length (a ++ b ++ c ++ d) = ap length is ∙ length-map (a ++ b ++ c ++ d) (numbers owns) in
-    let e1 : length (a ++ b ++ c ++ d) ≡ length (a ++ b ++ c) + length d = length-append (a ++ b ++ c) d in
-    let e2 : length (a ++ b ++ c) ≡ length (a ++ b) + length c = length-append (a ++ b) c in
-    let e3 : length (a ++ b) ≡ length a + length b = length-append a b in
+    let e = named_by_corners inside features.units in
+    let whole = five_long a b c d e in
     let la : length a ≡ length features.amenities = length-map features.amenities (λ (row : AmenityRow). row.units) in
     let lb : length b ≡ length features.anchors = length-map features.anchors (λ (row : AnchorRow). row.unit ∷ []) in
     let lc : length c ≡ length touched = length-map touched (ids_at features.units) in
     let ld : length d ≡ length owns = length-map owns (λ (id : FeatureId). id ∷ []) in
+    omega arith
+
+pub few_lists : (features : Features) (inside : Inside) (touched : List (List ℕ)) (owns : List FeatureId) (lists : List (List ℕ)) → place_bound features touched ≤ 100000 → length (named_by_corners inside features.units) ≤ 1000000
+    → owns ≡ map unit_id (filter can_walk features.units) → lists ≡ map (numbers owns) (named_by features inside touched owns) → length lists ≤ 1100000
+few_lists features inside touched owns lists few few_corners are is =
+    let all : length lists ≡ length (named_by features inside touched owns) = ap length is ∙ length-map (named_by features inside touched owns) (numbers owns) in
+    let long = named_long features inside touched owns in
     let lo : length owns ≡ length (filter can_walk features.units) = ap length are ∙ length-map (filter can_walk features.units) unit_id in
     let kept : length (places_where can_walk 0 features.units) ≡ length (filter can_walk features.units) = places_count can_walk 0 features.units in
     let part : length (places_where can_walk 0 features.units) ≤ length features.units = places_few can_walk 0 features.units in
+    omega arith
+
+pub few_corner_names : (features : Features) (settings : Settings) → AreSound features → length (named_by_corners settings.inside features.units) ≤ 1000000
+unfolding room_corners
+few_corner_names features settings sound = omega (arith, names_many settings.inside features.units, few_room_corners features settings sound)
+
+-- there are as many lists of names as nodes
+pub nodes_named : (features : Features) (settings : Settings) (touched : List (List ℕ)) → length touched ≡ length features.openings
+    → length (named_by features settings.inside touched (map unit_id (filter can_walk features.units))) ≡ length (nodes features settings)
+unfolding nodes node_rows place_node_rows room_corners
+nodes_named features settings touched paired =
+    let ways = filter can_walk features.units in
+    let a = map amenity features.amenities in
+    let b = map anchor features.anchors in
+    let c = map opening features.openings in
+    let d = map unit ways in
+    let e = flat_map (corner_rows settings.inside) ways in
+    let all : length (map node_of_row (a ++ b ++ c ++ d ++ e)) ≡ length (a ++ b ++ c ++ d ++ e) = length-map (a ++ b ++ c ++ d ++ e) node_of_row in
+    let whole = five_long a b c d e in
+    let la : length a ≡ length features.amenities = length-map features.amenities amenity in
+    let lb : length b ≡ length features.anchors = length-map features.anchors anchor in
+    let lc : length c ≡ length features.openings = length-map features.openings opening in
+    let ld : length d ≡ length ways = length-map ways unit in
+    let le : length (named_by_corners settings.inside features.units) ≡ length e = names_many settings.inside features.units in
+    let long = named_long features settings.inside touched (map unit_id ways) in
+    let lo : length (map unit_id ways) ≡ length ways = length-map ways unit_id in
     omega arith
 
 pub paired : (units : List UnitRow) (owns : List FeatureId) (indexes : List ℕ) (rows members : List (List ℕ)) (f : FeatureId → List ℕ) → owns ≡ map unit_id (filter can_walk units) → indexes ≡ places_where can_walk 0 units → rows ≡ map f owns → members ≡ rows

@@ -1,6 +1,6 @@
 -- Which units are named, and their numbers.
-use Rattle.std.proofs.Common.{◌≡◌, ◌↔◌, ℕ, ◌+◌, ◌≤◌, ◌<◌, zero, suc, List, [], ◌∷◌, Option, Some, None, Bool, true, false, ◌||◌, length, map, eqb, refl, sym, ap, subst, ◌∙◌, arith, inl, inr}
-use Rattle.std.specs.Prelude.{Contains, slice_get, filter, IsPermutation}
+use Rattle.std.proofs.Common.{◌≡◌, ◌↔◌, ℕ, ◌+◌, ◌≤◌, ◌<◌, zero, suc, List, [], ◌∷◌, ◌++◌, Option, Some, None, Bool, true, false, ◌||◌, length, map, eqb, refl, sym, ap, subst, ◌∙◌, arith, inl, inr}
+use Rattle.std.specs.Prelude.{Contains, slice_get, filter, replicate, IsPermutation}
 use Rattle.std.specs.List.{filter_map, dedup}
 use Rattle.std.specs.List.Sorted.{IsSorted}
 use Rattle.std.specs.List.Retain.{IsFiltered, DiffersFromLast}
@@ -15,12 +15,15 @@ use Rattle.std.proofs.lemmas.Map.Keys.{IsStrictlyIncreasing-dedup, sorted_from_s
 use Rattle.std.proofs.lemmas.Option.{same_Some, slice_get_within}
 use Rattle.venue_types.proofs.Items.{at_member, member_at, at_map}
 use Rattle.venue_types.specs.declared.feature_id.FeatureId.{FeatureId}
+use Rattle.venue_types.specs.declared.features.UnitRow.{UnitRow}
+use Rattle.venue_types.specs.declared.settings.Inside.{Inside}
 use Rattle.feature_rows.specs.Indexes.{AreOnce, place_of}
 use Rattle.rule_reports.proofs.Unique.{same_members}
 use Rattle.venue_nodes.specs.Identity.{is_same}
 use Rattle.venue_nodes.specs.Members.{places_where}
+use Rattle.venue_nodes.specs.Nodes.{corner_points}
 use Rattle.venue_nodes.specs.declared.walkables.Walkables.{Walkables}
-use Rattle.venue_nodes.specs.Naming.{names, numbers, AreKnown}
+use Rattle.venue_nodes.specs.Naming.{names, numbers, corner_names, AreKnown}
 use Rattle.venue_nodes.proofs.Identifiers.{same_id, id_same}
 use Rattle.venue_nodes.proofs.Items.{from_map, given_from, given_to}
 use Rattle.venue_nodes.proofs.Places.{places_rise, place_at, number_of, kept_at, one_number, places_count, places_few}
@@ -105,3 +108,18 @@ found_within walkables id o known is k e =
     let within : k < length walkables.ids.items = slice_get_within walkables.ids.items k id here in
     let few : length walkables.ids.items ≤ 100000 = known.few in
     omega arith
+
+-- ---- what corners name
+
+map-replicate : {X Y : Type 0} (f : X → Y) (n : ℕ) (x : X) → map f (replicate n x) ≡ replicate n (f x)
+map-replicate f zero x = refl
+map-replicate {X} {Y} f (suc n) x = ap (λ (ys : List Y). f x ∷ ys) (map-replicate f n x)
+
+-- the unit's numbers once for each of its corners
+pub corners_added : (numbers_of : List FeatureId → List ℕ) (inside : Inside) (u : UnitRow) (n : ℕ) (list : List ℕ) (first new : List (List ℕ)) → n ≡ length (corner_points inside u) → list ≡ numbers_of (u.id ∷ [])
+    → new ≡ first ++ replicate n list → new ≡ first ++ map numbers_of (corner_names inside u)
+corners_added numbers_of inside u n list first new many are grown =
+    grown
+    ∙ ap (λ (m : ℕ). first ++ replicate m list) many
+    ∙ ap (λ (ns : List ℕ). first ++ replicate (length (corner_points inside u)) ns) are
+    ∙ ap (λ (ls : List (List ℕ)). first ++ ls) (sym (map-replicate numbers_of (length (corner_points inside u)) (u.id ∷ [])))

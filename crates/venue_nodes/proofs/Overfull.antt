@@ -1,5 +1,5 @@
 -- How many members units have, by rows without openings and how many of these touch the first units.
-use Rattle.std.proofs.Common.{◌≡◌, ◌≢◌, ◌↔◌, ℕ, Bool, true, false, nat_eq, nat_cmp, ◌+◌, ◌*◌, ◌≤◌, ◌<◌, zero, suc, List, [], ◌∷◌, ◌++◌, Some, None, length, map, filter, get_or, refl, sym, ap, subst, ◌∙◌, arith, inl, inr, length-append, cond, if◌then◌else◌}
+use Rattle.std.proofs.Common.{◌≡◌, ◌≢◌, ◌↔◌, ℕ, Bool, true, false, nat_eq, nat_cmp, ◌+◌, ◌*◌, ◌≤◌, ◌<◌, zero, suc, List, [], ◌∷◌, ◌++◌, Some, None, length, map, filter, flat_map, get_or, refl, sym, ap, subst, ◌∙◌, arith, inl, inr, length-append, cond, if◌then◌else◌}
 use Rattle.std.specs.Prelude.{AllPairs, Contains, IsTrue, slice_get, slice_index_or, sum_by}
 use Rattle.std.specs.Cmp.{nat_eq_equiv}
 use Rattle.std.specs.List.{AllZip, IsDistinct}
@@ -20,6 +20,7 @@ use Rattle.venue_types.specs.declared.features.AmenityRow.{AmenityRow}
 use Rattle.venue_types.specs.declared.features.AnchorRow.{AnchorRow}
 use Rattle.venue_types.specs.declared.features.OpeningRow.{OpeningRow}
 use Rattle.venue_types.specs.declared.features.UnitRow.{UnitRow}
+use Rattle.venue_types.specs.declared.settings.Inside.{Inside}
 use Rattle.venue_types.specs.declared.settings.Settings.{Settings}
 use Rattle.plane_exact.specs.Opening.{Touches}
 use Rattle.imdf_access.specs.Categories.{is_walkable}
@@ -29,12 +30,12 @@ use Rattle.venue_nodes.specs.declared.members.Rows.{Rows}
 use Rattle.venue_nodes.specs.Crowds.{Crowds, IsFirstOver, IsOver}
 use Rattle.venue_nodes.specs.Identity.{is_same}
 use Rattle.venue_nodes.specs.Touching.{does_touch}
-use Rattle.venue_nodes.specs.Nodes.{NodeRow, amenity, anchor, opening, unit, place_node_rows, node_rows}
+use Rattle.venue_nodes.specs.Nodes.{NodeRow, amenity, anchor, opening, unit, corner_rows, place_node_rows, room_corners, node_rows}
 use Rattle.venue_nodes.specs.Limits.{IsCrowded, square_sum}
 use Rattle.venue_nodes.specs.Rows.{AreNamedRows, row_list, unit_indexes}
 use Rattle.venue_nodes.specs.Members.{is_member, members, places_where}
-use Rattle.venue_nodes.specs.Naming.{names, row_in, can_walk, unit_id, ids_at, named_by}
-use Rattle.venue_nodes.proofs.Folder.{zip_maps, or_false}
+use Rattle.venue_nodes.specs.Naming.{names, row_in, can_walk, unit_id, ids_at, named_by, named_by_corners}
+use Rattle.venue_nodes.proofs.Folder.{zip_maps, or_false, own_corners}
 use Rattle.venue_nodes.proofs.Items.{map_twice}
 use Rattle.venue_nodes.proofs.Named.{one_names}
 use Rattle.venue_nodes.proofs.Places.{places-append, places_count, places-zip, places_rise, place_at, number_of, kept_at, lesser_number}
@@ -50,13 +51,14 @@ places_map : {A B : Type 0} (t : B → Bool) (f : A → B) (n : ℕ) (xs : List 
 places_map t f n [] = refl
 places_map t f n (x ∷ xs) = ap (λ (ps : List ℕ). if t (f x) then n ∷ ps else ps) (places_map t f (n + 1) xs)
 
-four_counts : {A : Type 0} (t : A → Bool) (as1 bs cs ds : List A)
-    → length (places_where t 0 (as1 ++ bs ++ cs ++ ds)) ≡ length (places_where t 0 as1) + length (places_where t 0 bs) + length (places_where t 0 cs) + length (places_where t 0 ds)
-four_counts t as1 bs cs ds =
+five_counts : {A : Type 0} (t : A → Bool) (as1 bs cs ds es : List A)
+    → length (places_where t 0 (as1 ++ bs ++ cs ++ ds ++ es)) ≡ length (places_where t 0 as1) + length (places_where t 0 bs) + length (places_where t 0 cs) + length (places_where t 0 ds) + length (places_where t 0 es)
+five_counts t as1 bs cs ds es =
     let one = count_append t as1 bs in
     let two = count_append t (as1 ++ bs) cs in
     let three = count_append t (as1 ++ bs ++ cs) ds in
-    omega (arith, one, two, three)
+    let four = count_append t (as1 ++ bs ++ cs ++ ds) es in
+    omega (arith, one, two, three, four)
 
 -- the openings that touch the unit
 abbrev pub touching : ℕ → UnitRow → OpeningRow → Bool
@@ -64,8 +66,8 @@ touching border_tol u row = does_touch border_tol row u
 
 -- the members of a unit are those in its row without openings, and the openings that touch it
 pub members_counted : (features : Features) (settings : Settings) (u : UnitRow)
-    → length (members features settings u) ≡ length (row_in (named_by features [] (map unit_id (filter can_walk features.units))) u.id) + length (places_where (touching settings.border_tol u) 0 features.openings)
-unfolding members node_rows place_node_rows
+    → length (members features settings u) ≡ length (row_in (named_by features settings.inside [] (map unit_id (filter can_walk features.units))) u.id) + length (places_where (touching settings.border_tol u) 0 features.openings)
+unfolding members node_rows place_node_rows room_corners
 members_counted features settings u =
     let t : List FeatureId → Bool = λ ids. names ids u.id in
     let s : NodeRow → Bool = is_member settings.border_tol u in
@@ -81,9 +83,12 @@ members_counted features settings u =
     ap length (ap (places_where t 0) (map_twice (λ (id : FeatureId). id ∷ []) unit_id ways)
     ∙ places-zip t s 0 (map (λ (row : UnitRow). row.id ∷ []) ways) (map unit ways) (zip_maps t s (λ (row : UnitRow). row.id ∷ []) unit ways (λ r. or_false (is_same r.id u.id)))) in
     let doors : length (places_where s 0 (map opening features.openings)) ≡ length (places_where (touching settings.border_tol u) 0 features.openings) = ap length (places_map s opening 0 features.openings) in
-    let left = four_counts t a1 b1 [] d1 in
-    let right = four_counts s (map amenity features.amenities) (map anchor features.anchors) (map opening features.openings) (map unit ways) in
-    omega (arith, one, two, four, doors, left, right)
+    let e1 = named_by_corners settings.inside features.units in
+    let e2 = flat_map (corner_rows settings.inside) ways in
+    let five : length (places_where t 0 e1) ≡ length (places_where s 0 e2) = ap length (places-zip t s 0 e1 e2 (own_corners u settings.border_tol settings.inside features.units)) in
+    let left = five_counts t a1 b1 [] d1 e1 in
+    let right = five_counts s (map amenity features.amenities) (map anchor features.anchors) (map opening features.openings) (map unit ways) e2 in
+    omega (arith, one, two, four, five, doors, left, right)
 
 -- ---- how many openings touch a unit
 
@@ -149,16 +154,16 @@ some_counted t xs w x there passes =
     let within = slice_get_within (places_where t 0 xs) number.w (0 + w) number.placed in
     omega (arith, within)
 
-abbrev named : Features → List (List FeatureId)
-named features = named_by features [] (map unit_id (filter can_walk features.units))
+abbrev named : Features → Inside → List (List FeatureId)
+named features inside = named_by features inside [] (map unit_id (filter can_walk features.units))
 
 -- how many members a unit has without the openings that touch it
-abbrev others : Features → UnitRow → ℕ
-others features u = length (row_in (named features) u.id)
+abbrev others : Features → Inside → UnitRow → ℕ
+others features inside u = length (row_in (named features inside) u.id)
 
 -- a unit in which people walk is its own member
-own_member : (features : Features) (k : ℕ) (u : UnitRow) → slice_get features.units k ≡ Some u → can_walk u ≡ true → 1 ≤ others features u
-own_member features k u there walks =
+own_member : (features : Features) (inside : Inside) (k : ℕ) (u : UnitRow) → slice_get features.units k ≡ Some u → can_walk u ≡ true → 1 ≤ others features inside u
+own_member features inside k u there walks =
     let t : List FeatureId → Bool = λ ids. names ids u.id in
     let a1 = map (λ (row : AmenityRow). row.units) features.amenities in
     let b1 = map (λ (row : AnchorRow). row.unit ∷ []) features.anchors in
@@ -167,15 +172,15 @@ own_member features k u there walks =
     let number = number_of can_walk 0 features.units k u there walks in
     let at = at_map (λ (id : FeatureId). id ∷ []) ids number.w u.id (at_map unit_id (filter can_walk features.units) number.w u number.is_kept) in
     let one = some_counted t d1 number.w (u.id ∷ []) at (one_names (u.id ∷ []) u.id 0 refl) in
-    let all = four_counts t a1 b1 [] d1 in
+    let all = five_counts t a1 b1 [] d1 (named_by_corners inside features.units) in
     omega (arith, one, all)
 
 module _ (features : Features) (settings : Settings) (counts : List ℕ) (rows : Rows) (law : (o : OpeningRow) (u : UnitRow) → IsTrue (does_touch settings.border_tol o u) ↔ Touches settings.border_tol o u)
-    (are : AreNamedRows features [] rows) (many : TouchMany settings.border_tol features.openings features.units counts) where
+    (are : AreNamedRows features settings.inside [] rows) (many : TouchMany settings.border_tol features.openings features.units counts) where
   abbrev count_of : UnitRow → ℕ
   count_of u = length (places_where (touching settings.border_tol u) 0 features.openings)
 
-  whole : (u : UnitRow) → length (members features settings u) ≡ others features u + count_of u
+  whole : (u : UnitRow) → length (members features settings u) ≡ others features settings.inside u + count_of u
   whole u = members_counted features settings u
 
   counted : (k n : ℕ) (u : UnitRow) → slice_get counts k ≡ Some n → slice_get features.units k ≡ Some u → n ≡ count_of u
@@ -199,18 +204,18 @@ module _ (features : Features) (settings : Settings) (counts : List ℕ) (rows :
     pub is : IsOver rows counts w k
     pub placed : slice_get (places_where can_walk 0 features.units) w ≡ Some k
 
-  row_of : (k : ℕ) (u : UnitRow) → slice_get features.units k ≡ Some u → can_walk u ≡ true → 4096 < others features u + slice_index_or counts k 0 → HasRow k
+  row_of : (k : ℕ) (u : UnitRow) → slice_get features.units k ≡ Some u → can_walk u ≡ true → 4096 < others features settings.inside u + slice_index_or counts k 0 → HasRow k
   row_of k u there walks over =
       let number = number_of can_walk 0 features.units k u there walks in
       let is : 0 + k ≡ k = omega arith in
       let ids = map unit_id (filter can_walk features.units) in
-      let at = at_map (row_in (named features)) ids number.w u.id (at_map unit_id (filter can_walk features.units) number.w u number.is_kept) in
+      let at = at_map (row_in (named features settings.inside)) ids number.w u.id (at_map unit_id (filter can_walk features.units) number.w u number.is_kept) in
       let placed = number.placed ∙ ap (λ (m : ℕ). Some m) is in
       record {
         w = number.w;
         is = record {
-          row = row_in (named features) u.id;
-          there = subst (λ (rs : List (List ℕ)). slice_get rs number.w ≡ Some (row_in (named features) u.id)) (sym are.named_are) at;
+          row = row_in (named features settings.inside) u.id;
+          there = subst (λ (rs : List (List ℕ)). slice_get rs number.w ≡ Some (row_in (named features settings.inside) u.id)) (sym are.named_are) at;
           unit_is = subst (λ (ps : List ℕ). slice_get ps number.w ≡ Some k) (sym are.indexes_are) placed;
           over = over;
         };
@@ -222,19 +227,19 @@ module _ (features : Features) (settings : Settings) (counts : List ℕ) (rows :
     pub unit : UnitRow
     pub there : slice_get features.units k ≡ Some unit
     pub walks : can_walk unit ≡ true
-    pub over : 4096 < others features unit + slice_index_or counts k 0
+    pub over : 4096 < others features settings.inside unit + slice_index_or counts k 0
     pub placed : slice_get (places_where can_walk 0 features.units) w ≡ Some k
 
   unit_of : (w k : ℕ) → IsOver rows counts w k → HasUnit w k
   unit_of w k over =
       let ids = map unit_id (filter can_walk features.units) in
-      let from = from_map (row_in (named features)) ids w over.row (subst (λ (rs : List (List ℕ)). slice_get rs w ≡ Some over.row) are.named_are over.there) in
+      let from = from_map (row_in (named features settings.inside)) ids w over.row (subst (λ (rs : List (List ℕ)). slice_get rs w ≡ Some over.row) are.named_are over.there) in
       let of = from_map unit_id (filter can_walk features.units) w from.0 from.1 in
       let kept = kept_at can_walk 0 features.units w of.0 of.1 in
       let place : slice_get (places_where can_walk 0 features.units) w ≡ Some k = subst (λ (ps : List ℕ). slice_get ps w ≡ Some k) are.indexes_are over.unit_is in
       let same : 0 + kept.k ≡ k = same_Some (0 + kept.k) k (sym kept.placed ∙ place) in
       let is : kept.k ≡ k = omega (arith, same) in
-      let row_is : row_in (named features) of.0.id ≡ over.row = ap (row_in (named features)) of.2 ∙ from.2 in
+      let row_is : row_in (named features settings.inside) of.0.id ≡ over.row = ap (row_in (named features settings.inside)) of.2 ∙ from.2 in
       record {
         unit = of.0;
         there = subst (λ (m : ℕ). slice_get features.units m ≡ Some of.0) is kept.there;
@@ -249,7 +254,7 @@ module _ (features : Features) (settings : Settings) (counts : List ℕ) (rows :
       let within = slice_get_within counts full.k full.count full.counted in
       let is = counted_at full.k full.unit within full.there in
       let count = counted full.k full.count full.unit full.counted full.there in
-      let own = own_member features full.k full.unit full.there full.walkable in
+      let own = own_member features settings.inside full.k full.unit full.there full.walkable in
       let more = full.full in
       row_of full.k full.unit full.there full.walkable (omega (arith, is, count, own, more))
 

@@ -195,13 +195,13 @@ list_within owns nodes lists node count list are at same =
     let r = named_at owns nodes lists node list are at in
     subst (λ (n : ℕ). All (λ w. w < n) list) same (subst (λ (ws : List ℕ). All (λ w. w < length owns) ws) r.2 (numbers_within owns r.0))
 
-pub rows_few : (owns : List FeatureId) (nodes : List (List FeatureId)) (rows : List (List ℕ)) → rows ≡ map (row_in nodes) owns → length nodes ≤ 100000 → All (λ row. length row ≤ 100000) rows
+pub rows_few : (owns : List FeatureId) (nodes : List (List FeatureId)) (rows : List (List ℕ)) → rows ≡ map (row_in nodes) owns → length nodes ≤ 1100000 → All (λ row. length row ≤ 1100000) rows
 rows_few owns nodes rows are few = λ k d within.
     let r = from_map (row_in nodes) owns k (get_or rows k d) (subst (λ (rs : List (List ℕ)). slice_get rs k ≡ Some (get_or rows k d)) are (slice_get-get_or rows k d within)) in
     let long : length (row_in nodes r.0) ≤ length nodes = places_few (λ (ids : List FeatureId). names ids r.0) 0 nodes in
-    subst (λ (row : List ℕ). length row ≤ 100000) r.2 (omega arith)
+    subst (λ (row : List ℕ). length row ≤ 1100000) r.2 (omega arith)
 
-pub nodes_few : (owns : List FeatureId) (nodes : List (List FeatureId)) (lists : List (List ℕ)) (node : ℕ) → AreNumbers owns nodes lists → length lists ≤ 100000 → length (take node nodes) ≤ 100000
+pub nodes_few : (owns : List FeatureId) (nodes : List (List FeatureId)) (lists : List (List ℕ)) (node : ℕ) → AreNumbers owns nodes lists → length lists ≤ 1100000 → length (take node nodes) ≤ 1100000
 nodes_few owns nodes lists node are few =
     let same : length lists ≡ length nodes = ap length are.each ∙ length-map nodes (numbers owns) in
     let part : length (take node nodes) ≡ _ = length-take node nodes in

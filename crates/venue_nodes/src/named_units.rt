@@ -11,8 +11,7 @@ ghost use Rattle.venue_nodes.specs.Naming.{AreKnown, corner_names, ids_at, named
 
 use crate::corner_nodes::corner_number;
 use crate::lists::Lists;
-use crate::walkables::Walkables;
-use imdf_access::walkable;
+use crate::walkables::{Walkables, can_walk};
 use std::alloc::Global;
 use venue_types::{
     AmenityRow, AnchorRow, FeatureId, Features, Inside, List, OutOfMemory, Touches, UnitRow,
@@ -42,7 +41,13 @@ pub(crate) fn named(
         touches.rows.as_slice(),
     )?;
     add_units(alloc, &mut lists, walkables)?;
-    add_corners(alloc, &mut lists, walkables, features.units.as_slice(), inside)?;
+    add_corners(
+        alloc,
+        &mut lists,
+        walkables,
+        features.units.as_slice(),
+        inside,
+    )?;
     Ok(lists)
 }
 
@@ -135,7 +140,7 @@ fn add_corners(
     ensures { OnOk result (lists.new ≡ lists.old ++ map (numbers walkables.now.ids.items) (named_by_corners inside units.now)) }
 {
     for unit in units {
-        if walkable(unit.category.as_str().as_bytes()) {
+        if can_walk(unit) {
             add_unit_corners(alloc, lists, walkables, unit, inside)?;
         }
     }

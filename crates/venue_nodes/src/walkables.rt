@@ -102,8 +102,8 @@ fn indexes_of(alloc: Global, units: &[UnitRow]) -> Result<Vec<u32>, OutOfMemory>
     Ok(indexes)
 }
 
-// Whether the unit can be walked through.
-fn can_walk(unit: &UnitRow) -> bool
+/// Whether the unit can be walked through.
+pub(crate) fn can_walk(unit: &UnitRow) -> bool
     ensures { result ≡ can_walk unit.now }
 {
     walkable(unit.category.as_str().as_bytes())
