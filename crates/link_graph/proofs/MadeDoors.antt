@@ -74,32 +74,27 @@ doors_all features settings nodes find places doors us are whole front back =
     ∙ copies_same find settings.inside (length (place_nodes features)) ways)
     ∙ sym (map-append (door_of find) (place_node_rows features) (flat_map (corner_rows settings.inside) ways))
 
-ranges_many : (at : ℕ) (counts : List ℕ) → length (ranges_from at counts) ≡ length counts
-ranges_many at [] = refl
-ranges_many at (count ∷ counts) = ap suc (ranges_many (at + count) counts)
-
--- there is a range for each unit that can be walked through
-pub ranges_paired : (features : Features) (settings : Settings) (nodes : Nodes) → AreNodes features settings nodes → length (corner_ranges nodes) ≡ length (walkable_units features)
-ranges_paired features settings nodes are =
-    ap (λ (ranges : List CornerRange). length ranges) are.corners
-    ∙ ranges_many (length (place_nodes features)) (counts_of settings.inside (walkable_units features))
-    ∙ length-map (walkable_units features) (λ (row : UnitRow). length (corner_points settings.inside row))
-
 -- ---- copies, unit by unit
 
--- one unit more
+-- where there is no range for one unit more
+pub copies_none : (ranges : List CornerRange) (doors : List Door) (door : Door) → slice_get ranges (length doors) ≡ None → copies_by ranges (doors ++ door ∷ []) ≡ copies_by ranges doors
+copies_none [] doors door at = refl
+copies_none (r ∷ ranges) [] door at = absurd (cc)
+copies_none (r ∷ ranges) (d ∷ doors) door at = ap (λ (ds : List Door). replicate (r.end - r.start) d ++ ds) (copies_none ranges doors door at)
+
+-- where there is one
 pub copies_more : (ranges : List CornerRange) (doors : List Door) (door : Door) (range : CornerRange) → slice_get ranges (length doors) ≡ Some range
     → copies_by ranges (doors ++ door ∷ []) ≡ copies_by ranges doors ++ replicate (range.end - range.start) door
 copies_more [] doors door range at = absurd (cc)
 copies_more (r ∷ ranges) [] door range at =
     let same : r ≡ range = same_Some r range at in
     ap (λ (s : CornerRange). replicate (s.end - s.start) door ++ copies_by ranges []) same
-    ∙ ap (λ (ds : List Door). replicate (range.end - range.start) door ++ ds) (copies_none ranges)
+    ∙ ap (λ (ds : List Door). replicate (range.end - range.start) door ++ ds) (no_copies ranges)
     ∙ append-nil (replicate (range.end - range.start) door)
   where
-    copies_none : (rs : List CornerRange) → copies_by rs [] ≡ []
-    copies_none [] = refl
-    copies_none (s ∷ rs) = refl
+    no_copies : (rs : List CornerRange) → copies_by rs [] ≡ []
+    no_copies [] = refl
+    no_copies (s ∷ rs) = refl
 copies_more (r ∷ ranges) (d ∷ doors) door range at =
     ap (λ (ds : List Door). replicate (r.end - r.start) d ++ ds) (copies_more ranges doors door range at)
     ∙ sym (append_assoc (replicate (r.end - r.start) d) (copies_by ranges doors) (replicate (range.end - range.start) door))

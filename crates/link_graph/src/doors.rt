@@ -4,7 +4,7 @@ ghost use Rattle.std.specs.Prelude.{◌≡◌, ◌-◌, ◌++◌, OnOk, IfOk, le
 ghost use Rattle.venue_types.specs.declared.features.UnitRow.{UnitRow as AUnit};
 ghost use Rattle.imdf_access.specs.Categories.{is_walkable};
 ghost use Rattle.venue_types.specs.declared.settings.Settings.{Settings as ASettings};
-ghost use Rattle.venue_nodes.specs.Nodes.{NodeRow, unit as of_unit, node_rows, walkable_units};
+ghost use Rattle.venue_nodes.specs.Nodes.{NodeRow, unit as of_unit, node_rows};
 ghost use Rattle.venue_nodes.specs.Views.{AreNodes, corner_ranges, find_closable};
 ghost use Rattle.link_graph.specs.Making.{copies_by, door_of};
 
@@ -135,13 +135,14 @@ fn add_corner_doors(
     nodes: &Nodes,
     units: &[UnitRow],
 ) -> Result<(), OutOfMemory>
-    requires { length (corner_ranges nodes.now) ≡ length (filter (λ (row : AUnit). is_walkable row.category) units.now) }
     ensures { OnOk result (doors.new.items ≡ doors.old.items ++ copies_by (corner_ranges nodes.now) (map (λ row. door_of (find_closable nodes.now) (of_unit row)) (filter (λ (row : AUnit). is_walkable row.category) units.now))) }
 {
     let mut w = 0;
     for unit in units {
         if walkable(unit.category.as_str().as_bytes()) {
-            add_copies(doors, unit.door(nodes), nodes.corners(w))?;
+            if let Some(range) = nodes.corners(w) {
+                add_copies(doors, unit.door(nodes), range)?;
+            }
             w += 1;
         }
     }
@@ -164,7 +165,6 @@ pub(crate) fn doors_of(
     features: &Features,
     nodes: &Nodes,
 ) -> Result<Vec<Door>, OutOfMemory>
-    requires { length (corner_ranges nodes.now) ≡ length (walkable_units features.now) }
     ensures { IfOk result (λ doors. (settings : ASettings) → AreNodes features.now settings nodes.now → doors.items ≡ map (door_of (find_closable nodes.now)) (node_rows features.now settings)) }
 {
     let mut doors = Vec::new(alloc);

@@ -81,8 +81,13 @@ fn rooms_have_corners(rt: HostRuntime) -> Result<(), Fail> {
     ];
     judge(&rt, &clear, &wanted);
     let ranges = [(3, 4), (4, 4), (4, 8)];
+    assert!(rt; clear.corners(3) == None);
     for (w, (start, end)) in ranges.iter().enumerate() {
-        assert!(rt; clear.corners(w as u32) == CornerRange { start: *start, end: *end });
+        let wanted = CornerRange {
+            start: *start,
+            end: *end,
+        };
+        assert!(rt; clear.corners(w as u32) == Some(wanted));
     }
     // A unit's identifier names its own node, and no corner.
     assert!(rt; clear.node_of(id(0x300)) == Some(0));

@@ -89,13 +89,12 @@ impl Nodes {
         self.list[n as usize]
     }
 
-    /// Where the nodes of a unit's corners stand, of the unit of this number among those that can be walked through.
+    /// Where the nodes of a unit's corners stand, of the unit of this number among those that can be walked through, if there is one.
     #[tactic(auto, unfolding(crate::specs::Views::corner_ranges))]
-    pub fn corners(&self, w: u32) -> CornerRange
-        requires { w < length (corner_ranges self.now) }
-        ensures { slice_get (corner_ranges self.now) w ≡ Some result }
+    pub fn corners(&self, w: u32) -> Option<CornerRange>
+        ensures { result ≡ slice_get (corner_ranges self.now) w }
     {
-        self.corners[w as usize]
+        self.corners.get(w as usize).copied()
     }
 
     /// The number of the node at which a feature is, if it is a place: an occupant is at its anchor. Takes log n time.
