@@ -13,7 +13,7 @@ use Rattle.venue_nodes.specs.Numbering.{number_among, HasFew}
 use Rattle.venue_nodes.proofs.Identifiers.{same_id, id_same}
 
 -- either outcome of a test
-tested : (b : Bool) → (b ≡ true) ⊎ (b ≡ false)
+pub tested : (b : Bool) → (b ≡ true) ⊎ (b ≡ false)
 tested true = inl refl
 tested false = inr refl
 

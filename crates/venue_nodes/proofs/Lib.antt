@@ -14,6 +14,7 @@ pub mod CornerTotals
 pub mod Behind
 pub mod Placeable
 pub mod CornerSteps
+pub mod CornerRows
 pub mod Counts
 pub mod Finding
 pub mod Joining

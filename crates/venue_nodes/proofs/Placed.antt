@@ -1,5 +1,5 @@
 -- The number of a place is that of a node.
-use Rattle.std.proofs.Common.{◌≡◌, ℕ, ◌<◌, Option, Some, None, length}
+use Rattle.std.proofs.Common.{◌≡◌, ℕ, ◌<◌, Option, Some, None, length, arith}
 use Rattle.std.specs.List.{find}
 use Rattle.venue_types.specs.declared.feature_id.FeatureId.{FeatureId}
 use Rattle.venue_types.specs.declared.features.Features.{Features}
@@ -7,7 +7,8 @@ use Rattle.venue_types.specs.declared.features.OccupantRow.{OccupantRow}
 use Rattle.venue_types.specs.declared.link.Node.{Node}
 use Rattle.venue_types.specs.declared.settings.Settings.{Settings}
 use Rattle.venue_nodes.specs.Identity.{is_same}
-use Rattle.venue_nodes.specs.Nodes.{place_nodes, node_rows, nodes, node_number, place_of}
+use Rattle.venue_nodes.specs.Nodes.{place_nodes, nodes, node_number, place_of}
+use Rattle.venue_nodes.proofs.Behind.{nodes_long}
 use Rattle.venue_nodes.proofs.Finding.{by_row, position_within}
 
 node_within : (features : Features) (id : FeatureId) (n : ℕ) → node_number features id ≡ Some n → n < length (place_nodes features)
@@ -22,5 +23,4 @@ unfolding place_of
 among_places features id n e = row_within features id (find (λ (row : OccupantRow). is_same row.id id) features.occupants) n e
 
 pub place_within : (features : Features) (settings : Settings) (id : FeatureId) (n : ℕ) → place_of features id ≡ Some n → n < length (nodes features settings)
-unfolding nodes node_rows place_nodes
-place_within features settings id n e = among_places features id n e
+place_within features settings id n e = omega (arith, among_places features id n e, nodes_long features settings)

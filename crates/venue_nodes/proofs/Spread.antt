@@ -20,7 +20,9 @@ use Rattle.plane_exact.specs.Plane.{IsWithin, IsCloseDoubled}
 use Rattle.plane_exact.specs.Figure.{AllClose, vertices, rings}
 use Rattle.feature_rows.specs.Figures.{judged_positions, display_of}
 use Rattle.feature_rows.specs.Sound.{AreSound, IsSoundShape, IsSoundRing}
-use Rattle.venue_nodes.specs.Nodes.{NodeRow, amenity, anchor, opening, unit, node_of_row, place_node_rows, node_rows, nodes, walkable_units, middle, last_point, line_middle, box_middle, unit_spot}
+use Rattle.venue_nodes.specs.Nodes.{NodeRow, amenity, anchor, opening, unit, node_of_row, place_node_rows, room_corners, node_rows, nodes, walkable_units, middle, last_point, line_middle, box_middle, unit_spot}
+pub use Rattle.venue_nodes.proofs.CornerRows.{from_map}
+use Rattle.venue_nodes.proofs.CornerRows.{corner_from}
 use Rattle.venue_nodes.proofs.Judged.{Contains-map, amenity_point, anchor_point, opening_point, unit_vertex, unit_display}
 
 -- a spot's coordinates are sums of those of such points
@@ -48,14 +50,7 @@ close_sums points s t close h k = record {
 middle_summed : (points : List Point) (a b : Point) → Contains points a → Contains points b → IsSummed points (middle a b)
 middle_summed points a b h k = record { a = a; b = b; c = a; d = b; has_a = h; has_b = k; has_c = h; has_d = k; x = refl; y = refl }
 
--- ---- what stands in a mapped or a filtered list
-
-pub from_map : {X Y : Type 0} (f : X → Y) (xs : List X) (y : Y) → Contains (map f xs) y → (x : X) × Contains xs x × (f x ≡ y)
-from_map f [] y h = absurd (Contains-nil y h)
-from_map f (x ∷ xs) y h = elim (Contains-cons_cases (f x) (map f xs) y h) [
-  | inl here ↦ (x, Contains-first x xs, here)
-  | inr there ↦ let rest = from_map f xs y there in (rest.0, Contains-later x xs rest.0 rest.1, rest.2)
-]
+-- ---- what stands in a filtered list
 
 from_one : {X : Type 0} (b : Bool) (x : X) (ys xs : List X) (y : X) → ((z : X) → Contains ys z → Contains xs z) → Contains (cond b (x ∷ ys) ys) y → Contains (x ∷ xs) y
 from_one true x ys xs y within h = elim (Contains-cons_cases x ys y h) [
@@ -157,11 +152,22 @@ row_summed features row sound h = elim (Contains-append_cases (map amenity featu
       subst (λ (r : NodeRow). IsSummed (judged_positions features) (node_of_row r).spot) at.2 (unit_summed features at.0 at.0.display sound own refl)
 ]
 
+corner_summed : (features : Features) (settings : Settings) (row : NodeRow) → Contains (room_corners features settings) row → IsSummed (judged_positions features) (node_of_row row).spot
+corner_summed features settings row h =
+    let at = corner_from features settings row h in
+    let own = from_filter (λ (r : UnitRow). is_walkable r.category) features.units at.row at.walks in
+    let judged = unit_vertex features at.row at.point own at.vertex in
+    subst (λ (r : NodeRow). IsSummed (judged_positions features) (node_of_row r).spot) at.is (middle_summed (judged_positions features) at.point at.point judged judged)
+
 node_summed : (features : Features) (settings : Settings) (node : Node) → AreSound features → Contains (nodes features settings) node → IsSummed (judged_positions features) node.spot
 unfolding nodes node_rows
 node_summed features settings node sound h =
-    let at = from_map node_of_row (place_node_rows features) node h in
-    subst (λ (n : Node). IsSummed (judged_positions features) n.spot) at.2 (row_summed features at.0 sound at.1)
+    let at = from_map node_of_row (node_rows features settings) node h in
+    let summed : IsSummed (judged_positions features) (node_of_row at.0).spot = elim (Contains-append_cases (place_node_rows features) (room_corners features settings) at.0 at.1) [
+      | inl place ↦ row_summed features at.0 sound place
+      | inr behind ↦ corner_summed features settings at.0 behind
+    ] in
+    subst (λ (n : Node). IsSummed (judged_positions features) n.spot) at.2 summed
 
 pub nodes_close : (features : Features) (settings : Settings) (a b : Node) → AreSound features → AllClose (judged_positions features) → Contains (nodes features settings) a → Contains (nodes features settings) b → IsCloseDoubled a.spot b.spot
 nodes_close features settings a b sound close h k = close_sums (judged_positions features) a.spot b.spot close (node_summed features settings a sound h) (node_summed features settings b sound k)

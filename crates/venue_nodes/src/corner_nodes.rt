@@ -68,11 +68,7 @@ fn add_unit_corners(
 }
 
 // Adds the nodes of these corners of a unit, numbered from 1.
-fn add_numbered(
-    nodes: &mut Vec<Node>,
-    unit: &UnitRow,
-    points: &[Point],
-) -> Result<(), OutOfMemory>
+fn add_numbered(nodes: &mut Vec<Node>, unit: &UnitRow, points: &[Point]) -> Result<(), OutOfMemory>
     requires earth { All IsOnEarth points.now }
     requires few { length points.now ≤ 1100000 }
     ensures { OnOk result (nodes.new.items ≡ nodes.old.items ++ map node_of_row (corner_rows_from unit.now 1 points.now)) }
@@ -91,11 +87,7 @@ fn add_numbered(
 }
 
 // The positions at which one turns who walks in the unit.
-fn corner_points(
-    alloc: Global,
-    unit: &UnitRow,
-    inside: Inside,
-) -> Result<List<Point>, OutOfMemory>
+fn corner_points(alloc: Global, unit: &UnitRow, inside: Inside) -> Result<List<Point>, OutOfMemory>
     requires { AllNearby (vertices unit.now.shape) }
     ensures { IfOk result (λ points. points ≡ corner_points inside unit.now) }
 {

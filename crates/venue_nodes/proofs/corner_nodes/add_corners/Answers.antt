@@ -27,16 +27,14 @@ loop-unit-preserved c =
     elim c.if-walkable.branch [
       | then-walkable+in_ok-add_unit_corners+in_ok-push w ↦
           let grown = ap nodes_of w.nodes-is ∙ w.in_ok-add_unit_corners.ensures.nodes in
-          let added = ap ranges_of w.ranges-is ∙ w.in_ok-push.ensures.items in
-          (
+          let added = ap ranges_of w.ranges-is ∙ w.in_ok-push.ensures.items in (
             nodes_step inside units i row _ c.loop-unit.nodes.items c.if-walkable.nodes.items _ c.loop-unit-test.true (sym c.unit-item.is) (walks ∙ w.if-walkable.true) c.loop-unit.invariant.0 grown,
-            ranges_step inside units i row _ c.loop-unit.nodes.items c.if-walkable.nodes.items c.loop-unit.ranges.items c.if-walkable.ranges.items _ w.in_ok-add_unit_corners.field-0 c.loop-unit-test.true (sym c.unit-item.is) (walks ∙ w.if-walkable.true) c.loop-unit.invariant.1 grown w.in_ok-add_unit_corners.ensures.range added
+            ranges_step inside units i row _ c.loop-unit.nodes.items c.if-walkable.nodes.items c.loop-unit.ranges.items c.if-walkable.ranges.items _ w.in_ok-add_unit_corners.field-0 c.loop-unit-test.true (sym c.unit-item.is) (walks ∙ w.if-walkable.true) c.loop-unit.invariant.1 grown w.in_ok-add_unit_corners.ensures.range added,
           )
       | else-walkable w ↦
           let same = ap nodes_of w.nodes-is in
-          let kept = ap ranges_of w.ranges-is in
-          (
+          let kept = ap ranges_of w.ranges-is in (
             nodes_past inside units i row _ c.loop-unit.nodes.items c.if-walkable.nodes.items _ c.loop-unit-test.true (sym c.unit-item.is) (walks ∙ w.if-walkable.false) c.loop-unit.invariant.0 same,
-            ranges_past inside units i row _ c.loop-unit.nodes.items c.if-walkable.nodes.items c.loop-unit.ranges.items c.if-walkable.ranges.items _ c.loop-unit-test.true (sym c.unit-item.is) (walks ∙ w.if-walkable.false) c.loop-unit.invariant.1 same kept
+            ranges_past inside units i row _ c.loop-unit.nodes.items c.if-walkable.nodes.items c.loop-unit.ranges.items c.if-walkable.ranges.items _ c.loop-unit-test.true (sym c.unit-item.is) (walks ∙ w.if-walkable.false) c.loop-unit.invariant.1 same kept,
           )
     ]
