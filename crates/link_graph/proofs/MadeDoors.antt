@@ -20,7 +20,7 @@ use Rattle.imdf_access.specs.Parts.{end_facts}
 use Rattle.venue_nodes.specs.declared.corner_nodes.CornerRange.{CornerRange}
 use Rattle.venue_nodes.specs.declared.nodes.Nodes.{Nodes}
 use Rattle.venue_nodes.specs.Nodes.{NodeRow, amenity, anchor, opening, unit, corner, node_of_row, place_node_rows, place_nodes, room_corners, corner_points, corner_rows, corner_rows_from, node_rows, nodes, walkable_units}
-use Rattle.venue_nodes.specs.Views.{AreNodes, corner_ranges, ranges_from}
+use Rattle.venue_nodes.specs.Views.{HaveCorners, corner_ranges, ranges_from}
 use Rattle.venue_nodes.proofs.Items.{four_passes, from_map}
 use Rattle.link_graph.specs.declared.parts.Door.{Door}
 use Rattle.link_graph.specs.Cores.{asks_of}
@@ -63,14 +63,14 @@ copies_same find inside at (u ∷ units) =
     ∙ sym (map-append (door_of find) (corner_rows inside u) (flat_map (corner_rows inside) units))
 
 -- those of the places and those of the corners are those of the nodes
-pub doors_all : (features : Features) (settings : Settings) (nodes : Nodes) (find : FeatureId → Option ℕ) (places doors : List Door) (us : List UnitRow) → AreNodes features settings nodes → us ≡ features.units
+pub doors_all : (features : Features) (settings : Settings) (nodes : Nodes) (find : FeatureId → Option ℕ) (places doors : List Door) (us : List UnitRow) → HaveCorners features settings nodes → us ≡ features.units
     → places ≡ map (door_of find) (place_node_rows features) → doors ≡ places ++ copies_by (corner_ranges nodes) (unit_doors find (filter walks us)) → doors ≡ map (door_of find) (node_rows features settings)
 unfolding node_rows room_corners
 doors_all features settings nodes find places doors us are whole front back =
     let ways = walkable_units features in
     back
     ∙ ap₂ (λ (ds es : List Door). ds ++ es) front
-    (ap₂ (λ (ranges : List CornerRange) (rows : List UnitRow). copies_by ranges (unit_doors find rows)) are.corners (ap (filter walks) whole)
+    (ap₂ (λ (ranges : List CornerRange) (rows : List UnitRow). copies_by ranges (unit_doors find rows)) are.ranges (ap (filter walks) whole)
     ∙ copies_same find settings.inside (length (place_nodes features)) ways)
     ∙ sym (map-append (door_of find) (place_node_rows features) (flat_map (corner_rows settings.inside) ways))
 

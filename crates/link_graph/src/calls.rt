@@ -9,7 +9,7 @@ ghost use Rattle.venue_nodes.specs.Crowds.{Crowds};
 ghost use Rattle.venue_nodes.specs.Nodes.{nodes as nodes_of};
 ghost use Rattle.venue_nodes.specs.Numbering.{number_among};
 ghost use Rattle.venue_nodes.specs.Rows.{AreRowsOf};
-ghost use Rattle.venue_nodes.specs.Views.{AreNodes};
+ghost use Rattle.venue_nodes.specs.Views.{AreNodes, HaveCorners};
 ghost use Rattle.link_graph.specs.Facts.{IsNodeClosed};
 ghost use Rattle.link_graph.specs.Graphs.{network};
 ghost use Rattle.link_graph.specs.Lower.{lower_of};
@@ -51,6 +51,7 @@ impl Graph {
         requires own_ids { HaveOwnIds features.now }
         requires close { AllClose (judged_positions features.now) }
         requires nodes { AreNodes features.now settings.now nodes }
+        requires corners { HaveCorners features.now settings.now nodes }
         requires rows { AreRowsOf features.now settings.now rows }
         requires roomy { Crowds features.now settings.now None }
         requires few { length (nodes_of features.now settings.now) ≤ 400000 }

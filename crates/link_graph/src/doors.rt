@@ -5,7 +5,7 @@ ghost use Rattle.venue_types.specs.declared.features.UnitRow.{UnitRow as AUnit};
 ghost use Rattle.imdf_access.specs.Categories.{is_walkable};
 ghost use Rattle.venue_types.specs.declared.settings.Settings.{Settings as ASettings};
 ghost use Rattle.venue_nodes.specs.Nodes.{NodeRow, unit as of_unit, node_rows};
-ghost use Rattle.venue_nodes.specs.Views.{AreNodes, corner_ranges, find_closable};
+ghost use Rattle.venue_nodes.specs.Views.{HaveCorners, corner_ranges, find_closable};
 ghost use Rattle.link_graph.specs.Making.{copies_by, door_of};
 
 use crate::parts::Door;
@@ -165,7 +165,7 @@ pub(crate) fn doors_of(
     features: &Features,
     nodes: &Nodes,
 ) -> Result<Vec<Door>, OutOfMemory>
-    ensures { IfOk result (λ doors. (settings : ASettings) → AreNodes features.now settings nodes.now → doors.items ≡ map (door_of (find_closable nodes.now)) (node_rows features.now settings)) }
+    ensures { IfOk result (λ doors. (settings : ASettings) → HaveCorners features.now settings nodes.now → doors.items ≡ map (door_of (find_closable nodes.now)) (node_rows features.now settings)) }
 {
     let mut doors = Vec::new(alloc);
     add_doors(&mut doors, nodes, features.amenities.as_slice())?;

@@ -8,7 +8,7 @@ ghost use Rattle.plane_exact.specs.Figure.{AllClose};
 ghost use Rattle.venue_nodes.specs.Crowds.{Crowds};
 ghost use Rattle.venue_nodes.specs.Nodes.{nodes as nodes_of};
 ghost use Rattle.venue_nodes.specs.Rows.{AreRowsOf};
-ghost use Rattle.venue_nodes.specs.Views.{AreNodes};
+ghost use Rattle.venue_nodes.specs.Views.{AreNodes, HaveCorners};
 ghost use Rattle.link_graph.specs.Cores.{IsSoundCore, network_in};
 ghost use Rattle.link_graph.specs.Making.{IsMadeOf};
 ghost use Rattle.link_graph.specs.Networks.{IsNetworkOf};
@@ -24,7 +24,6 @@ use venue_nodes::{Nodes, Rows, spot_law};
 use venue_types::{Features, OutOfMemory, Settings};
 
 // Its parts, one after another.
-#[tactic(auto, unfolding(venue_nodes::specs::Nodes::node_rows))]
 fn made_of(
     alloc: Global,
     features: &Features,
@@ -35,6 +34,7 @@ fn made_of(
     requires sound { AreSound features.now }
     requires close { AllClose (judged_positions features.now) }
     requires nodes { AreNodes features.now settings.now nodes }
+    requires corners { HaveCorners features.now settings.now nodes }
     requires rows { AreRowsOf features.now settings.now rows }
     requires roomy { Crowds features.now settings.now None }
     ensures { IfOk result (IsMadeOf features.now settings.now) }
@@ -80,6 +80,7 @@ pub(crate) fn core_of(
     requires own_ids { HaveOwnIds features.now }
     requires close { AllClose (judged_positions features.now) }
     requires nodes { AreNodes features.now settings.now nodes }
+    requires corners { HaveCorners features.now settings.now nodes }
     requires rows { AreRowsOf features.now settings.now rows }
     requires roomy { Crowds features.now settings.now None }
     requires few { length (nodes_of features.now settings.now) ≤ 400000 }

@@ -23,7 +23,6 @@ pub record Number (ids : List FeatureId) (numbers : Numbers) : Type 0 where
 pub record AreParts (features : Features) (settings : Settings) (made : Nodes) : Type 0 where
   pub list : made.list.items ≡ nodes features settings
   pub numbers : Number (map (λ (node : Node). node.id) (place_nodes features)) made.numbers
-  pub corners : made.corners.items ≡ ranges_from (length (place_nodes features)) (corner_counts features settings)
   pub occupants : Number (map (λ (row : OccupantRow). row.id) features.occupants) made.occupants
   pub anchors : made.anchors.items ≡ map (λ (row : OccupantRow). row.anchor) features.occupants
   pub closable_ids : made.closable_ids.items ≡ closables features
@@ -48,7 +47,6 @@ unfolding node_list corner_ranges closable_list find_closable
 are_nodes features settings made parts = record {
   list = parts.list;
   place = place_found features settings made parts;
-  corners = parts.corners;
   closable_ids = parts.closable_ids;
   closable = λ id. parts.closable_numbers.number id ∙ ap (λ (ids : List FeatureId). number_among ids id) parts.closable_ids;
 }

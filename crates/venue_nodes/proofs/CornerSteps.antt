@@ -1,5 +1,5 @@
 -- Steps of the loops that add the nodes of corners.
-use Rattle.std.proofs.Common.{◌≡◌, ℕ, ◌+◌, ◌<◌, ◌≤◌, Bool, true, false, cond, List, [], ◌∷◌, ◌++◌, All, map, filter, flat_map, drop, length, get_or, refl, sym, ap, ap₂, subst, ◌∙◌, arith, length-append}
+use Rattle.std.proofs.Common.{◌≡◌, ℕ, ◌+◌, ◌<◌, ◌≤◌, Bool, true, false, cond, List, [], ◌∷◌, ◌++◌, All, map, filter, flat_map, drop, length, get_or, refl, sym, ap, ap₂, ◌∙◌, arith, length-append}
 use Rattle.std.specs.Prelude.{Contains}
 use Rattle.std.proofs.lemmas.List.{length-map, map-append, append_assoc}
 use Rattle.std.proofs.lemmas.List.Elements.{Contains-append_left, All-contains}
@@ -123,7 +123,6 @@ pub ranges_step : (inside : Inside) (units : List UnitRow) (i : ℕ) (row d : Un
     → made ≡ range_behind (length now) (length (corner_points inside row)) → further ≡ ranges ++ made ∷ [] → further ++ ranges_in inside (length then) (filter can_walk (drop (i + 1) units)) ≡ all
 ranges_step inside units i row d now then ranges further all made within at walks whole grown is added =
     let rest = filter can_walk (drop (i + 1) units) in
-    let end = length now + length (corner_points inside row) in
     ap (λ (list : List CornerRange). list ++ ranges_in inside (length then) rest) added
     ∙ append_assoc ranges (made ∷ []) (ranges_in inside (length then) rest)
     ∙ ap₂ (λ (one : CornerRange) (n : ℕ). ranges ++ one ∷ ranges_in inside n rest) is (grown_by inside row now then grown)

@@ -1,5 +1,5 @@
 -- How many corners there are at most, as rows and as what they name, and that each unit lies within reach of itself.
-use Rattle.std.proofs.Common.{◌≡◌, ℕ, suc, ◌+◌, ◌≤◌, Bool, true, false, cond, List, [], ◌∷◌, ◌++◌, map, filter, flat_map, replicate, length, All, refl, ap, sym, ◌∙◌, ◌⊎◌, inl, inr, arith, length-append}
+use Rattle.std.proofs.Common.{◌≡◌, ℕ, suc, ◌+◌, ◌≤◌, Bool, true, false, cond, List, [], ◌∷◌, ◌++◌, map, filter, flat_map, length, All, refl, ap, sym, ◌∙◌, inl, inr, arith, length-append}
 use Rattle.std.specs.Prelude.{Contains}
 use Rattle.std.proofs.lemmas.List.{length-replicate}
 use Rattle.venue_types.proofs.Items.{Contains-nil, Contains-cons_cases}
@@ -8,12 +8,10 @@ use Rattle.venue_types.specs.declared.features.UnitRow.{UnitRow}
 use Rattle.venue_types.specs.declared.folder_file.File.{File}
 use Rattle.venue_types.specs.declared.folder_file.File.TheVariants as file
 use Rattle.venue_types.specs.declared.point.Point.{Point}
-use Rattle.venue_types.specs.declared.point.Shape.{Shape}
 use Rattle.venue_types.specs.declared.settings.Inside.{Inside}
 use Rattle.venue_types.specs.declared.settings.Inside.TheVariants as inside
 use Rattle.venue_types.specs.declared.settings.Settings.{Settings}
 use Rattle.venue_types.specs.FolderFiles.{feature_files}
-use Rattle.imdf_access.specs.Categories.{is_walkable}
 use Rattle.plane_exact.specs.Corners.{corners}
 use Rattle.plane_exact.specs.Figure.{AllClose, AllNearby, vertices}
 use Rattle.plane_exact.proofs.NearbyLemmas.{AllNearby-fewer, all_nearby}
@@ -21,7 +19,7 @@ use Rattle.plane_exact.proofs.CornerCounts.{corners_few}
 use Rattle.feature_rows.specs.Figures.{positions_of, judged_positions}
 use Rattle.feature_rows.specs.Sound.{AreSound}
 use Rattle.venue_nodes.specs.Naming.{can_walk, corner_names, named_by_corners}
-use Rattle.venue_nodes.specs.Nodes.{NodeRow, carries, corner_points, corner_rows, corner_rows_from, room_corners}
+use Rattle.venue_nodes.specs.Nodes.{carries, corner_points, corner_rows, corner_rows_from, room_corners}
 use Rattle.venue_nodes.proofs.Judged.{all_of, unit_vertex, listed_unit}
 
 -- ---- within reach

@@ -4,7 +4,7 @@ use Rattle.std.specs.Prelude.{Contains}
 use Rattle.std.specs.Int.{int_min, int_max}
 use Rattle.std.proofs.lemmas.Int.{ints, fold-int_min_reached, fold-int_max_reached}
 use Rattle.std.proofs.lemmas.List.Elements.{All-contains, All-head, Contains-append_cases}
-use Rattle.venue_types.proofs.Items.{Contains-nil, Contains-first, Contains-later, Contains-cons_cases}
+use Rattle.venue_types.proofs.Items.{Contains-first, Contains-later, Contains-cons_cases}
 use Rattle.venue_types.specs.declared.features.Features.{Features}
 use Rattle.venue_types.specs.declared.features.OpeningRow.{OpeningRow}
 use Rattle.venue_types.specs.declared.features.UnitRow.{UnitRow}

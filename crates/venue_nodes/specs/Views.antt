@@ -52,10 +52,13 @@ ranges_from at (count ∷ counts) = range_behind at count ∷ ranges_from (at + 
 abbrev pub corner_counts : Features → Settings → List ℕ
 corner_counts features settings = map (λ (row : UnitRow). length (corner_points settings.inside row)) (walkable_units features)
 
--- these are the nodes of the features, their places, the corners behind them, and what can be closed among the features
+-- the corners of each unit stand one unit behind the other, behind all places
+pub record HaveCorners (features : Features) (settings : Settings) (made : Nodes) : Type 0 where
+  pub ranges : corner_ranges made ≡ ranges_from (length (place_nodes features)) (corner_counts features settings)
+
+-- these are the nodes of the features, their places, and what can be closed among the features
 pub record AreNodes (features : Features) (settings : Settings) (made : Nodes) : Type 0 where
   pub list : node_list made ≡ nodes features settings
   pub place : (id : FeatureId) → find_place made id ≡ place_of features id
-  pub corners : corner_ranges made ≡ ranges_from (length (place_nodes features)) (corner_counts features settings)
   pub closable_ids : closable_list made ≡ closables features
   pub closable : (id : FeatureId) → find_closable made id ≡ number_among (closables features) id

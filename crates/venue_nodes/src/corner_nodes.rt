@@ -1,6 +1,6 @@
 //! Corners of units as nodes.
 
-ghost use Rattle.std.specs.Prelude.{◌≡◌, ◌+◌, ◌++◌, ◌≤◌, All, IfOk, OnOk, List, flat_map, length, map, filter};
+ghost use Rattle.std.specs.Prelude.{◌≡◌, ◌+◌, ◌++◌, ◌≤◌, All, IfOk, OnOk, flat_map, length, map, filter};
 ghost use Rattle.venue_types.specs.declared.features.UnitRow.{UnitRow as AUnit};
 ghost use Rattle.feature_rows.specs.Sound.{IsOnEarth};
 ghost use Rattle.plane_exact.specs.Figure.{AllNearby, vertices};

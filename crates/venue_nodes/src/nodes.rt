@@ -32,14 +32,15 @@ pub struct Nodes {
 
 impl Nodes {
     ghost use Rattle.std.specs.Prelude.{◌≡◌, ◌<◌, IfOk, Some, slice_get};
-    ghost use Rattle.venue_nodes.specs.Views.{AreNodes, node_list, corner_ranges, find_place, closable_list, find_closable};
+    ghost use Rattle.venue_nodes.specs.Views.{AreNodes, HaveCorners, node_list, corner_ranges, find_place, closable_list, find_closable};
 
     /// Of the features of a folder any two of whose positions are close. Takes n log n time, and some 100 bytes a feature and 48 a
     /// corner.
     pub fn of(alloc: Global, features: &Features, settings: &Settings) -> Result<Nodes, OutOfMemory>
         requires sound { AreSound features.now }
         requires close { AllClose (judged_positions features.now) }
-        ensures { IfOk result (AreNodes features.now settings.now) }
+        ensures nodes { IfOk result (AreNodes features.now settings.now) }
+        ensures corners { IfOk result (HaveCorners features.now settings.now) }
     {
         Nodes::placed(alloc, features, settings)
     }
@@ -51,7 +52,8 @@ impl Nodes {
         settings: &Settings,
     ) -> Result<Nodes, OutOfMemory>
         requires { CanPlace features.now }
-        ensures { IfOk result (AreNodes features.now settings.now) }
+        ensures nodes { IfOk result (AreNodes features.now settings.now) }
+        ensures corners { IfOk result (HaveCorners features.now settings.now) }
     {
         let mut list = nodes_of(alloc, features)?;
         let numbers = Numbers::of(alloc, &ids_of(alloc, &list)?)?;
