@@ -2,7 +2,7 @@
 //! rests on it.
 #![tactic(auto)]
 
-ghost use Rattle.std.specs.Prelude.{All, IfOk};
+ghost use Rattle.std.specs.Prelude.{◌≡◌, ◌+◌, All, IfOk, length};
 ghost use Rattle.test_figures.specs.Boxes.{IsInBox};
 ghost use Rattle.plane_exact.specs.Figure.{part_points, vertices};
 
@@ -20,7 +20,8 @@ pub fn at(place: (i64, i64)) -> Point
 }
 
 pub fn ring(alloc: Global, points: &[(i64, i64)]) -> Result<Ring, AllocError>
-    ensures { IfOk result (λ ring. All IsInBox ring.points) }
+    ensures inside { IfOk result (λ ring. All IsInBox ring.points) }
+    ensures count { IfOk result (λ ring. length ring.points ≡ length points.now) }
 {
     let mut list = Vec::new(alloc);
     for point in points {
@@ -33,7 +34,8 @@ pub fn ring(alloc: Global, points: &[(i64, i64)]) -> Result<Ring, AllocError>
 
 /// A polygon with one hole, which may have no position.
 pub fn part(alloc: Global, outer: &[(i64, i64)], hole: &[(i64, i64)]) -> Result<Part, AllocError>
-    ensures { IfOk result (λ part. All IsInBox (part_points part)) }
+    ensures inside { IfOk result (λ part. All IsInBox (part_points part)) }
+    ensures count { IfOk result (λ part. length (part_points part) ≡ length outer.now + length hole.now) }
 {
     let outer = ring(alloc, outer)?;
     let hole = ring(alloc, hole)?;
@@ -49,7 +51,8 @@ pub fn polygon(
     outer: &[(i64, i64)],
     hole: &[(i64, i64)],
 ) -> Result<Shape, AllocError>
-    ensures { IfOk result (λ shape. All IsInBox (vertices shape)) }
+    ensures inside { IfOk result (λ shape. All IsInBox (vertices shape)) }
+    ensures count { IfOk result (λ shape. length (vertices shape) ≡ length outer.now + length hole.now) }
 {
     let part = part(alloc, outer, hole)?;
     Ok(Shape {

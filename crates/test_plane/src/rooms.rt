@@ -1,10 +1,10 @@
 //! Rooms with walls: who sees whom in them, and at which corners one turns. The answers were worked out apart from the program.
 
-ghost use Rattle.std.specs.Prelude.{All, IfOk};
+ghost use Rattle.std.specs.Prelude.{◌≤◌, All, IfOk, length};
 ghost use Rattle.test_figures.specs.Boxes.{IsInBox, IsInDoubledBox, IsInWideBox};
 ghost use Rattle.plane_exact.specs.Figure.{vertices};
 
-use plane_exact::{corners, scaled, sight};
+use plane_exact::{corner_count, corners, edge_count, scaled, sight};
 use plane_trees::Bands;
 use std::alloc::{AllocError, Global};
 use std::process::Abort;
@@ -13,6 +13,9 @@ use test_figures::{at, part, polygon};
 use venue_types::{List, Point, Shape, Spot};
 
 const FAR: i64 = 100_000_000;
+
+/// How many places an outline may have that `has_corners` looks at.
+const MOST_PLACES: usize = 1_000;
 
 /// The rooms, of which a metre has 10,000 nanodegrees.
 #[derive(Clone, Copy)]
@@ -487,15 +490,28 @@ fn are_at(points: &[Point], places: &[(i64, i64)]) -> bool {
             .all(|(point, place)| *point == at(*place))
 }
 
+/// Whether the shape has so many corners and edges.
+fn has_counts(shape: &Shape, corners: usize, edges: usize) -> bool
+    requires room { All IsInBox (vertices shape.now) }
+    requires few { length (vertices shape.now) ≤ 4294967295 }
+{
+    corner_count(shape) as usize == corners && edge_count(shape) as usize == edges
+}
+
+/// Whether the room of two outlines of at most 1,000 places has these corners, and the counts tell how many corners and edges.
 fn has_corners(
     alloc: Global,
     outer: &[(i64, i64)],
     hole: &[(i64, i64)],
     want: &[(i64, i64)],
 ) -> Result<bool, AllocError> {
+    if outer.len() > MOST_PLACES || hole.len() > MOST_PLACES {
+        return Ok(false);
+    }
     let shape = polygon(alloc, outer, hole)?;
     let found = corners_at(alloc, &shape)?;
-    Ok(are_at(found.as_slice(), want))
+    let edges = outer.len().saturating_sub(1) + hole.len().saturating_sub(1);
+    Ok(are_at(found.as_slice(), want) && has_counts(&shape, want.len(), edges))
 }
 
 #[test]

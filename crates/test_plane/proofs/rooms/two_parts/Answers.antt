@@ -11,4 +11,4 @@ returns c =
     let first = c.in_ok-first.first in
     let second = c.in_ok-second.second in
     All-same IsInBox _ _ (flat_map-flat_map (λ (ring : Ring). ring.points) rings_of c.from_vec.result ∙ ap (flat_map part_points) (c.from_vec.ensures ∙ c.in_ok-vec.ensures.items))
-    (All-append IsInBox (part_points first) (flat_map part_points (second ∷ [])) c.in_ok-first.ensures (All-append IsInBox (part_points second) [] c.in_ok-second.ensures (All-nil IsInBox)))
+    (All-append IsInBox (part_points first) (flat_map part_points (second ∷ [])) c.in_ok-first.ensures.inside (All-append IsInBox (part_points second) [] c.in_ok-second.ensures.inside (All-nil IsInBox)))

@@ -10,4 +10,4 @@ returns c =
     let old = c.args.parts.now.items in
     let part = c.in_ok-part.field-0 in
     All-same IsInBox _ _ (ap (flat_map part_points) c.in_ok-push.ensures.items ∙ flat_map-append part_points old (part ∷ []))
-    (All-append IsInBox (flat_map part_points old) (flat_map part_points (part ∷ [])) c.requires (All-append IsInBox (part_points part) [] c.in_ok-part.ensures (All-nil IsInBox)))
+    (All-append IsInBox (flat_map part_points old) (flat_map part_points (part ∷ [])) c.requires (All-append IsInBox (part_points part) [] c.in_ok-part.ensures.inside (All-nil IsInBox)))
