@@ -1,8 +1,9 @@
 -- What is known of nodes, as it is made.
-use Rattle.std.proofs.Common.{◌≡◌, ℕ, suc, ◌+◌, ◌-◌, Bool, List, [], ◌∷◌, ◌++◌, Option, Some, None, map, filter, flat_map, replicate, length, refl, sym, ap, ap₂, ◌∙◌, arith, append_assoc, append-nil}
+use Rattle.std.proofs.Common.{◌≡◌, ℕ, zero, suc, ◌+◌, ◌-◌, ◌<◌, Bool, true, false, List, [], ◌∷◌, ◌++◌, Option, Some, None, map, filter, flat_map, replicate, length, drop, get_or, refl, sym, ap, ap₂, ◌∙◌, arith, ◌≤◌, append_assoc, append-nil}
 use Rattle.std.specs.Prelude.{slice_get}
 use Rattle.std.specs.Option.{option_map}
-use Rattle.std.proofs.lemmas.List.{length-map, map-append}
+use Rattle.std.proofs.Math.Seq.{drop-nil}
+use Rattle.std.proofs.lemmas.List.{length-map, map-append, drop_all}
 use Rattle.std.proofs.lemmas.Option.{slice_get-map, same_Some}
 use Rattle.venue_types.specs.declared.feature_id.FeatureId.{FeatureId}
 use Rattle.venue_types.specs.declared.features.Features.{Features}
@@ -21,11 +22,12 @@ use Rattle.venue_nodes.specs.declared.corner_nodes.CornerRange.{CornerRange}
 use Rattle.venue_nodes.specs.declared.nodes.Nodes.{Nodes}
 use Rattle.venue_nodes.specs.Nodes.{NodeRow, amenity, anchor, opening, unit, corner, node_of_row, place_node_rows, place_nodes, room_corners, corner_points, corner_rows, corner_rows_from, node_rows, nodes, walkable_units}
 use Rattle.venue_nodes.specs.Views.{HaveCorners, corner_ranges, ranges_from}
+use Rattle.venue_nodes.proofs.CornerSteps.{ahead, past}
 use Rattle.venue_nodes.proofs.Items.{four_passes, from_map}
 use Rattle.link_graph.specs.declared.parts.Door.{Door}
 use Rattle.link_graph.specs.Cores.{asks_of}
 use Rattle.link_graph.specs.Facts.{end_of, end_at}
-use Rattle.link_graph.specs.Making.{copies_by, door_of, id_of_row}
+use Rattle.link_graph.specs.Making.{copies_at, copies_by, door_of, id_of_row}
 
 abbrev walks : UnitRow → Bool
 walks row = is_walkable row.category
@@ -47,7 +49,7 @@ corners_same : (find : FeatureId → Option ℕ) (row : UnitRow) (n : ℕ) (poin
 corners_same find row n [] = refl
 corners_same find row n (p ∷ points) = ap (λ (ds : List Door). door_of find (unit row) ∷ ds) (corners_same find row (n + 1) points)
 
-abbrev unit_doors : (FeatureId → Option ℕ) → List UnitRow → List Door
+abbrev pub unit_doors : (FeatureId → Option ℕ) → List UnitRow → List Door
 unit_doors find units = map (λ (row : UnitRow). door_of find (unit row)) units
 
 abbrev counts_of : Inside → List UnitRow → List ℕ
@@ -76,28 +78,48 @@ doors_all features settings nodes find places doors us are whole front back =
 
 -- ---- copies, unit by unit
 
--- where there is no range for one unit more
-pub copies_none : (ranges : List CornerRange) (doors : List Door) (door : Door) → slice_get ranges (length doors) ≡ None → copies_by ranges (doors ++ door ∷ []) ≡ copies_by ranges doors
-copies_none [] doors door at = refl
-copies_none (r ∷ ranges) [] door at = absurd (cc)
-copies_none (r ∷ ranges) (d ∷ doors) door at = ap (λ (ds : List Door). replicate (r.end - r.start) d ++ ds) (copies_none ranges doors door at)
+copies_next : (ranges : List CornerRange) (w : ℕ) (door : Door) (doors : List Door) → copies_by (drop w ranges) (door ∷ doors) ≡ copies_at ranges w door ++ copies_by (drop (suc w) ranges) doors
+copies_next [] w door doors = ap (λ (rs : List CornerRange). copies_by rs (door ∷ doors)) (drop-nil w)
+copies_next (r ∷ ranges) zero door doors = refl
+copies_next (r ∷ ranges) (suc w) door doors = copies_next ranges w door doors
 
--- where there is one
-pub copies_more : (ranges : List CornerRange) (doors : List Door) (door : Door) (range : CornerRange) → slice_get ranges (length doors) ≡ Some range
-    → copies_by ranges (doors ++ door ∷ []) ≡ copies_by ranges doors ++ replicate (range.end - range.start) door
-copies_more [] doors door range at = absurd (cc)
-copies_more (r ∷ ranges) [] door range at =
-    let same : r ≡ range = same_Some r range at in
-    ap (λ (s : CornerRange). replicate (s.end - s.start) door ++ copies_by ranges []) same
-    ∙ ap (λ (ds : List Door). replicate (range.end - range.start) door ++ ds) (no_copies ranges)
-    ∙ append-nil (replicate (range.end - range.start) door)
+copies_ahead : (ranges : List CornerRange) (w : ℕ) (door : Door) (doors : List Door) → copies_by (drop w ranges) (door ∷ doors) ≡ copies_at ranges w door ++ copies_by (drop (w + 1) ranges) doors
+copies_ahead ranges w door doors =
+    let next : suc w ≡ w + 1 = omega arith in
+    copies_next ranges w door doors ∙ ap (λ (n : ℕ). copies_at ranges w door ++ copies_by (drop n ranges) doors) next
+
+-- what is ahead of so many units and ranges
+abbrev pub copies_left : (FeatureId → Option ℕ) → List CornerRange → ℕ → List UnitRow → ℕ → List Door
+copies_left find ranges w units i = copies_by (drop w ranges) (unit_doors find (filter walks (drop i units)))
+
+-- a unit that can be walked through takes a range
+pub copies_step : (find : FeatureId → Option ℕ) (ranges : List CornerRange) (w : ℕ) (units : List UnitRow) (i : ℕ) (row d : UnitRow) (before after all : List Door) → i < length units → get_or units i d ≡ row → walks row ≡ true
+    → after ≡ before ++ copies_at ranges w (door_of find (unit row)) → before ++ copies_left find ranges w units i ≡ all → after ++ copies_left find ranges (w + 1) units (i + 1) ≡ all
+copies_step find ranges w units i row d before after all within at walked added whole =
+    let rest = copies_left find ranges (w + 1) units (i + 1) in
+    ap (λ (ds : List Door). ds ++ rest) added
+    ∙ append_assoc before (copies_at ranges w (door_of find (unit row))) rest
+    ∙ ap (λ (ds : List Door). before ++ ds) (sym (ap (λ (us : List UnitRow). copies_by (drop w ranges) (unit_doors find us)) (ahead units i row d within at walked) ∙ copies_ahead ranges w (door_of find (unit row)) (unit_doors find (filter walks (drop (i + 1) units)))))
+    ∙ whole
+
+-- another takes none
+pub copies_past : (find : FeatureId → Option ℕ) (ranges : List CornerRange) (w : ℕ) (units : List UnitRow) (i : ℕ) (row d : UnitRow) (before after all : List Door) → i < length units → get_or units i d ≡ row → walks row ≡ false
+    → after ≡ before → before ++ copies_left find ranges w units i ≡ all → after ++ copies_left find ranges w units (i + 1) ≡ all
+copies_past find ranges w units i row d before after all within at solid same whole =
+    ap (λ (ds : List Door). ds ++ copies_left find ranges w units (i + 1)) same
+    ∙ ap (λ (us : List UnitRow). before ++ copies_by (drop w ranges) (unit_doors find us)) (sym (past units i row d within at solid))
+    ∙ whole
+
+-- behind the last nothing is left
+pub copies_done : (find : FeatureId → Option ℕ) (ranges : List CornerRange) (w : ℕ) (units : List UnitRow) (i : ℕ) (doors all : List Door) → length units ≤ i → doors ++ copies_left find ranges w units i ≡ all → doors ≡ all
+copies_done find ranges w units i doors all end whole =
+    sym (append-nil doors)
+    ∙ ap (λ (ds : List Door). doors ++ ds) (sym (ap (λ (us : List UnitRow). copies_by (drop w ranges) (unit_doors find (filter walks us))) (drop_all i units end) ∙ none (drop w ranges)))
+    ∙ whole
   where
-    no_copies : (rs : List CornerRange) → copies_by rs [] ≡ []
-    no_copies [] = refl
-    no_copies (s ∷ rs) = refl
-copies_more (r ∷ ranges) (d ∷ doors) door range at =
-    ap (λ (ds : List Door). replicate (r.end - r.start) d ++ ds) (copies_more ranges doors door range at)
-    ∙ sym (append_assoc (replicate (r.end - r.start) d) (copies_by ranges doors) (replicate (range.end - range.start) door))
+    none : (rs : List CornerRange) → copies_by rs [] ≡ []
+    none [] = refl
+    none (s ∷ rs) = refl
 
 -- ---- what nodes ask
 

@@ -1,5 +1,5 @@
 -- The links of a venue, in their order.
-use Rattle.std.specs.Prelude.{ℕ, ◌+◌, ◌==◌, pos, List, [], ◌∷◌, ◌++◌, map, filter, length, slice_get, Some, None, Bool, true, false, not, ◌&&◌, if◌then◌else◌}
+use Rattle.std.specs.Prelude.{ℕ, ◌+◌, ◌==◌, pos, List, [], ◌∷◌, ◌++◌, map, filter, length, slice_get, Some, None, Bool, not, ◌&&◌, if◌then◌else◌}
 use Rattle.std.specs.List.{flat_map, filter_map, enumerate_from}
 use Rattle.venue_types.specs.declared.features.Features.{Features}
 use Rattle.venue_types.specs.declared.features.RelationshipRow.{RelationshipRow}

@@ -62,6 +62,10 @@ copies_by [] doors = []
 copies_by (range ∷ ranges) [] = []
 copies_by (range ∷ ranges) (door ∷ doors) = replicate (range.end - range.start) door ++ copies_by ranges doors
 
+-- of one as many as the range at this place has numbers; none where there is no range
+abbrev pub copies_at : List CornerRange → ℕ → Door → List Door
+copies_at ranges w door = elim (slice_get ranges w) [ None ↦ [] | Some range ↦ replicate (range.end - range.start) door ]
+
 -- any two nodes are close
 pub record AreClose (nodes : Nodes) : Type 0 where
   pub close : (a b : Node) → Contains (node_list nodes) a → Contains (node_list nodes) b → IsCloseDoubled a.spot b.spot

@@ -1,17 +1,17 @@
 //! What is known of nodes.
 
-ghost use Rattle.std.specs.Prelude.{◌≡◌, ◌-◌, ◌++◌, OnOk, IfOk, length, map, filter, replicate};
+ghost use Rattle.std.specs.Prelude.{◌≡◌, ◌≤◌, ◌++◌, OnOk, IfOk, length, map, filter, replicate};
 ghost use Rattle.venue_types.specs.declared.features.UnitRow.{UnitRow as AUnit};
 ghost use Rattle.imdf_access.specs.Categories.{is_walkable};
 ghost use Rattle.venue_types.specs.declared.settings.Settings.{Settings as ASettings};
 ghost use Rattle.venue_nodes.specs.Nodes.{NodeRow, unit as of_unit, node_rows};
 ghost use Rattle.venue_nodes.specs.Views.{HaveCorners, corner_ranges, find_closable};
-ghost use Rattle.link_graph.specs.Making.{copies_by, door_of};
+ghost use Rattle.link_graph.specs.Making.{copies_at, copies_by, door_of};
 
 use crate::parts::Door;
 use imdf_access::{EndFacts, walkable};
 use std::alloc::Global;
-use venue_nodes::{CornerRange, Nodes};
+use venue_nodes::Nodes;
 use venue_types::{AmenityRow, AnchorRow, FeatureId, Features, OpeningRow, OutOfMemory, UnitRow};
 
 // A row of a feature for which a node stands.
@@ -135,25 +135,43 @@ fn add_corner_doors(
     nodes: &Nodes,
     units: &[UnitRow],
 ) -> Result<(), OutOfMemory>
+    requires { length units.now ≤ 100000 }
     ensures { OnOk result (doors.new.items ≡ doors.old.items ++ copies_by (corner_ranges nodes.now) (map (λ row. door_of (find_closable nodes.now) (of_unit row)) (filter (λ (row : AUnit). is_walkable row.category) units.now))) }
 {
     let mut w = 0;
     for unit in units {
         if walkable(unit.category.as_str().as_bytes()) {
-            if let Some(range) = nodes.corners(w) {
-                add_copies(doors, unit.door(nodes), range)?;
-            }
+            add_unit_corners(doors, nodes, unit, w)?;
             w += 1;
         }
     }
     Ok(())
 }
 
-// Adds the same for each number of the range.
-fn add_copies(doors: &mut Vec<Door>, door: Door, range: CornerRange) -> Result<(), OutOfMemory>
-    ensures { OnOk result (doors.new.items ≡ doors.old.items ++ replicate (range.end - range.start) door) }
+// Adds for each corner of one unit, which has this number among those that can be walked through, what is known of it.
+fn add_unit_corners(
+    doors: &mut Vec<Door>,
+    nodes: &Nodes,
+    unit: &UnitRow,
+    w: u32,
+) -> Result<(), OutOfMemory>
+    ensures { OnOk result (doors.new.items ≡ doors.old.items ++ copies_at (corner_ranges nodes.now) w (door_of (find_closable nodes.now) (of_unit unit.now))) }
 {
-    for _ in range.start..range.end {
+    match nodes.corners(w) {
+        None => Ok(()),
+        Some(range) => add_copies(
+            doors,
+            unit.door(nodes),
+            range.end.saturating_sub(range.start),
+        ),
+    }
+}
+
+// Adds the same so many times.
+fn add_copies(doors: &mut Vec<Door>, door: Door, count: u32) -> Result<(), OutOfMemory>
+    ensures { OnOk result (doors.new.items ≡ doors.old.items ++ replicate count door) }
+{
+    for _ in 0..count {
         doors.push(door)?;
     }
     Ok(())
@@ -165,6 +183,7 @@ pub(crate) fn doors_of(
     features: &Features,
     nodes: &Nodes,
 ) -> Result<Vec<Door>, OutOfMemory>
+    requires { length features.now.units ≤ 100000 }
     ensures { IfOk result (λ doors. (settings : ASettings) → HaveCorners features.now settings nodes.now → doors.items ≡ map (door_of (find_closable nodes.now)) (node_rows features.now settings)) }
 {
     let mut doors = Vec::new(alloc);

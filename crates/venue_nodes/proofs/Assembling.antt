@@ -12,7 +12,7 @@ use Rattle.venue_nodes.specs.declared.numbers.Numbers.{Numbers}
 use Rattle.venue_nodes.specs.Identity.{is_same}
 use Rattle.venue_nodes.specs.Nodes.{place_nodes, nodes, node_number, place_of, closables}
 use Rattle.venue_nodes.specs.Numbering.{number_among}
-use Rattle.venue_nodes.specs.Views.{number_of, node_list, corner_ranges, ranges_from, corner_counts, find_place, closable_list, find_closable, AreNodes}
+use Rattle.venue_nodes.specs.Views.{number_of, node_list, corner_ranges, find_place, closable_list, find_closable, AreNodes}
 use Rattle.venue_nodes.proofs.Finding.{number_map, by_number, occupant_place, number_same}
 
 -- the numbers are those of these identifiers

@@ -57,12 +57,12 @@ range_is inside row points before after start end e added first last =
 
 -- ---- from unit to unit
 
-ahead : (units : List UnitRow) (i : ℕ) (row d : UnitRow) → i < length units → get_or units i d ≡ row → can_walk row ≡ true → filter can_walk (drop i units) ≡ row ∷ filter can_walk (drop (i + 1) units)
+pub ahead : (units : List UnitRow) (i : ℕ) (row d : UnitRow) → i < length units → get_or units i d ≡ row → can_walk row ≡ true → filter can_walk (drop i units) ≡ row ∷ filter can_walk (drop (i + 1) units)
 ahead units i row d within at walks = ap (filter can_walk) (drop_at units i row d within at) ∙ kept walks where
   kept : can_walk row ≡ true → filter can_walk (row ∷ drop (i + 1) units) ≡ row ∷ filter can_walk (drop (i + 1) units)
   kept h = rw h refl
 
-past : (units : List UnitRow) (i : ℕ) (row d : UnitRow) → i < length units → get_or units i d ≡ row → can_walk row ≡ false → filter can_walk (drop i units) ≡ filter can_walk (drop (i + 1) units)
+pub past : (units : List UnitRow) (i : ℕ) (row d : UnitRow) → i < length units → get_or units i d ≡ row → can_walk row ≡ false → filter can_walk (drop i units) ≡ filter can_walk (drop (i + 1) units)
 past units i row d within at solid = ap (filter can_walk) (drop_at units i row d within at) ∙ skipped solid where
   skipped : can_walk row ≡ false → filter can_walk (row ∷ drop (i + 1) units) ≡ filter can_walk (drop (i + 1) units)
   skipped h = rw h refl

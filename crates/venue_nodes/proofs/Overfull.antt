@@ -1,8 +1,8 @@
 -- How many members units have, by rows without openings and how many of these touch the first units.
-use Rattle.std.proofs.Common.{◌≡◌, ◌≢◌, ◌↔◌, ℕ, Bool, true, false, nat_eq, nat_cmp, ◌+◌, ◌*◌, ◌≤◌, ◌<◌, zero, suc, List, [], ◌∷◌, ◌++◌, Some, None, length, map, filter, flat_map, get_or, refl, sym, ap, subst, ◌∙◌, arith, inl, inr, length-append, cond, if◌then◌else◌}
+use Rattle.std.proofs.Common.{◌≡◌, ◌≢◌, ◌↔◌, ℕ, Bool, true, false, nat_eq, ◌+◌, ◌*◌, ◌≤◌, ◌<◌, zero, suc, List, [], ◌∷◌, ◌++◌, Some, length, map, filter, flat_map, get_or, refl, sym, ap, subst, ◌∙◌, arith, inl, inr, length-append, cond, if◌then◌else◌}
 use Rattle.std.specs.Prelude.{AllPairs, Contains, IsTrue, slice_get, slice_index_or, sum_by}
 use Rattle.std.specs.Cmp.{nat_eq_equiv}
-use Rattle.std.specs.List.{AllZip, IsDistinct}
+use Rattle.std.specs.List.{IsDistinct}
 use Rattle.std.proofs.Math.Nat.{mul-le-mul}
 use Rattle.std.proofs.lemmas.Bool.{cases_lt, ne_eqb}
 use Rattle.std.proofs.lemmas.Bool.Decides.{Decides-eqb, same_from_decides}
@@ -23,7 +23,6 @@ use Rattle.venue_types.specs.declared.features.UnitRow.{UnitRow}
 use Rattle.venue_types.specs.declared.settings.Inside.{Inside}
 use Rattle.venue_types.specs.declared.settings.Settings.{Settings}
 use Rattle.plane_exact.specs.Opening.{Touches}
-use Rattle.imdf_access.specs.Categories.{is_walkable}
 use Rattle.venue_nodes.specs.TouchCounts.{HasFull, IsTouchedBy, TouchMany, walked_sum}
 use Rattle.venue_nodes.specs.declared.limits.Crowding.TheVariants.{Members, Squares}
 use Rattle.venue_nodes.specs.declared.members.Rows.{Rows}
@@ -31,10 +30,10 @@ use Rattle.venue_nodes.specs.Crowds.{Crowds, IsFirstOver, IsOver}
 use Rattle.venue_nodes.specs.Identity.{is_same}
 use Rattle.venue_nodes.specs.Touching.{does_touch}
 use Rattle.venue_nodes.specs.Nodes.{NodeRow, amenity, anchor, opening, unit, corner_rows, place_node_rows, room_corners, node_rows}
-use Rattle.venue_nodes.specs.Limits.{IsCrowded, square_sum}
+use Rattle.venue_nodes.specs.Limits.{IsCrowded}
 use Rattle.venue_nodes.specs.Rows.{AreNamedRows, row_list, unit_indexes}
 use Rattle.venue_nodes.specs.Members.{is_member, members, places_where}
-use Rattle.venue_nodes.specs.Naming.{names, row_in, can_walk, unit_id, ids_at, named_by, named_by_corners}
+use Rattle.venue_nodes.specs.Naming.{names, row_in, can_walk, unit_id, named_by, named_by_corners}
 use Rattle.venue_nodes.proofs.Folder.{zip_maps, or_false, own_corners}
 use Rattle.venue_nodes.proofs.Items.{map_twice}
 use Rattle.venue_nodes.proofs.Named.{one_names}

@@ -1,14 +1,11 @@
-use Rattle.std.proofs.Common.{◌≡◌, ◌++◌, length, map, filter, take}
-use Rattle.venue_types.specs.declared.features.UnitRow.{UnitRow}
-use Rattle.imdf_access.specs.Categories.{is_walkable}
-use Rattle.venue_nodes.specs.Nodes.{unit}
+use Rattle.std.proofs.Common.{◌≡◌, ◌≤◌, ◌++◌}
 use Rattle.venue_nodes.specs.Views.{corner_ranges, find_closable}
-use Rattle.link_graph.specs.Making.{copies_by, door_of}
+use Rattle.link_graph.proofs.MadeDoors.{copies_left}
 use Rattle.link_graph.proofs.doors.add_corner_doors.Given as goal
 
--- the copies for the units before are added, and so many of these can be walked through
+-- with the copies for the units ahead all are added, and no more of those before than all can be walked through
 abbrev pub invariant-loop-unit : goal.invariant-loop-unit
 invariant-loop-unit l = record {
-  added : l.doors.items ≡ l.initial.doors.items ++ copies_by (corner_ranges l.nodes) (map (λ row. door_of (find_closable l.nodes) (unit row)) (filter (λ (row : UnitRow). is_walkable row.category) (take l.unit-index l.units)));
-  counted : l.w ≡ length (filter (λ (row : UnitRow). is_walkable row.category) (take l.unit-index l.units));
+  added : l.doors.items ++ copies_left (find_closable l.nodes) (corner_ranges l.nodes) l.w l.units l.unit-index ≡ l.initial.doors.items ++ copies_left (find_closable l.nodes) (corner_ranges l.nodes) 0 l.units 0;
+  below : l.w ≤ l.unit-index;
 }
