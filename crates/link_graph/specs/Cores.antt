@@ -21,6 +21,8 @@ use Rattle.link_graph.specs.declared.parts.Core.{Core}
 use Rattle.link_graph.specs.declared.parts.Crossing.{Crossing}
 use Rattle.link_graph.specs.declared.parts.Door.{Door}
 use Rattle.link_graph.specs.declared.parts.Seat.{Seat}
+use Rattle.link_graph.specs.declared.parts.UnitWay.{UnitWay}
+use Rattle.unit_sight.specs.Tables.{joins, neighbours}
 use Rattle.link_graph.specs.declared.stretches.Stretch.{Stretch}
 use Rattle.link_graph.specs.declared.stretches.Way.TheVariants.{Inside, Between}
 use Rattle.link_graph.specs.Lengths.{length_between}
@@ -34,21 +36,31 @@ spot_in core n = elim (slice_get (node_list core.nodes) n) [ None ↦ record { x
 abbrev pub way_in : Core → ℕ → ℕ → ℕ
 way_in core a b = length_between (spot_in core a) (spot_in core b) core.kx core.ky
 
+-- the link from node to node by this way
+abbrev pub link_by : Core → UnitWay → ℕ → ℕ → Link
+link_by core way a b = record { from = a; to = b; via = way.via; cost = way_in core a b; kind = way.kind }
+
+-- by what one crosses the unit
+abbrev pub way_of : Crossing → UnitWay
+way_of crossing = record { via = crossing.via; kind = crossing.kind }
+
 -- the link from member to member across the unit of a row
 abbrev pub link_across : Core → Crossing → ℕ → ℕ → Link
-link_across core crossing a b = record { from = a; to = b; via = crossing.via; cost = way_in core a b; kind = crossing.kind }
+link_across core crossing a b = link_by core (way_of crossing) a b
 
--- whether one walks straight from a member of the row of a unit to another: between any two
+-- where a member stands in a row, from 0
+abbrev pub place_in : List ℕ → ℕ → ℕ
+place_in [] a = 0
+place_in (m ∷ row) a = if m == a then 0 else place_in row a + 1
+
+-- whether one walks straight from a member of the row of a unit to another, as the unit's table of joined places tells
 unfoldable pub joined_in : Crossing → List ℕ → ℕ → ℕ → Bool
-joined_in crossing row a b = not (a == b)
+joined_in crossing row a b = joins crossing.sights (place_in row a) (place_in row b)
 
--- every number but this one
-abbrev pub other_than : ℕ → ℕ → Bool
-other_than a b = not (a == b)
-
--- any two members of the row are joined
-pub record IsWholeIn (crossing : Crossing) (row : List ℕ) : Type 0 where
-  pub joined : (a b : ℕ) → Contains row a → Contains row b → a ≢ b → IsTrue (joined_in crossing row a b)
+-- the table of a unit has a place for each member of its row, and joins none to itself
+pub record IsTableOf (crossing : Crossing) (row : List ℕ) : Type 0 where
+  pub long : length crossing.sights ≡ length row
+  pub apart : (i : ℕ) → joins crossing.sights i i ≡ false
 
 -- the links from a member of a row to those with which it is joined
 abbrev pub links_across_from : Core → Crossing → List ℕ → ℕ → List Link
@@ -86,15 +98,15 @@ barred_in core k = slice_index_or core.barred.items k false
 abbrev pub crossing_at : Core → ℕ → Option Crossing
 crossing_at core w = slice_get core.crossings.items w
 
--- how many links each member of a row has across its unit
-abbrev pub others_in : Core → ℕ → ℕ
-others_in core w = elim (crossing_at core w) [ None ↦ 0 | Some crossing ↦ (if crossing.walked then length (slice_index_or (row_list core.rows) w []) - 1 else 0) ]
+-- how many links the member at a place of a row has across its unit
+abbrev pub others_in : Core → ℕ → ℕ → ℕ
+others_in core w i = elim (crossing_at core w) [ None ↦ 0 | Some crossing ↦ (if crossing.walked then length (neighbours crossing.sights i) else 0) ]
 
 -- where a node stands in the rows in which it has links, with the place of the first of these
 abbrev pub seats_from : Core → ℕ → List Membership → List Seat
 seats_from core at [] = []
 seats_from core at (m ∷ ms) =
-    (if nat_lt 0 (others_in core m.unit) then record { row = m.unit; place = m.place; first = at } ∷ seats_from core (at + others_in core m.unit) ms
+    (if nat_lt 0 (others_in core m.unit m.place) then record { row = m.unit; place = m.place; first = at } ∷ seats_from core (at + others_in core m.unit m.place) ms
     else seats_from core at ms)
 
 abbrev pub seats_at : Core → ℕ → List Seat
@@ -105,13 +117,13 @@ leaving_at core n = slice_index_or core.leaving.items n []
 
 -- how many links a node has across units
 abbrev pub across_count : Core → ℕ → ℕ
-across_count core n = sum_by (λ (seat : Seat). others_in core seat.row) (seats_at core n)
+across_count core n = sum_by (λ (seat : Seat). others_in core seat.row seat.place) (seats_at core n)
 
 -- a seat as a stretch
 abbrev pub stretch_of : Core → Seat → Stretch
 stretch_of core seat = elim (crossing_at core seat.row) [
   | None ↦ record { way = Between; first = seat.first; count = 0 }
-  | Some crossing ↦ record { way = Inside crossing.via crossing.kind (barred_in core crossing.via); first = seat.first; count = others_in core seat.row }
+  | Some crossing ↦ record { way = Inside crossing.via crossing.kind (barred_in core crossing.via); first = seat.first; count = others_in core seat.row seat.place }
 ]
 
 unfoldable pub stretches_in : Core → ℕ → List Stretch
@@ -172,7 +184,7 @@ pub record IsSoundCore (core : Core) : Type 0 where
   pub squares : sum_by square_of (row_list core.rows) ≤ 20000000
   pub paired : length core.crossings.items ≡ length (row_list core.rows)
   pub crossings : All (IsCrossing core) core.crossings.items
-  pub whole : (w : ℕ) (crossing : Crossing) (row : List ℕ) → slice_get core.crossings.items w ≡ Some crossing → slice_get (row_list core.rows) w ≡ Some row → IsWholeIn crossing row
+  pub tables : (w : ℕ) (crossing : Crossing) (row : List ℕ) → slice_get core.crossings.items w ≡ Some crossing → slice_get (row_list core.rows) w ≡ Some row → IsTableOf crossing row
   pub units_last : core.first_unit ≤ length (closable_list core.nodes)
   pub apart : IsStrictlyIncreasing (map (λ (crossing : Crossing). crossing.via) core.crossings.items)
   pub passages : All (IsPassage core) core.passages.items

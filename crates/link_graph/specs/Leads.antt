@@ -7,7 +7,7 @@ use Rattle.link_graph.specs.declared.leads.Lead.{Lead}
 use Rattle.link_graph.specs.declared.leads.Lead.TheVariants.{Across, Passage}
 use Rattle.link_graph.specs.declared.parts.Core.{Core}
 use Rattle.link_graph.specs.declared.parts.Seat.{Seat}
-use Rattle.link_graph.specs.Cores.{crossing_at, link_across, links_across_from, others_in}
+use Rattle.link_graph.specs.Cores.{crossing_at, link_by, links_across_from, others_in}
 
 -- the link starts at the node
 abbrev pub starts_at : ℕ → Link → Bool
@@ -30,13 +30,13 @@ passages_out core n = filter (starts_at n) core.passages.items
 
 -- the link that is found out of a node
 abbrev pub lead_link : Core → ℕ → Lead → Link
-lead_link core n (Across crossing to) = link_across core crossing n to
+lead_link core n (Across way to) = link_by core way n to
 lead_link core n (Passage link) = link
 
 -- the links of each seat begin behind those of the seats before it, from this place on, and there are some
 abbrev pub AreSeats : Core → ℕ → List Seat → Type 0
 AreSeats core at [] = Unit {0}
-AreSeats core at (seat ∷ seats) = (seat.first ≡ at) × (0 < others_in core seat.row) × AreSeats core (at + others_in core seat.row) seats
+AreSeats core at (seat ∷ seats) = (seat.first ≡ at) × (0 < others_in core seat.row seat.place) × AreSeats core (at + others_in core seat.row seat.place) seats
 
 -- it is the last of the seats whose links begin at the place or before
 pub record IsLastSeat (seats : List Seat) (place : ℕ) (seat : Seat) : Type 0 where

@@ -1,5 +1,5 @@
 -- The links of a venue, in their order.
-use Rattle.std.specs.Prelude.{ℕ, ◌+◌, ◌==◌, pos, List, [], ◌∷◌, ◌++◌, map, filter, length, slice_get, Some, None, Bool, not, ◌&&◌, if◌then◌else◌}
+use Rattle.std.specs.Prelude.{ℕ, ◌+◌, ◌==◌, nat_lt, pos, List, [], ◌∷◌, ◌++◌, map, filter, length, slice_get, Some, None, Bool, not, ◌&&◌, if◌then◌else◌}
 use Rattle.std.specs.List.{flat_map, filter_map, enumerate_from}
 use Rattle.venue_types.specs.declared.features.Features.{Features}
 use Rattle.venue_types.specs.declared.features.RelationshipRow.{RelationshipRow}
@@ -9,11 +9,15 @@ use Rattle.venue_types.specs.declared.kind.Kind.TheVariants as kinds
 use Rattle.venue_types.specs.declared.link.Link.{Link}
 use Rattle.venue_types.specs.declared.point.Spot.{Spot}
 use Rattle.venue_types.specs.declared.settings.Extras.{Extras}
+use Rattle.venue_types.specs.declared.settings.Inside.{Inside}
+use Rattle.venue_types.specs.declared.settings.Inside.TheVariants as inside
 use Rattle.venue_types.specs.declared.settings.Settings.{Settings}
 use Rattle.imdf_access.specs.Categories.{is_walkable, unit_kind_of}
 use Rattle.venue_nodes.specs.Nodes.{nodes, place_of, carries}
 use Rattle.venue_nodes.specs.Members.{members}
 use Rattle.venue_nodes.specs.Unplaced.{Element, elements}
+use Rattle.plane_exact.specs.Seeing.{does_see}
+use Rattle.unit_sight.specs.Joined.{is_joined}
 use Rattle.link_graph.specs.Lengths.{length_between}
 
 -- where a node is
@@ -34,9 +38,23 @@ extra_of extras kinds.Ramp = extras.ramp
 extra_of extras kinds.Stairs = extras.stairs
 extra_of extras kinds.Traversal = extras.traversal
 
--- whether one walks straight from a member of the unit to another of its members: between any two
+-- how far off a wall a place stands at it: the greater of the two tolerances
+abbrev pub wall_tol : Settings → ℕ
+wall_tol settings = if nat_lt settings.border_tol settings.contain_tol then settings.contain_tol else settings.border_tol
+
+-- whether two nodes see each other in the unit
+abbrev pub sees : Features → Settings → UnitRow → ℕ → ℕ → Bool
+sees features settings u a b = does_see (spot_of features settings a) (spot_of features settings b) u.shape (wall_tol settings)
+
+-- whether two members of the unit are joined where ways go straight: any two; where they go round walls: those that see each other, and who
+-- sees nobody with its host alone
+abbrev pub joined_by : Inside → Features → Settings → UnitRow → ℕ → ℕ → Bool
+joined_by inside.Straight features settings u a b = not (a == b)
+joined_by inside.Clear features settings u a b = is_joined (sees features settings u) (way features settings) (members features settings u) a b
+
+-- whether one walks straight from a member of the unit to another of its members
 unfoldable pub are_joined : Features → Settings → UnitRow → ℕ → ℕ → Bool
-are_joined features settings u a b = not (a == b)
+are_joined features settings u a b = joined_by settings.inside features settings u a b
 
 -- the link from member to member of the unit with this closable number
 abbrev pub inside_link : Features → Settings → ℕ → UnitRow → ℕ → ℕ → Link

@@ -1,5 +1,5 @@
 -- What a graph keeps, as it is made of the features: the code's own machinery, which no public contract cites.
-use Rattle.std.specs.Prelude.{◌≡◌, ℕ, ◌+◌, ◌-◌, ◌<◌, ◌≤◌, ◌==◌, List, [], ◌∷◌, ◌++◌, map, flat_map, length, replicate, sum_by, slice_get, slice_index_or, All, Contains, Option, Some, None, Bool, false, not, nat_lt, if◌then◌else◌}
+use Rattle.std.specs.Prelude.{◌≡◌, ℕ, pos, ◌+◌, ◌-◌, ◌<◌, ◌≤◌, ◌==◌, List, [], ◌∷◌, ◌++◌, map, flat_map, length, replicate, sum_by, slice_get, slice_index_or, All, Contains, Option, Some, None, Bool, false, not, nat_lt, if◌then◌else◌}
 use Rattle.std.specs.List.{enumerate_from, filter_map}
 use Rattle.venue_types.specs.declared.feature_id.FeatureId.{FeatureId}
 use Rattle.venue_types.specs.declared.features.Features.{Features}
@@ -7,6 +7,10 @@ use Rattle.venue_types.specs.declared.features.Ref.{Ref}
 use Rattle.venue_types.specs.declared.features.UnitRow.{UnitRow}
 use Rattle.venue_types.specs.declared.link.Link.{Link}
 use Rattle.venue_types.specs.declared.link.Node.{Node}
+use Rattle.venue_types.specs.declared.point.Spot.{Spot}
+use Rattle.venue_nodes.specs.Figures.{judged_positions}
+use Rattle.venue_nodes.specs.Sound.{AreSound}
+use Rattle.plane_exact.specs.Figure.{AllClose}
 use Rattle.venue_types.specs.declared.settings.Settings.{Settings}
 use Rattle.imdf_access.specs.Categories.{is_walkable, unit_kind_of}
 use Rattle.imdf_access.specs.Parts.{end_facts}
@@ -15,7 +19,7 @@ use Rattle.venue_nodes.specs.declared.corner_nodes.CornerRange.{CornerRange}
 use Rattle.venue_nodes.specs.declared.members.Membership.{Membership}
 use Rattle.venue_nodes.specs.declared.nodes.Nodes.{Nodes}
 use Rattle.venue_nodes.specs.Crowds.{IsRoomy, square_of}
-use Rattle.venue_nodes.specs.Members.{places_where}
+use Rattle.venue_nodes.specs.Members.{members, places_where}
 use Rattle.venue_nodes.specs.Nodes.{NodeRow, amenity, anchor, opening, unit, corner, node_rows, carries}
 use Rattle.venue_nodes.specs.Rows.{AreRowsOf, row_list}
 use Rattle.venue_nodes.specs.Standing.{standings}
@@ -25,19 +29,31 @@ use Rattle.link_graph.specs.declared.parts.Crossing.{Crossing}
 use Rattle.link_graph.specs.declared.parts.Door.{Door}
 use Rattle.link_graph.specs.declared.parts.Seat.{Seat}
 use Rattle.link_graph.specs.declared.trails.Ground.{Ground}
+use Rattle.link_graph.specs.Cores.{IsTableOf}
 use Rattle.link_graph.specs.Facts.{end_of}
-use Rattle.link_graph.specs.Links.{first_unit, relationship_links}
+use Rattle.link_graph.specs.Links.{first_unit, are_joined, relationship_links}
+use Rattle.unit_sight.specs.Tables.{neighbours, table_of}
 
 -- ---- units
 
+-- whether the members at two places of these are joined in the unit
+abbrev pub joined_at : Features → Settings → UnitRow → List ℕ → ℕ → ℕ → Bool
+joined_at features settings u row i j = are_joined features settings u (slice_index_or row i 0) (slice_index_or row j 0)
+
+-- which members of the unit are joined, by their places; where people are carried nothing is asked, and any two are
+abbrev pub room_table : Features → Settings → UnitRow → List (List Bool)
+room_table features settings u =
+    table_of (length (members features settings u)) (if carries u then (λ i j. not (i == j)) else joined_at features settings u (members features settings u))
+
 -- the unit of this number among what can be closed, as one that is crossed
-abbrev pub crossing_of : ℕ → UnitRow → Crossing
-crossing_of via u = record { via = via; kind = unit_kind_of u.category; walked = not (carries u) }
+abbrev pub crossing_of : Features → Settings → ℕ → UnitRow → Crossing
+crossing_of features settings via u = record { via = via; kind = unit_kind_of u.category; walked = not (carries u); sights = room_table features settings u }
 
 -- the walkable ones of the units, which are numbered from here
-abbrev pub crossings_from : ℕ → List UnitRow → List Crossing
-crossings_from via [] = []
-crossings_from via (u ∷ us) = (if is_walkable u.category then crossing_of via u ∷ crossings_from (via + 1) us else crossings_from (via + 1) us)
+abbrev pub crossings_from : Features → Settings → ℕ → List UnitRow → List Crossing
+crossings_from features settings via [] = []
+crossings_from features settings via (u ∷ us) =
+    (if is_walkable u.category then crossing_of features settings via u ∷ crossings_from features settings (via + 1) us else crossings_from features settings (via + 1) us)
 
 -- behind so many that are no units, whether each unit is restricted
 abbrev pub barred_from : ℕ → List UnitRow → List Bool
@@ -77,6 +93,16 @@ pub record IsGround (ground : Ground) : Type 0 where
   pub nodes : AreNodes ground.features.now ground.settings.now ground.nodes.now
   pub close : AreClose ground.nodes.now
 
+-- where a node of this number is
+abbrev pub spot_at : List Node → ℕ → Spot
+spot_at list n = elim (slice_get list n) [ None ↦ record { x = pos 0; y = pos 0 } | Some node ↦ node.spot ]
+
+-- what rooms are looked through on: the nodes of the features of a sound folder whose positions are close
+pub record IsRoomGround (ground : Ground) : Type 0 where
+  pub nodes : AreNodes ground.features.now ground.settings.now ground.nodes.now
+  pub sound : AreSound ground.features.now
+  pub close : AllClose (judged_positions ground.features.now)
+
 -- the places that these references name
 abbrev pub places_on : (FeatureId → Option ℕ) → List Ref → List ℕ
 places_on find refs = filter_map (λ (r : Ref). find r.id) refs
@@ -87,26 +113,31 @@ passages_from features settings via = flat_map (relationship_links features sett
 
 -- ---- seats
 
--- how many links each member of this row has across its unit
-abbrev pub others_among : List Crossing → List (List ℕ) → ℕ → ℕ
-others_among crossings rows w = elim (slice_get crossings w) [ None ↦ 0 | Some crossing ↦ (if crossing.walked then length (slice_index_or rows w []) - 1 else 0) ]
+-- how many links the member at a place of this row has across its unit
+abbrev pub others_among : List Crossing → ℕ → ℕ → ℕ
+others_among crossings w i = elim (slice_get crossings w) [ None ↦ 0 | Some crossing ↦ (if crossing.walked then length (neighbours crossing.sights i) else 0) ]
 
 -- of where a node stands the rows in which it has links, with the place of the first of these
-abbrev pub seats_among : List Crossing → List (List ℕ) → ℕ → List Membership → List Seat
-seats_among crossings rows at [] = []
-seats_among crossings rows at (m ∷ ms) =
-    (if nat_lt 0 (others_among crossings rows m.unit) then record { row = m.unit; place = m.place; first = at } ∷ seats_among crossings rows (at + others_among crossings rows m.unit) ms
-    else seats_among crossings rows at ms)
+abbrev pub seats_among : List Crossing → ℕ → List Membership → List Seat
+seats_among crossings at [] = []
+seats_among crossings at (m ∷ ms) =
+    (if nat_lt 0 (others_among crossings m.unit m.place) then record { row = m.unit; place = m.place; first = at } ∷ seats_among crossings (at + others_among crossings m.unit m.place) ms
+    else seats_among crossings at ms)
 
 -- the rows have room, and all their squares too
 pub record AreRoomy (rows : List (List ℕ)) : Type 0 where
   pub each : All IsRoomy rows
   pub squares : sum_by square_of rows ≤ 20000000
 
+-- each table fits its row: it has a place for each member, and none of its rows has more true values
+pub record AreTables (crossings : List Crossing) (rows : List (List ℕ)) : Type 0 where
+  pub paired : length crossings ≡ length rows
+  pub each : (w : ℕ) (crossing : Crossing) (row : List ℕ) → slice_get crossings w ≡ Some crossing → slice_get rows w ≡ Some row → IsTableOf crossing row
+
 -- for each node its seats
 pub record AreSeats (crossings : List Crossing) (rows : List (List ℕ)) (count : ℕ) (seats : List (List Seat)) : Type 0 where
   pub many : length seats ≡ count
-  pub each : (n : ℕ) → n < count → slice_index_or seats n [] ≡ seats_among crossings rows 0 (standings n 0 rows)
+  pub each : (n : ℕ) → n < count → slice_index_or seats n [] ≡ seats_among crossings 0 (standings n 0 rows)
 
 -- for each node the numbers of the links that start there
 pub record AreLeaving (passages : List Link) (count : ℕ) (leaving : List (List ℕ)) : Type 0 where
@@ -119,7 +150,7 @@ pub record AreLeaving (passages : List Link) (count : ℕ) (leaving : List (List
 pub record IsMadeOf (features : Features) (settings : Settings) (core : Core) : Type 0 where
   pub nodes : AreNodes features settings core.nodes
   pub rows : AreRowsOf features settings core.rows
-  pub crossings : core.crossings.items ≡ crossings_from (first_unit features) features.units
+  pub crossings : core.crossings.items ≡ crossings_from features settings (first_unit features) features.units
   pub doors : core.doors.items ≡ map (door_of (find_closable core.nodes)) (node_rows features settings)
   pub passages : core.passages.items ≡ passages_from features settings (length features.openings)
   pub seats : AreSeats core.crossings.items (row_list core.rows) (length (node_list core.nodes)) core.seats.items

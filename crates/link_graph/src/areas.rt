@@ -1,6 +1,6 @@
 //! The links across units, by the members between which one walks, and those by relationships.
 
-ghost use Rattle.std.specs.Prelude.{◌≡◌, ◌<◌, ◌≤◌, ◌++◌, IsTrue, length, slice_get};
+ghost use Rattle.std.specs.Prelude.{◌≡◌, ◌<◌, ◌≤◌, ◌++◌, length, slice_get};
 ghost use Rattle.std.specs.List.{flat_map};
 ghost use Rattle.venue_nodes.specs.Views.{closable_list};
 ghost use Rattle.link_graph.specs.Areas.{IsArea, area_links, areas, inside_area, passages, unit_of, walked_of};
@@ -8,8 +8,9 @@ ghost use Rattle.link_graph.specs.Cores.{IsSoundCore};
 ghost use Rattle.link_graph.specs.Graphs.{network};
 
 use crate::graph::Graph;
-use crate::parts::{Core, Crossing};
+use crate::parts::{Core, Crossing, UnitWay};
 use crate::ways::across_link;
+use unit_sight::Sights;
 use venue_types::{Kind, Link};
 
 /// A unit that one may walk across.
@@ -21,8 +22,6 @@ pub struct Area {
     pub kind: Kind,
     /// Whether it is a restricted unit.
     pub restricted: bool,
-    /// Whether one walks straight between any two of its members.
-    pub whole: bool,
 }
 
 impl Graph {
@@ -36,18 +35,19 @@ impl Graph {
         self.core.rows.len()
     }
 
-    /// One of them, in file order, and the numbers of its members between which one walks, rising: none on a moving walkway.
+    /// One of them, in file order, the numbers of its members between which one walks, rising: none on a moving walkway; and which of these are
+    /// joined, by their places.
     #[tactic(auto, unfolding(crate::specs::Areas::areas))]
-    pub fn area(&self, w: u32) -> (Area, &[u32])
+    pub fn area(&self, w: u32) -> (Area, &[u32], &Sights)
         requires { w < length (areas self.now) }
-        ensures there { slice_get (areas self.now) w ≡ Some (result.0, result.1.now) }
-        ensures area { IsArea (network self.now) result.0 result.1.now }
-        ensures whole { IsTrue result.0.whole }
+        ensures there { slice_get (areas self.now) w ≡ Some (result.0, result.1.now, result.2.now) }
+        ensures area { IsArea (network self.now) result.0 result.1.now result.2.now }
     {
-        let crossing = self.core.crossings[w as usize];
+        let crossing = &self.core.crossings[w as usize];
         (
             unit(&self.core, crossing),
             walked(crossing, self.core.rows.row(w)),
+            &crossing.sights,
         )
     }
 
@@ -59,12 +59,11 @@ impl Graph {
         ensures link { result ≡ inside_area self.now area a b }
         ensures cost { result.cost ≤ 5700000 }
     {
-        let crossing = Crossing {
+        let unit = UnitWay {
             via: area.via,
             kind: area.kind,
-            walked: true,
         };
-        across_link(&self.core, crossing, a, b)
+        across_link(&self.core, unit, a, b)
     }
 
     /// The links by relationships, in their order.
@@ -83,22 +82,21 @@ impl Graph {
 
 // The unit of a row.
 #[tactic(auto, unfolding(crate::specs::Cores::barred_in))]
-fn unit(core: &Core, crossing: Crossing) -> Area
+fn unit(core: &Core, crossing: &Crossing) -> Area
     requires sound { IsSoundCore core.now }
-    requires within { crossing.via < length (closable_list core.now.nodes) }
-    ensures { result ≡ unit_of core.now crossing }
+    requires within { crossing.now.via < length (closable_list core.now.nodes) }
+    ensures { result ≡ unit_of core.now crossing.now }
 {
     Area {
         via: crossing.via,
         kind: crossing.kind,
         restricted: core.barred[crossing.via as usize],
-        whole: true,
     }
 }
 
 // The members of a row between which one walks.
-fn walked(crossing: Crossing, row: &[u32]) -> &[u32]
-    ensures { result.now ≡ walked_of crossing row.now }
+fn walked<'row>(crossing: &Crossing, row: &'row [u32]) -> &'row [u32]
+    ensures { result.now ≡ walked_of crossing.now row.now }
 {
     if crossing.walked { row } else { &[] }
 }

@@ -1,43 +1,63 @@
 //! The units of a venue, as a graph keeps them.
 
-ghost use Rattle.std.specs.Prelude.{◌≡◌, ◌+◌, ◌≤◌, IfOk, length};
-ghost use Rattle.link_graph.specs.Making.{crossing_of, crossings_from, barred_from};
+ghost use Rattle.std.specs.Prelude.{◌≡◌, ◌+◌, ◌≤◌, Contains, IfOk, length};
+ghost use Rattle.venue_nodes.specs.Members.{members};
+ghost use Rattle.venue_nodes.specs.Rows.{AreRowsOf, row_list};
+ghost use Rattle.link_graph.specs.Making.{AreRoomy, IsRoomGround, crossing_of, crossings_from, barred_from};
 
 use crate::parts::Crossing;
-use imdf_access::{unit_kind, walkable};
+use crate::trails::Ground;
+use imdf_access::unit_kind;
 use std::alloc::Global;
+use venue_nodes::Rows;
 use venue_types::{Kind, OutOfMemory, UnitRow};
 
-// The unit of this number among what can be closed.
-fn crossing(via: u32, unit: &UnitRow) -> Crossing
-    ensures { result ≡ crossing_of via unit.now }
-{
-    let kind = unit_kind(unit.category.as_str().as_bytes());
-    Crossing {
-        via,
-        kind,
-        walked: !matches!(kind, Kind::Movingwalkway),
+impl Ground<'_> {
+    // The unit of this number among what can be closed, whose members these are.
+    fn crossing(
+        &self,
+        alloc: Global,
+        via: u32,
+        unit: &UnitRow,
+        row: &[u32],
+    ) -> Result<Crossing, OutOfMemory>
+        requires ground { IsRoomGround self.now }
+        requires unit { Contains self.now.features.now.units unit.now }
+        requires row { row.now ≡ members self.now.features.now self.now.settings.now unit.now }
+        requires short { length row.now ≤ 4096 }
+        ensures { IfOk result (λ crossing. crossing ≡ crossing_of self.now.features.now self.now.settings.now via unit.now) }
+    {
+        let kind = unit_kind(unit.category.as_str().as_bytes());
+        Ok(Crossing {
+            via,
+            kind,
+            walked: !matches!(kind, Kind::Movingwalkway),
+            sights: self.sights(alloc, unit, row)?,
+        })
     }
-}
 
-/// The walkable ones of the units, the first of which has this number among what can be closed.
-pub(crate) fn crossings_of(
-    alloc: Global,
-    first: u32,
-    units: &[UnitRow],
-) -> Result<Vec<Crossing>, OutOfMemory>
-    requires { first + length units.now ≤ 400000 }
-    ensures { IfOk result (λ crossings. crossings.items ≡ crossings_from first units.now) }
-{
-    let mut crossings = Vec::new(alloc);
-    let mut via = first;
-    for unit in units {
-        if walkable(unit.category.as_str().as_bytes()) {
-            crossings.push(crossing(via, unit))?;
+    /// The walkable ones of the units, the first of which has this number among what can be closed, and whose rows of members these are.
+    pub(crate) fn crossings(
+        &self,
+        alloc: Global,
+        first: u32,
+        rows: &Rows,
+    ) -> Result<Vec<Crossing>, OutOfMemory>
+        requires ground { IsRoomGround self.now }
+        requires rows { AreRowsOf self.now.features.now self.now.settings.now rows.now }
+        requires roomy { AreRoomy (row_list rows.now) }
+        requires few { first + length self.now.features.now.units ≤ 400000 }
+        ensures { IfOk result (λ crossings. crossings.items ≡ crossings_from self.now.features.now self.now.settings.now first self.now.features.now.units) }
+    {
+        let mut crossings = Vec::new(alloc);
+        for w in 0..rows.len() {
+            let k = rows.unit_index(w);
+            if let Some(unit) = self.features.units.get(k as usize) {
+                crossings.push(self.crossing(alloc, first + k, unit, rows.row(w))?)?;
+            }
         }
-        via += 1;
+        Ok(crossings)
     }
-    Ok(crossings)
 }
 
 /// Whether each of the features that can be closed is a restricted unit: so many that are none, then these units.

@@ -13,7 +13,7 @@ ghost use Rattle.link_graph.specs.Cores.{IsSoundCore, network_in};
 ghost use Rattle.link_graph.specs.Making.{IsMadeOf};
 ghost use Rattle.link_graph.specs.Networks.{IsNetworkOf};
 
-use crate::crossings::{barred_of, crossings_of};
+use crate::crossings::barred_of;
 use crate::doors::doors_of;
 use crate::parts::Core;
 use crate::seats::seats_of;
@@ -42,7 +42,6 @@ fn made_of(
     spot_law();
     let units = features.units.as_slice();
     let first_unit = (features.openings.len() + features.relationships.len()) as u32;
-    let crossings = crossings_of(alloc, first_unit, units)?;
     let barred = barred_of(alloc, first_unit, units)?;
     let doors = doors_of(alloc, features, &nodes)?;
     let ground = Ground {
@@ -50,6 +49,7 @@ fn made_of(
         nodes: &nodes,
         settings,
     };
+    let crossings = ground.crossings(alloc, first_unit, &rows)?;
     let passages = ground.passages(alloc)?;
     let leaving = leaving_of(alloc, nodes.len(), &passages)?;
     let seats = seats_of(alloc, nodes.len(), &rows, &crossings)?;

@@ -1,19 +1,22 @@
 //! What holds of the links of a venue.
 
-ghost use Rattle.std.specs.Prelude.{◌≡◌, ◌≢◌, ℕ, ◌≤◌, ◌<◌, ◌↔◌, List, length, Contains, IsTrue};
+ghost use Rattle.std.specs.Prelude.{◌≡◌, ◌≢◌, ℕ, ◌≤◌, ◌<◌, ◌↔◌, List, length, Contains, IsTrue, true};
 ghost use Rattle.venue_types.specs.declared.feature_id.FeatureId.{FeatureId};
 ghost use Rattle.venue_types.specs.declared.features.Features.{Features};
 ghost use Rattle.venue_types.specs.declared.features.UnitRow.{UnitRow};
 ghost use Rattle.venue_types.specs.declared.link.Link.{Link};
 ghost use Rattle.venue_types.specs.declared.point.Spot.{Spot};
 ghost use Rattle.venue_types.specs.declared.settings.Profile.{Profile};
+ghost use Rattle.venue_types.specs.declared.settings.Inside.TheVariants.{Straight};
 ghost use Rattle.venue_types.specs.declared.settings.Settings.{Settings};
 ghost use Rattle.plane_exact.specs.Length.{IsLength};
 ghost use Rattle.plane_exact.specs.Plane.{IsCloseDoubled};
+ghost use Rattle.unit_sight.specs.Joined.{are_blind};
+ghost use Rattle.venue_nodes.specs.Members.{members};
 ghost use Rattle.venue_nodes.specs.Nodes.{nodes, closables};
 ghost use Rattle.link_graph.specs.Lengths.{length_between};
 ghost use Rattle.link_graph.specs.Graphs.{network};
-ghost use Rattle.link_graph.specs.Links.{are_joined, links};
+ghost use Rattle.link_graph.specs.Links.{are_joined, links, sees};
 ghost use Rattle.link_graph.specs.Networks.{IsNetworkOf};
 ghost use Rattle.link_graph.specs.Inside.{GoesInside};
 ghost use Rattle.link_graph.specs.Usable.{IsUsable, IsUnitBy, IsWhole, HasWayAcross};
@@ -41,9 +44,11 @@ pub fn inside_law()
     ensures { (features : Features) (settings : Settings) (link : Link) (u : UnitRow) → IsUnitBy features link.via u → Contains (links features settings) link ↔ GoesInside features settings u link }
 {}
 
-/// Any two members of a unit are joined today, since no wall stands inside one.
+/// Any two members of a unit are joined where ways go straight; and where they go round walls, if all see all others, or nobody sees another.
 pub fn whole_law()
-    ensures { (features : Features) (settings : Settings) (u : UnitRow) → IsWhole features settings u }
+    ensures straight { (features : Features) (settings : Settings) (u : UnitRow) → settings.inside ≡ Straight → IsWhole features settings u }
+    ensures seeing { (features : Features) (settings : Settings) (u : UnitRow) → ((c d : ℕ) → Contains (members features settings u) c → Contains (members features settings u) d → c ≢ d → sees features settings u c d ≡ true) → IsWhole features settings u }
+    ensures blind { (features : Features) (settings : Settings) (u : UnitRow) → are_blind (sees features settings u) (members features settings u) ≡ true → IsWhole features settings u }
 {}
 
 /// Where two usable links of one unit lead from a to b and from b to c, and a and c are joined in it, a usable link of the unit leads from a to c and

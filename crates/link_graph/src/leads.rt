@@ -1,6 +1,7 @@
 //! Which link stands at a place among those out of a node.
 
-ghost use Rattle.std.specs.Prelude.{◌≡◌, ◌<◌, MatchOption, Contains, Some, length, slice_get};
+ghost use Rattle.std.specs.Prelude.{◌≡◌, ◌<◌, ℕ, List, MatchOption, Contains, Some, length, slice_get};
+ghost use Rattle.venue_nodes.specs.Rows.{row_list};
 ghost use Rattle.std.specs.List.Sorted.{IsNonDecreasingBy};
 ghost use Rattle.link_graph.specs.declared.parts.Crossing.{Crossing as ACrossing};
 ghost use Rattle.link_graph.specs.declared.parts.Seat.{Seat as ASeat};
@@ -8,13 +9,13 @@ ghost use Rattle.link_graph.specs.Cores.{IsSoundCore, link_across, network_in, o
 ghost use Rattle.link_graph.specs.Leads.{HasNoSeat, IsLastSeat, lead_link, links_of_row, passages_out};
 ghost use Rattle.link_graph.specs.Networks.{links_out};
 
-use crate::parts::{Core, Crossing, Seat};
+use crate::parts::{Core, Seat, UnitWay};
 use venue_types::Link;
 
 /// A link out of a node.
 pub(crate) enum Lead {
     /// Across a unit to a node. Its length is not computed.
-    Across { crossing: Crossing, to: u32 },
+    Across { unit: UnitWay, to: u32 },
     /// By a relationship.
     Passage(Link),
 }
@@ -32,7 +33,7 @@ pub(crate) fn lead_at(core: &Core, n: u32, place: u32) -> Lead
         None => Lead::Passage(passage(core, n, place)),
         Some(seat) => {
             let behind = place - seat.first;
-            let count = others(core, seat.row);
+            let count = others(core, seat.row, seat.place);
             if behind < count {
                 across(core, n, &seat, behind)
             } else {
@@ -42,13 +43,14 @@ pub(crate) fn lead_at(core: &Core, n: u32, place: u32) -> Lead
     }
 }
 
-/// How many links each member of a row has across its unit.
-pub(crate) fn others(core: &Core, row: u32) -> u32
+/// How many links the member at a place of a row has across its unit.
+pub(crate) fn others(core: &Core, row: u32, place: u32) -> u32
     requires sound { IsSoundCore core.now }
-    ensures { result ≡ others_in core.now row }
+    requires place { (members : List ℕ) → slice_get (row_list core.now.rows) row ≡ Some members → place < length members }
+    ensures { result ≡ others_in core.now row place }
 {
     match core.crossings.get(row as usize) {
-        Some(crossing) if crossing.walked => (core.rows.row(row).len() as u32).saturating_sub(1),
+        Some(crossing) if crossing.walked => crossing.sights.count(place),
         _ => 0,
     }
 }
@@ -62,7 +64,7 @@ pub(crate) fn across_end(core: &Core, n: u32) -> u32
 {
     match core.seats[n as usize].as_slice().last() {
         None => 0,
-        Some(seat) => seat.first + others(core, seat.row),
+        Some(seat) => seat.first + others(core, seat.row, seat.place),
     }
 }
 
@@ -83,11 +85,11 @@ fn last_seat(seats: &[Seat], place: u32) -> Option<Seat>
 fn across(core: &Core, n: u32, seat: &Seat, k: u32) -> Lead
     requires sound { IsSoundCore core.now }
     requires seat { Contains (seats_at core.now n) seat.now }
-    requires k { k < others_in core.now seat.now.row }
+    requires k { k < others_in core.now seat.now.row seat.now.place }
     ensures { slice_get (links_of_row core.now n seat.now.row) k ≡ Some (lead_link core.now n result) }
 {
     Lead::Across {
-        crossing: core.crossings[seat.row as usize],
+        unit: core.crossings[seat.row as usize].way(),
         to: end_across(core, n, seat, k),
     }
 }
@@ -96,12 +98,14 @@ fn across(core: &Core, n: u32, seat: &Seat, k: u32) -> Lead
 pub(crate) fn end_across(core: &Core, n: u32, seat: &Seat, k: u32) -> u32
     requires sound { IsSoundCore core.now }
     requires seat { Contains (seats_at core.now n) seat.now }
-    requires k { k < others_in core.now seat.now.row }
+    requires k { k < others_in core.now seat.now.row seat.now.place }
     ensures { (crossing : ACrossing) → slice_get core.now.crossings.items seat.now.row ≡ Some crossing → slice_get (links_of_row core.now n seat.now.row) k ≡ Some (link_across core.now crossing n result) }
 {
-    let row = core.rows.row(seat.row);
-    let at = if k < seat.place { k } else { k + 1 };
-    row[at as usize]
+    let crossing = &core.crossings[seat.row as usize];
+    match crossing.sights.nth(seat.place, k) {
+        Some(place) => core.rows.row(seat.row)[place as usize],
+        None => n,
+    }
 }
 
 /// One of the links by relationships.

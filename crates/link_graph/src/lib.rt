@@ -20,6 +20,7 @@ mod new_links;
 mod out_links;
 mod outlook;
 mod parts;
+mod room_sights;
 mod seats;
 mod stretches;
 mod trails;

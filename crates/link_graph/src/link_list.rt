@@ -1,10 +1,11 @@
 //! All links, in their order.
 
-ghost use Rattle.std.specs.Prelude.{◌≡◌, ◌<◌, ◌≤◌, ◌*◌, ◌-◌, ◌++◌, if◌then◌else◌, IfOk, OnOk, All, Contains, filter, length, map, slice_index_or};
+ghost use Rattle.std.specs.Prelude.{◌≡◌, ◌<◌, ◌++◌, ℕ, List, IfOk, OnOk, Some, length, slice_get};
 ghost use Rattle.venue_nodes.specs.Rows.{row_list};
-ghost use Rattle.venue_nodes.specs.Views.{node_list};
-ghost use Rattle.link_graph.specs.Cores.{IsSoundCore, IsWholeIn, link_across, links_across, links_across_from, links_in};
+ghost use Rattle.link_graph.specs.declared.parts.Crossing.{Crossing as ACrossing};
+ghost use Rattle.link_graph.specs.Cores.{IsRow, IsSoundCore, IsTableOf, links_across, links_across_from, links_in};
 
+use crate::leads::others;
 use crate::parts::{Core, Crossing};
 use crate::ways::across_link;
 use std::alloc::Global;
@@ -17,55 +18,46 @@ pub(crate) fn listed(alloc: Global, core: &Core) -> Result<List<Link>, OutOfMemo
 {
     let mut links = Vec::new(alloc);
     for w in 0..core.rows.len() {
-        add_across(
-            core,
-            core.crossings[w as usize],
-            core.rows.row(w),
-            &mut links,
-        )?;
+        add_across(core, w, &mut links)?;
     }
     links.extend_from_slice(&core.passages)?;
     Ok(List::from_vec(links))
 }
 
-// Adds the links across the unit of a row in which any two members are joined.
-fn add_across(
-    core: &Core,
-    crossing: Crossing,
-    row: &[u32],
-    links: &mut Vec<Link>,
-) -> Result<(), OutOfMemory>
+// Adds the links across the unit of a row.
+fn add_across(core: &Core, w: u32, links: &mut Vec<Link>) -> Result<(), OutOfMemory>
     requires sound { IsSoundCore core.now }
-    requires within { All (λ m. m < length (node_list core.now.nodes)) row.now }
-    requires whole { IsWholeIn crossing row.now }
-    ensures { OnOk result (links.new.items ≡ links.old.items ++ links_across core.now crossing row.now) }
+    requires within { w < length (row_list core.now.rows) }
+    ensures { (crossing : ACrossing) (row : List ℕ) → slice_get core.now.crossings.items w ≡ Some crossing → slice_get (row_list core.now.rows) w ≡ Some row → OnOk result (links.new.items ≡ links.old.items ++ links_across core.now crossing row) }
 {
+    let crossing = &core.crossings[w as usize];
+    let row = core.rows.row(w);
     if crossing.walked {
-        for a in row {
-            add_from(core, crossing, row, *a, links)?;
+        for i in 0..row.len() {
+            add_from(core, crossing, row, i as u32, links)?;
         }
     }
     Ok(())
 }
 
-// Adds the links from a member of such a row to its others.
+// Adds the links from the member at a place of a row to those with which it is joined.
 fn add_from(
     core: &Core,
-    crossing: Crossing,
+    crossing: &Crossing,
     row: &[u32],
-    a: u32,
+    i: u32,
     links: &mut Vec<Link>,
 ) -> Result<(), OutOfMemory>
     requires sound { IsSoundCore core.now }
-    requires from { a < length (node_list core.now.nodes) }
-    requires within { All (λ m. m < length (node_list core.now.nodes)) row.now }
-    requires start { Contains row.now a }
-    requires whole { IsWholeIn crossing row.now }
-    ensures { OnOk result (links.new.items ≡ links.old.items ++ links_across_from core.now crossing row.now a) }
+    requires row { IsRow core.now row.now }
+    requires table { IsTableOf crossing.now row.now }
+    requires place { i < length row.now }
+    ensures { (a : ℕ) → slice_get row.now i ≡ Some a → OnOk result (links.new.items ≡ links.old.items ++ links_across_from core.now crossing.now row.now a) }
 {
-    for b in row {
-        if *b != a {
-            links.push(across_link(core, crossing, a, *b))?;
+    let a = row[i as usize];
+    for (j, b) in row.iter().enumerate() {
+        if crossing.sights.joins(i, j as u32) {
+            links.push(across_link(core, crossing.way(), a, *b))?;
         }
     }
     Ok(())
@@ -78,19 +70,20 @@ pub(crate) fn link_count(core: &Core) -> usize
 {
     let mut count = 0;
     for w in 0..core.rows.len() {
-        count += across_count(core.crossings[w as usize], core.rows.row(w).len());
+        count += across_count(core, w);
     }
     count + core.passages.len()
 }
 
-// How many links there are across a unit of so many members: one for each pair of them, in either order.
-fn across_count(crossing: Crossing, members: usize) -> usize
-    requires { members ≤ 4096 }
-    ensures { result ≡ (if crossing.walked then members * (members - 1) else 0) }
+// How many links there are across the unit of a row.
+fn across_count(core: &Core, w: u32) -> usize
+    requires sound { IsSoundCore core.now }
+    requires within { w < length (row_list core.now.rows) }
+    ensures { (crossing : ACrossing) (row : List ℕ) → slice_get core.now.crossings.items w ≡ Some crossing → slice_get (row_list core.now.rows) w ≡ Some row → result ≡ length (links_across core.now crossing row) }
 {
-    if crossing.walked {
-        members * members.saturating_sub(1)
-    } else {
-        0
+    let mut count = 0;
+    for i in 0..core.rows.row(w).len() {
+        count += others(core, w, i as u32) as usize;
     }
+    count
 }

@@ -1,15 +1,15 @@
 //! The links of a stretch that lead to what isn't known from another node, one after another.
 
-ghost use Rattle.std.specs.Prelude.{◌≡◌, ◌<◌, ◌^◌, IfSome, None, Some, Contains, length, slice_get};
+ghost use Rattle.std.specs.Prelude.{◌≡◌, ◌<◌, ◌^◌, ℕ, IfSome, IsSome, None, Some, Contains, length, slice_get};
 ghost use Rattle.venue_types.specs.declared.link.Link.{Link as ALink};
 ghost use Rattle.link_graph.specs.declared.stretches.Stretch.{Stretch as AStretch};
 ghost use Rattle.link_graph.specs.Cores.{IsSoundCore, network_in, seats_at, stretch_of};
 ghost use Rattle.link_graph.specs.Detours.{AreKnown, HasLinkAcross, IsNewIn};
 ghost use Rattle.link_graph.specs.Lower.{lower_of};
 ghost use Rattle.link_graph.specs.Networks.{links_out};
-ghost use Rattle.link_graph.specs.Rests.{rest_of};
+ghost use Rattle.link_graph.specs.Rests.{rest_of, HasSeatIn, IsPlaceOf};
 
-use crate::leads::{across_end, end_across, others, passage};
+use crate::leads::{across_end, passage};
 use crate::out_links::{lower_across, lower_passage};
 use crate::parts::{Core, Seat};
 use venue_types::Link;
@@ -67,7 +67,7 @@ pub(crate) fn lower_new(
     match core.seats[n as usize].get(k as usize) {
         Some(seat) => lower_across(
             core,
-            core.crossings[seat.row as usize],
+            core.crossings[seat.row as usize].way(),
             n,
             found.to,
             base,
@@ -81,7 +81,7 @@ pub(crate) fn lower_new(
     }
 }
 
-// The first across the unit of a seat. Any two of its members are joined, so all are known from each.
+// The first across the unit of a seat. Where any two of its members are joined all are known from each.
 fn next_across(core: &Core, n: u32, seat: &Seat, known: Option<u32>, place: u32) -> Option<NewLink>
     requires sound { IsSoundCore core.now }
     requires seat { Contains (seats_at core.now n) seat.now }
@@ -89,17 +89,34 @@ fn next_across(core: &Core, n: u32, seat: &Seat, known: Option<u32>, place: u32)
     ensures told { IfSome result (IsNewIn (network_in core.now) n (stretch_of core.now seat.now) place) }
     ensures passed { AreKnown (network_in core.now) n (stretch_of core.now seat.now) known place result }
 {
-    if known.is_some() {
+    let crossing = &core.crossings[seat.row as usize];
+    if known.is_some() && crossing.sights.is_whole() {
         return None;
     }
-    let at = place.max(seat.first);
-    if at - seat.first >= others(core, seat.row) {
-        return None;
-    }
+    let from = crossing
+        .sights
+        .nth(seat.place, place.max(seat.first) - seat.first)?;
+    let a = known_place(core, seat.row, known);
+    let found = crossing.sights.next(seat.place, a, from)?;
     Some(NewLink {
-        place: at,
-        to: end_across(core, n, seat, at - seat.first),
+        place: seat.first + crossing.sights.rank(seat.place, found),
+        to: core.rows.row(seat.row)[found as usize],
     })
+}
+
+// Where a node stands in a row in which it has links, if one is told.
+fn known_place(core: &Core, row: u32, known: Option<u32>) -> Option<u32>
+    requires sound { IsSoundCore core.now }
+    requires known { IfSome known (HasSeatIn core.now row) }
+    ensures none { known ≡ None → result ≡ None }
+    ensures some { (a : ℕ) → known ≡ Some a → IfSome result (IsPlaceOf core.now row a) × IsSome result }
+{
+    let a = known?;
+    let seats = core.seats[a as usize].as_slice();
+    seats
+        .iter()
+        .find(|seat| seat.row == row)
+        .map(|seat| seat.place)
 }
 
 // The first by a relationship. None is known from another node.

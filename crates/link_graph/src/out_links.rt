@@ -2,12 +2,12 @@
 
 ghost use Rattle.std.specs.Prelude.{◌≡◌, ◌<◌, ◌^◌, Some, length, slice_get};
 ghost use Rattle.venue_nodes.specs.Views.{node_list};
-ghost use Rattle.link_graph.specs.Cores.{IsSoundCore, link_across, network_in};
+ghost use Rattle.link_graph.specs.Cores.{IsSoundCore, link_by, network_in};
 ghost use Rattle.link_graph.specs.Leads.{lower_than};
 ghost use Rattle.link_graph.specs.Networks.{links_out};
 
 use crate::leads::{Lead, across_end, lead_at};
-use crate::parts::{Core, Crossing};
+use crate::parts::{Core, UnitWay};
 use crate::ways::{across_link, is_within, room_below};
 use venue_types::Link;
 
@@ -30,7 +30,7 @@ pub(crate) fn out_link(core: &Core, n: u32, place: u32) -> Link
     ensures { slice_get (links_out (network_in core.now) n) place ≡ Some result }
 {
     match lead_at(core, n, place) {
-        Lead::Across { crossing, to } => across_link(core, crossing, n, to),
+        Lead::Across { unit, to } => across_link(core, unit, n, to),
         Lead::Passage(link) => link,
     }
 }
@@ -38,7 +38,7 @@ pub(crate) fn out_link(core: &Core, n: u32, place: u32) -> Link
 // The link across a unit, if it leads to its end below the entry. Only then is its length computed.
 pub(crate) fn lower_across(
     core: &Core,
-    crossing: Crossing,
+    unit: UnitWay,
     a: u32,
     b: u32,
     base: u64,
@@ -47,11 +47,11 @@ pub(crate) fn lower_across(
     requires sound { IsSoundCore core.now }
     requires from { a < length (node_list core.now.nodes) }
     requires to { b < length (node_list core.now.nodes) }
-    ensures { result ≡ lower_than entry base (link_across core.now crossing a b) }
+    ensures { result ≡ lower_than entry base (link_by core.now unit a b) }
 {
     let room = room_below(base, entry)?;
     if is_within(core, a, b, room) {
-        Some(across_link(core, crossing, a, b))
+        Some(across_link(core, unit, a, b))
     } else {
         None
     }

@@ -1,6 +1,7 @@
 //! Into which stretches the links out of a node fall.
 
-ghost use Rattle.std.specs.Prelude.{◌≡◌, ◌<◌, Some, Contains, length, slice_get};
+ghost use Rattle.std.specs.Prelude.{◌≡◌, ◌<◌, ℕ, List, Some, Contains, length, slice_get};
+ghost use Rattle.venue_nodes.specs.Rows.{row_list};
 ghost use Rattle.link_graph.specs.Cores.{IsSoundCore, network_in, seats_at, stretch_of, stretches_in};
 
 use crate::leads::{across_end, others};
@@ -39,9 +40,10 @@ pub(crate) fn stretch_at(core: &Core, n: u32, k: u32) -> Stretch
 fn seat_stretch(core: &Core, seat: &Seat) -> Stretch
     requires sound { IsSoundCore core.now }
     requires row { seat.now.row < length core.now.crossings.items }
+    requires place { (members : List ℕ) → slice_get (row_list core.now.rows) seat.now.row ≡ Some members → seat.now.place < length members }
     ensures { result ≡ stretch_of core.now seat.now }
 {
-    let crossing = core.crossings[seat.row as usize];
+    let crossing = &core.crossings[seat.row as usize];
     Stretch {
         way: Way::Inside {
             via: crossing.via,
@@ -49,6 +51,6 @@ fn seat_stretch(core: &Core, seat: &Seat) -> Stretch
             restricted: core.barred[crossing.via as usize],
         },
         first: seat.first,
-        count: others(core, seat.row),
+        count: others(core, seat.row, seat.place),
     }
 }

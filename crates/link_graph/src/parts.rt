@@ -2,16 +2,42 @@
 
 use imdf_access::EndFacts;
 use venue_nodes::{Nodes, Rows};
+use unit_sight::Sights;
 use venue_types::{Kind, Link, List};
 
-/// A unit that links go across.
+/// By what links across a unit go.
 #[derive(Clone, Copy, Debug, PartialEq, Eq)]
+pub(crate) struct UnitWay {
+    /// The unit's number among what can be closed.
+    pub via: u32,
+    pub kind: Kind,
+}
+
+/// A unit that links go across.
+#[derive(Drop)]
 pub(crate) struct Crossing {
     /// Its number among what can be closed.
     pub via: u32,
     pub kind: Kind,
     /// Whether one walks through it, which nobody does on a moving walkway.
     pub walked: bool,
+    /// Which of its members are joined, by their places in its row.
+    pub sights: Sights,
+}
+
+impl Crossing {
+    ghost use Rattle.std.specs.Prelude.{◌≡◌};
+    ghost use Rattle.link_graph.specs.Cores.{way_of};
+
+    /// By what one crosses it.
+    pub(crate) fn way(&self) -> UnitWay
+        ensures { result ≡ way_of self.now }
+    {
+        UnitWay {
+            via: self.via,
+            kind: self.kind,
+        }
+    }
 }
 
 /// What is known of a node.

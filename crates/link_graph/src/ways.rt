@@ -2,9 +2,9 @@
 
 ghost use Rattle.std.specs.Prelude.{◌≡◌, ℕ, ◌+◌, ◌<◌, ◌≤◌, ◌↔◌, IsTrue, MatchOption, length};
 ghost use Rattle.venue_nodes.specs.Views.{node_list};
-ghost use Rattle.link_graph.specs.Cores.{IsSoundCore, link_across, spot_in, way_in};
+ghost use Rattle.link_graph.specs.Cores.{IsSoundCore, link_by, spot_in, way_in};
 
-use crate::parts::{Core, Crossing};
+use crate::parts::{Core, UnitWay};
 use plane_exact::{length_cm, spans};
 use venue_types::{Link, Spot};
 
@@ -12,18 +12,18 @@ use venue_types::{Link, Spot};
 const LONGEST: u32 = 5_700_000;
 
 /// The link across a unit from node to node.
-pub(crate) fn across_link(core: &Core, crossing: Crossing, a: u32, b: u32) -> Link
+pub(crate) fn across_link(core: &Core, unit: UnitWay, a: u32, b: u32) -> Link
     requires sound { IsSoundCore core.now }
     requires from { a < length (node_list core.now.nodes) }
     requires to { b < length (node_list core.now.nodes) }
-    ensures { result ≡ link_across core.now crossing a b }
+    ensures { result ≡ link_by core.now unit a b }
 {
     Link {
         from: a,
         to: b,
-        via: crossing.via,
+        via: unit.via,
         cost: way(core, a, b),
-        kind: crossing.kind,
+        kind: unit.kind,
     }
 }
 

@@ -1,12 +1,12 @@
 //! Which places of a room are joined.
 
-ghost use Rattle.std.specs.Prelude.{◌≡◌, ℕ, ◌<◌, ◌≤◌, ◌++◌, ◌↔◌, All, length, map, filter, nat_lt, slice_get, IfOk, IfSome, IsTrue, false, get_or};
+ghost use Rattle.std.specs.Prelude.{◌≡◌, ◌==◌, ℕ, ◌<◌, ◌≤◌, ◌++◌, ◌↔◌, not, All, length, map, filter, nat_lt, slice_get, IfOk, IfSome, IsTrue, false, get_or};
 ghost use Rattle.plane_exact.specs.Plane.{IsInRange};
 ghost use Rattle.plane_exact.specs.Figure.{AllNearby, vertices};
 ghost use Rattle.plane_exact.specs.Scaled.{times, scaled};
 ghost use Rattle.plane_exact.specs.Sight.{at_spot};
 ghost use Rattle.unit_sight.specs.Rooms.{AreLengths, joined_places};
-ghost use Rattle.unit_sight.specs.Tables.{joins, neighbours, new_neighbours, IsWhole};
+ghost use Rattle.unit_sight.specs.Tables.{joins, neighbours, new_neighbours, table_of, IsWhole};
 
 use crate::bits::Bits;
 use crate::finding::joined_bits;
@@ -59,6 +59,14 @@ impl Sights {
     {
         let bits = joined_bits(alloc, shape, spots, t, kx, ky)?;
         Sights::of_bits(alloc, bits)
+    }
+
+    /// Any two of so many places are joined: at most 4,096.
+    pub fn whole(size: u32) -> Sights
+        requires { size ≤ 4096 }
+        ensures { result ≡ table_of size (λ i j. not (i == j)) }
+    {
+        Sights { size, rows: None }
     }
 
     /// The places that a table of truth values joins.
