@@ -8,7 +8,7 @@ use Rattle.link_graph.specs.declared.areas.Area.{Area}
 use Rattle.link_graph.specs.declared.graph.Graph.{Graph}
 use Rattle.link_graph.specs.Areas.{IsWholeAcross, area_links, inside_area, joined_across}
 use Rattle.link_graph.specs.Graphs.{network}
-use Rattle.link_graph.specs.Cores.{other_than}
+use Rattle.route_answers.specs.Passing.{other_than}
 use Rattle.link_graph.specs.Networks.{Network}
 use Rattle.link_graph.proofs.AreaLinks.{whole_links}
 use Rattle.route_certificate.specs.declared.table.TableLink.{TableLink}

@@ -54,41 +54,41 @@ crossed_count law graph profile area members whole barred crossed rise =
     ap (λ (rows : List TableLink). length rows) (crossed_rows law graph profile area members whole barred crossed)
     ∙ pair_count (pair_row graph area) passed (IsStrictlyIncreasing-filter (passes_node (network graph) profile) members rise)
 
-pub areas_counted : (graph : Graph) (profile : Profile) (w : ℕ) (area : Area × List ℕ) (n m sum : ℕ) → slice_get (areas graph) w ≡ Some area → n ≡ length (rows_of (network graph) profile (flat_map (area_links graph) (take w (areas graph))))
+pub areas_counted : (graph : Graph) (profile : Profile) (w : ℕ) (area : Area × List ℕ × List (List Bool) × List (List Bool)) (n m sum : ℕ) → slice_get (areas graph) w ≡ Some area → n ≡ length (rows_of (network graph) profile (flat_map (area_links graph) (take w (areas graph))))
     → m ≡ length (rows_of (network graph) profile (area_links graph area)) → sum ≡ n + m → sum ≡ length (rows_of (network graph) profile (flat_map (area_links graph) (take (w + 1) (areas graph))))
 areas_counted graph profile w area n m sum there before one added =
     let given = network graph in
-    let f : Area × List ℕ → List Link = area_links graph in
+    let f : Area × List ℕ × List (List Bool) → List Link = area_links graph in
     let front : List Link = flat_map f (take w (areas graph)) in
     let joined : flat_map f (take (w + 1) (areas graph)) ≡ front ++ f area =
     joined_more f (areas graph) w area (slice_get_within (areas graph) w area there)
-    ∙ ap (λ (x : Area × List ℕ). front ++ f x) (get_or_from_slice_get (areas graph) w area area there) in
+    ∙ ap (λ (x : Area × List ℕ × List (List Bool) × List (List Bool)). front ++ f x) (get_or_from_slice_get (areas graph) w area area there) in
     let all : length (rows_of given profile (flat_map f (take (w + 1) (areas graph)))) ≡ length (rows_of given profile front ++ rows_of given profile (f area)) =
     ap (λ (links : List Link). length (rows_of given profile links)) joined ∙ ap (λ (rows : List TableLink). length rows) (rows_joined given profile front (f area)) in
     let both = length-append (rows_of given profile front) (rows_of given profile (f area)) in
     omega (arith, all, both, before, one, added)
 
 -- the links of an area and of those before it are no more than all
-pub areas_few : (graph : Graph) (profile : Profile) (w : ℕ) (area : Area × List ℕ) (n m : ℕ) → slice_get (areas graph) w ≡ Some area → n ≡ length (rows_of (network graph) profile (flat_map (area_links graph) (take w (areas graph))))
+pub areas_few : (graph : Graph) (profile : Profile) (w : ℕ) (area : Area × List ℕ × List (List Bool) × List (List Bool)) (n m : ℕ) → slice_get (areas graph) w ≡ Some area → n ≡ length (rows_of (network graph) profile (flat_map (area_links graph) (take w (areas graph))))
     → m ≡ length (rows_of (network graph) profile (area_links graph area)) → (network graph).links ≡ flat_map (area_links graph) (areas graph) ++ passages graph → n + m ≤ length (network graph).links
 areas_few graph profile w area n m there before one law =
     let given = network graph in
-    let f : Area × List ℕ → List Link = area_links graph in
+    let f : Area × List ℕ × List (List Bool) → List Link = area_links graph in
     let front : List Link = flat_map f (take w (areas graph)) in
     let some = rows_few given profile front in
     let more = rows_few given profile (f area) in
-    let piece : length (f (get_or (areas graph) w area)) ≡ length (f area) = ap (λ (x : Area × List ℕ). length (f x)) (get_or_from_slice_get (areas graph) w area area there) in
+    let piece : length (f (get_or (areas graph) w area)) ≡ length (f area) = ap (λ (x : Area × List ℕ × List (List Bool) × List (List Bool)). length (f x)) (get_or_from_slice_get (areas graph) w area area there) in
     let within = length-flat_map-take f (areas graph) w area (slice_get_within (areas graph) w area there) in
     let whole : length given.links ≡ length (flat_map f (areas graph) ++ passages graph) = ap (λ (links : List Link). length links) law in
     let both = length-append (flat_map f (areas graph)) (passages graph) in
     omega (arith, some, more, piece, within, whole, both, before, one)
 
 -- the same, told of the area that stands in the list
-pub told_count : (graph : Graph) (profile : Profile) (w : ℕ) (area : Area) (members : List ℕ) (pair : Area × List ℕ) (n : ℕ) → slice_get (areas graph) w ≡ Some (area, members) → slice_get (areas graph) w ≡ Some pair
+pub told_count : (graph : Graph) (profile : Profile) (w : ℕ) (area : Area) (members : List ℕ) (pair : Area × List ℕ × List (List Bool) × List (List Bool)) (n : ℕ) → slice_get (areas graph) w ≡ Some (area, members) → slice_get (areas graph) w ≡ Some pair
     → n ≡ length (rows_of (network graph) profile (area_links graph (area, members))) → n ≡ length (rows_of (network graph) profile (area_links graph pair))
 told_count graph profile w area members pair n here there is =
     let same : (area, members) ≡ pair = same_Some (area, members) pair (sym here ∙ there) in
-    is ∙ ap (λ (p : Area × List ℕ). length (rows_of (network graph) profile (area_links graph p))) same
+    is ∙ ap (λ (p : Area × List ℕ × List (List Bool) × List (List Bool)). length (rows_of (network graph) profile (area_links graph p))) same
 
 -- ---- of all
 

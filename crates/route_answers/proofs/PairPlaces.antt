@@ -7,7 +7,7 @@ use Rattle.std.proofs.lemmas.Bool.{cases_lt}
 use Rattle.std.proofs.lemmas.List.{length-take-le}
 use Rattle.std.proofs.lemmas.List.Kept.{IsStrictlyIncreasing-filter}
 use Rattle.std.proofs.lemmas.Option.{same_Some, slice_get-map, slice_get_within}
-use Rattle.link_graph.specs.Cores.{other_than}
+use Rattle.route_answers.specs.Passing.{other_than}
 use Rattle.route_certificate.specs.declared.table.TableLink.{TableLink}
 use Rattle.route_answers.specs.Places.{IsFirstPlace}
 use Rattle.route_answers.proofs.Everywhere.{all_at_all, all_by, all_front, all_mapped, all_pieces}

@@ -7,7 +7,7 @@ use Rattle.std.proofs.lemmas.Bool.{ne_eqb, cases_lt, lt-ltb, le-ltb}
 use Rattle.std.proofs.lemmas.List.Elements.{recursion_from_All}
 use Rattle.std.proofs.lemmas.List.Kept.{AllPairs-from_increasing}
 use Rattle.std.proofs.lemmas.Option.{same_Some, slice_get_read}
-use Rattle.link_graph.specs.Cores.{other_than}
+use Rattle.route_answers.specs.Passing.{other_than}
 use Rattle.route_answers.proofs.Everywhere.{of_item}
 
 abbrev pub Rises : List ℕ → Type 0

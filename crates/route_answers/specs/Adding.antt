@@ -1,14 +1,16 @@
 -- What is added to the rows of a table: the code's own machinery, which no public contract cites.
-use Rattle.std.specs.Prelude.{◌≡◌, ℕ, List, ◌++◌, map, filter}
+use Rattle.std.specs.Prelude.{◌≡◌, ℕ, ◌<◌, ◌≤◌, Bool, ◌&&◌, All, List, ◌++◌, map, filter, length}
 use Rattle.std.specs.List.{AllByRecursion}
+use Rattle.std.specs.List.Sorted.{IsStrictlyIncreasing}
 use Rattle.link_graph.specs.declared.areas.Area.{Area}
 use Rattle.link_graph.specs.declared.graph.Graph.{Graph}
-use Rattle.link_graph.specs.Areas.{inside_area}
+use Rattle.venue_types.specs.declared.settings.Profile.{Profile}
+use Rattle.link_graph.specs.Areas.{inside_area, joined_across}
 use Rattle.link_graph.specs.Graphs.{network}
-use Rattle.link_graph.specs.Cores.{other_than}
 use Rattle.route_certificate.specs.declared.table.TableLink.{TableLink}
 use Rattle.route_certificate.specs.Forms.{FitsLink}
-use Rattle.route_answers.specs.Passing.{link_row}
+use Rattle.route_answers.specs.declared.rows.Room.{Room}
+use Rattle.route_answers.specs.Passing.{link_row, other_than, passes_node}
 
 -- behind the rows before stand these, which fit a table of so many nodes
 pub record Adds (count : ℕ) (old new added : List TableLink) : Type 0 where
@@ -18,6 +20,21 @@ pub record Adds (count : ℕ) (old new added : List TableLink) : Type 0 where
 -- the row of the link across a unit from node to node
 abbrev pub pair_row : Graph → Area → ℕ → ℕ → TableLink
 pair_row graph area a b = link_row (network graph) (inside_area graph area a b)
+
+-- the members that pass and with which one of these is joined
+abbrev pub joined_passing : Graph → Profile → List ℕ → List (List Bool) → ℕ → List ℕ
+joined_passing graph profile members table a = filter (λ b. joined_across table members a b && passes_node (network graph) profile b) members
+
+-- the rows of the links from one of these members to those
+unfoldable pub rows_joined_to : Graph → Profile → Area → List ℕ → List (List Bool) → ℕ → List TableLink
+rows_joined_to graph profile area members table a = map (pair_row graph area a) (joined_passing graph profile members table a)
+
+-- the members of a room are few nodes that rise, with a place each in its table
+pub record IsRoom (room : Room) : Type 0 where
+  pub within : All (λ (m : ℕ). m < length (network room.graph.now).nodes) room.members.now
+  pub rise : IsStrictlyIncreasing room.members.now
+  pub fits : length room.members.now ≤ length room.sights.now
+  pub short : length room.members.now ≤ 4096
 
 -- the rows of the links from one of these members to all others
 unfoldable pub rows_from : Graph → Area → List ℕ → ℕ → List TableLink

@@ -1,5 +1,5 @@
 -- What a profile passes of a network, as tests: the code's own machinery, which no public contract cites.
-use Rattle.std.specs.Prelude.{ℕ, List, map, filter, Bool, not, ◌&&◌, ◌||◌, Some, None, slice_get}
+use Rattle.std.specs.Prelude.{ℕ, ◌==◌, List, map, filter, Bool, not, ◌&&◌, ◌||◌, Some, None, slice_get}
 use Rattle.venue_types.specs.declared.feature_id.FeatureId.{FeatureId}
 use Rattle.venue_types.specs.declared.kind.Kind.{Kind}
 use Rattle.venue_types.specs.declared.link.Link.{Link}
@@ -8,6 +8,10 @@ use Rattle.imdf_access.specs.declared.parts.EndFacts.{EndFacts}
 use Rattle.imdf_access.specs.Access.{is_allowed, passes}
 use Rattle.link_graph.specs.Networks.{Network, link_facts}
 use Rattle.route_certificate.specs.declared.table.TableLink.{TableLink}
+
+-- every number but this one
+abbrev pub other_than : ℕ → ℕ → Bool
+other_than a b = not (a == b)
 
 -- whether somebody with the profile may go by the kind, across a unit that is restricted or not
 unfoldable pub passes_by : Profile → Kind → Bool → Bool

@@ -2,6 +2,7 @@
 
 ghost use Rattle.std.specs.Prelude.{◌≡◌, ◌<◌, ◌≤◌, ℕ, List, OnOk, All, Contains, Some, length, slice_get};
 ghost use Rattle.std.specs.List.{flat_map};
+ghost use Rattle.std.specs.Prelude.{Bool};
 ghost use Rattle.link_graph.specs.declared.areas.Area.{Area as AnArea};
 ghost use Rattle.link_graph.specs.Areas.{area_links, areas, passages};
 ghost use Rattle.link_graph.specs.Graphs.{network};
@@ -13,6 +14,7 @@ use crate::ids::way_id;
 use crate::passes::{may_cross, may_use, passing};
 use link_graph::{Area, Graph, network_parts_law};
 use route_certificate::TableLink;
+use unit_sight::Sights;
 use std::alloc::Global;
 use venue_types::{FeatureId, Link, OutOfMemory, Profile};
 
@@ -40,15 +42,82 @@ fn add_area(
     rows: &mut Vec<TableLink>,
 ) -> Result<(), OutOfMemory>
     requires { w < length (areas graph.now) }
-    ensures { (area : AnArea × List ℕ) → slice_get (areas graph.now) w ≡ Some area → OnOk result (Adds (length (network graph.now).nodes) rows.old.items rows.new.items (rows_of (network graph.now) profile.now (area_links graph.now area))) }
+    ensures { (area : AnArea × List ℕ × List (List Bool)) → slice_get (areas graph.now) w ≡ Some area → OnOk result (Adds (length (network graph.now).nodes) rows.old.items rows.new.items (rows_of (network graph.now) profile.now (area_links graph.now area))) }
 {
     network_parts_law();
-    let (area, members) = graph.area(w);
-    if may_cross(profile, area) {
-        let passed = passing(alloc, graph, profile, members)?;
-        add_pairs(graph, area, way_id(graph, area.via), &passed, rows)?;
+    let (area, members, sights) = graph.area(w);
+    if !may_cross(profile, area) {
+        return Ok(());
     }
-    Ok(())
+    let via = way_id(graph, area.via);
+    if sights.is_whole() {
+        let passed = passing(alloc, graph, profile, members)?;
+        add_pairs(graph, area, via, &passed, rows)
+    } else {
+        let room = Room {
+            graph,
+            profile,
+            members,
+            sights,
+        };
+        room.add_joined(area, via, rows)
+    }
+}
+
+// A unit some of whose members aren't joined, as a profile passes it.
+struct Room<'a> {
+    graph: &'a Graph,
+    profile: &'a Profile,
+    members: &'a [u32],
+    sights: &'a Sights,
+}
+
+impl Room<'_> {
+    ghost use Rattle.std.specs.Prelude.{filter, take};
+    ghost use Rattle.route_answers.specs.Adding.{IsRoom, rows_joined_to};
+
+    // Adds a row for the way from each member that passes to each that passes and is joined with it.
+    fn add_joined(
+        &self,
+        area: Area,
+        via: FeatureId,
+        rows: &mut Vec<TableLink>,
+    ) -> Result<(), OutOfMemory>
+        requires room { IsRoom self.now }
+        requires via { via ≡ id_at (network self.now.graph.now).closables area.via }
+        requires fits { FitsId via }
+        ensures { OnOk result (Adds (length (network self.now.graph.now).nodes) rows.old.items rows.new.items (flat_map (rows_joined_to self.now.graph.now self.now.profile.now area self.now.members.now self.now.sights.now) (filter (passes_node (network self.now.graph.now) self.now.profile.now) self.now.members.now))) }
+    {
+        for (i, a) in self.members.iter().enumerate() {
+            if may_pass(self.graph, self.profile, *a) {
+                self.add_joined_from(area, via, i as u32, rows)?;
+            }
+        }
+        Ok(())
+    }
+
+    // Adds those from the member at a place.
+    fn add_joined_from(
+        &self,
+        area: Area,
+        via: FeatureId,
+        i: u32,
+        rows: &mut Vec<TableLink>,
+    ) -> Result<(), OutOfMemory>
+        requires room { IsRoom self.now }
+        requires via { via ≡ id_at (network self.now.graph.now).closables area.via }
+        requires fits { FitsId via }
+        requires place { i < length self.now.members.now }
+        ensures { (a : ℕ) → slice_get self.now.members.now i ≡ Some a → OnOk result (Adds (length (network self.now.graph.now).nodes) rows.old.items rows.new.items (rows_joined_to self.now.graph.now self.now.profile.now area self.now.members.now self.now.sights.now a)) }
+    {
+        let a = self.members[i as usize];
+        for (j, b) in self.members.iter().enumerate() {
+            if self.sights.joins(i, j as u32) && may_pass(self.graph, self.profile, *b) {
+                rows.push(row(&self.graph.across(area, a, *b), via))?;
+            }
+        }
+        Ok(())
+    }
 }
 
 // Adds a row for the way from each of these members of a unit to each other.

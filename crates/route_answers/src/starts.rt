@@ -3,6 +3,7 @@
 ghost use Rattle.std.specs.Prelude.{◌≡◌, ◌≢◌, ℕ, ◌<◌, IfOk, List, All, Contains, MatchOption, length, map};
 ghost use Rattle.std.specs.List.Sorted.{IsNonDecreasingBy, IsStrictlyIncreasing};
 ghost use Rattle.venue_types.specs.declared.link.Link.{Link as ALink};
+ghost use Rattle.std.specs.Prelude.{Bool};
 ghost use Rattle.link_graph.specs.declared.areas.Area.{Area as AnArea};
 ghost use Rattle.link_graph.specs.Areas.{areas, passages};
 ghost use Rattle.link_graph.specs.Graphs.{network};
@@ -78,7 +79,7 @@ fn lesser_count(starts: &[AreaStart], via: u32) -> usize
 
 /// Units have numbers among what can be closed, which rise, and those of relationships are less.
 pub(crate) fn units_law(graph: &Graph)
-    ensures within { All (λ (area : AnArea × List ℕ). area.0.via < length (network graph.now).closables) (areas graph.now) }
-    ensures rise { IsStrictlyIncreasing (map (λ (area : AnArea × List ℕ). area.0.via) (areas graph.now)) }
-    ensures apart { (link : ALink) (area : AnArea × List ℕ) → Contains (passages graph.now) link → Contains (areas graph.now) area → link.via < area.0.via }
+    ensures within { All (λ (area : AnArea × List ℕ × List (List Bool)). area.0.via < length (network graph.now).closables) (areas graph.now) }
+    ensures rise { IsStrictlyIncreasing (map (λ (area : AnArea × List ℕ × List (List Bool)). area.0.via) (areas graph.now)) }
+    ensures apart { (link : ALink) (area : AnArea × List ℕ × List (List Bool)) → Contains (passages graph.now) link → Contains (areas graph.now) area → link.via < area.0.via }
 {}

@@ -44,6 +44,6 @@ returns c = λ pair there.
     let is_link = inside graph area members link (c.requires.there (area, members) c.area.ensures.there) in
     let are = ranks c.network_parts_law.ensures graph profile area members link c.passing_below-start.result c.passing_below-end.result c.area.ensures.area is_link c.requires.allowed c.passing_below-start.ensures c.passing_below-end.ensures in
     let same : (area, members) ≡ pair = same_Some (area, members) pair (sym c.area.ensures.there ∙ there) in
-    subst (λ (p : Area × List ℕ). StandsFirst (network graph) profile (area_links graph p) link c.pair_place.result) same
+    subst (λ (p : Area × List ℕ × List (List Bool) × List (List Bool)). StandsFirst (network graph) profile (area_links graph p) link c.pair_place.result) same
     (unit_place c.network_parts_law.ensures graph profile area members link c.passing_count-count.result c.passing_below-start.result c.passing_below-end.result c.pair_place.result c.area.ensures.area c.area.ensures.whole is_link c.requires.allowed
     c.passing_count-count.ensures.number are c.pair_place.ensures.before c.pair_place.ensures.behind)

@@ -18,11 +18,11 @@ some_within : (bound : ℕ) (ok : ℕ → Bool) (members passed given : List ℕ
 some_within bound ok members passed given same chosen within = subst (All (λ (m : ℕ). m < bound)) (sym (same ∙ chosen)) (All-filter ok (λ (m : ℕ). m < bound) members within)
 
 -- the rows of an area, told of the area that stands in the list
-told : (graph : Graph) (profile : Profile) (w : ℕ) (area : Area) (members : List ℕ) (pair : Area × List ℕ) (count : ℕ) (start end rows : List TableLink) → slice_get (areas graph) w ≡ Some (area, members) → slice_get (areas graph) w ≡ Some pair
+told : (graph : Graph) (profile : Profile) (w : ℕ) (area : Area) (members : List ℕ) (pair : Area × List ℕ × List (List Bool) × List (List Bool)) (count : ℕ) (start end rows : List TableLink) → slice_get (areas graph) w ≡ Some (area, members) → slice_get (areas graph) w ≡ Some pair
     → rows_of (network graph) profile (area_links graph (area, members)) ≡ rows → Adds count start end rows → Adds count start end (rows_of (network graph) profile (area_links graph pair))
 told graph profile w area members pair count start end rows here there are added =
     let same : (area, members) ≡ pair = same_Some (area, members) pair (sym here ∙ there) in
-    subst (Adds count start end) (sym are ∙ ap (λ (p : Area × List ℕ). rows_of (network graph) profile (area_links graph p)) same) added
+    subst (Adds count start end) (sym are ∙ ap (λ (p : Area × List ℕ × List (List Bool) × List (List Bool)). rows_of (network graph) profile (area_links graph p)) same) added
 
 pub add_pairs-requires-clause-within : goal.add_pairs-requires-clause-within
 add_pairs-requires-clause-within c =

@@ -3,7 +3,7 @@ use Rattle.std.proofs.lemmas.Bool.{ne_eqb}
 use Rattle.std.proofs.lemmas.List.{take_all}
 use Rattle.link_graph.specs.Areas.{inside_area}
 use Rattle.link_graph.specs.Graphs.{network}
-use Rattle.link_graph.specs.Cores.{other_than}
+use Rattle.route_answers.specs.Passing.{other_than}
 use Rattle.route_certificate.specs.declared.table.TableLink.{TableLink}
 use Rattle.route_answers.specs.Adding.{Adds, pair_row, rows_from}
 use Rattle.route_answers.proofs.Gathering.{kept_more, left_more, row_is, row_fits}

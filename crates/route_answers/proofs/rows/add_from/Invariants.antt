@@ -1,6 +1,6 @@
 use Rattle.std.proofs.Common.{length, take, filter, map}
 use Rattle.link_graph.specs.Graphs.{network}
-use Rattle.link_graph.specs.Cores.{other_than}
+use Rattle.route_answers.specs.Passing.{other_than}
 use Rattle.route_answers.specs.Adding.{Adds, pair_row}
 use Rattle.route_answers.proofs.rows.add_from.Given as goal
 

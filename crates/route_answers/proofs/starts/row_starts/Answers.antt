@@ -67,5 +67,5 @@ returns c =
       units = c.loop-w.invariant.units;
       rise = starts_rise graph profile c.loop-w.units.items all c.loop-w.invariant.units c.units_law.ensures.rise;
       passages = c.loop-w.invariant.rows
-          ∙ ap (λ (some : List (Area × List ℕ)). length (rows_of (network graph) profile (flat_map (area_links graph) some))) (take_all c.loop-w.w (areas graph) (omega (arith, last, count)));
+          ∙ ap (λ (some : List (Area × List ℕ × List (List Bool) × List (List Bool))). length (rows_of (network graph) profile (flat_map (area_links graph) some))) (take_all c.loop-w.w (areas graph) (omega (arith, last, count)));
     }
