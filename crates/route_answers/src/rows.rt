@@ -7,11 +7,11 @@ ghost use Rattle.link_graph.specs.declared.areas.Area.{Area as AnArea};
 ghost use Rattle.link_graph.specs.Areas.{area_links, areas, passages};
 ghost use Rattle.link_graph.specs.Graphs.{network};
 ghost use Rattle.route_answers.specs.Adding.{Adds, rows_from};
-ghost use Rattle.route_answers.specs.Passing.{id_at, link_row, rows_of};
+ghost use Rattle.route_answers.specs.Passing.{id_at, link_row, passes_node, rows_of};
 ghost use Rattle.route_certificate.specs.Forms.{FitsId};
 
 use crate::ids::way_id;
-use crate::passes::{may_cross, may_use, passing};
+use crate::passes::{may_cross, may_pass, may_use, passing};
 use link_graph::{Area, Graph, network_parts_law};
 use route_certificate::TableLink;
 use unit_sight::Sights;

@@ -1,4 +1,4 @@
-use Rattle.std.proofs.Common.{◌≡◌, ℕ, ◌+◌, List, ◌++◌, length, take, flat_map, Some, sym, ap, ◌∙◌, subst, arith}
+use Rattle.std.proofs.Common.{Bool, ◌≡◌, ℕ, ◌+◌, List, ◌++◌, length, take, flat_map, Some, sym, ap, ◌∙◌, subst, arith}
 use Rattle.std.specs.Prelude.{slice_get}
 use Rattle.std.proofs.lemmas.Option.{slice_get_within, get_or_from_slice_get}
 use Rattle.venue_types.specs.declared.link.Link.{Link}
