@@ -5,34 +5,15 @@ usage: corner_limits.py [PROGRAM]   (without PROGRAM the launcher ./venue, which
 What is wanted was worked out by hand: a staircase of n steps has 2n + 2 edges and n - 1 corners, a bowl 53 and 49. It prints one line, and ends
 with status 1 at a difference.
 """
-import json
 import os
 import shutil
 import subprocess
 import sys
 import tempfile
 
-TOP = os.path.join(os.path.dirname(os.path.abspath(__file__)), "..")
-NAME = "00000000-0000-4000-8000-{:0>12}"
-METRE = 10_000
+from rooms import TOP, Venue, box, ell, in_metres, set_up
+
 FILE = "finding {} unit.geojson 0 0"
-
-
-def at(place):
-    """A position, from nanodegrees past 10 degrees east and 50 degrees north."""
-    return [(10 * 10**9 + place[0]) / 10**9, (50 * 10**9 + place[1]) / 10**9]
-
-
-def ring(places):
-    return [at(place) for place in [*places, places[0]]]
-
-
-def box(west, south, east, north):
-    return [(west, south), (east, south), (east, north), (west, north)]
-
-
-def in_metres(places):
-    return [(METRE * x, METRE * y) for x, y in places]
 
 
 def staircase(steps, west=()):
@@ -46,61 +27,19 @@ def bowl(k):
     return [(x, y), (x + 10_000, y), *((x + 200 * i, y + 2000 + (i - 25) ** 2) for i in range(50, -1, -1))]
 
 
-class Venue:
-    """A venue with one level; its rooms are lists of rings."""
-
-    def __init__(self, east=10**8, north=10**8, category="walkway", **properties):
-        self.files = {}
-        self.rooms = 0
-        self.anchors = 0
-        self.of_rooms = {"category": category, "level_id": NAME.format(10), **properties}
-        whole = {"type": "Polygon", "coordinates": [ring(box(0, 0, east, north))]}
-        self.add("venue", 2, whole, {})
-        self.add("level", 10, whole, {"ordinal": 0})
-
-    def add(self, kind, number, geometry, properties):
-        self.files.setdefault(kind, []).append({"type": "Feature", "id": NAME.format(number), "feature_type": kind, "geometry": geometry, "properties": properties})
-        return self
-
-    def room(self, *rings):
-        self.rooms += 1
-        return self.add("unit", 299 + self.rooms if self.rooms == 1 else 20_000 + self.rooms, {"type": "Polygon", "coordinates": [ring(it) for it in rings]}, self.of_rooms)
-
-    def anchor(self, *places):
-        for place in places:
-            self.anchors += 1
-            self.add("anchor", 40 + self.anchors if self.anchors < 3 else 40_000 + self.anchors, {"type": "Point", "coordinates": at(place)}, {"unit_id": NAME.format(300)})
-        return self
-
-    def opening(self, *places):
-        return self.add("opening", 101, {"type": "LineString", "coordinates": [at(place) for place in places]}, {"level_id": NAME.format(10)})
-
-    def write(self, folder):
-        os.mkdir(folder)
-        shutil.copy(os.path.join(TOP, "examples", "station", "manifest.json"), folder)
-        for kind, features in self.files.items():
-            with open(os.path.join(folder, f"{kind}.geojson"), "w", encoding="utf-8") as file:
-                json.dump({"type": "FeatureCollection", "features": features}, file)
-
-
-def ell(category="walkway", anchored=True, **properties):
-    venue = Venue(*in_metres([(100, 60)])[0], category, **properties).room(in_metres([(0, 0), (40, 0), (40, 10), (10, 10), (10, 40), (0, 40)]))
-    return venue.anchor(*in_metres([(35, 5), (5, 35)])) if anchored else venue
-
-
 def square():
     """Forty metres on each side, with a hole in the middle."""
-    return Venue().room(in_metres(box(0, 0, 40, 40)), in_metres([(15, 15), (15, 25), (25, 25), (25, 15)])).anchor(*in_metres([(5, 20), (35, 20)]))
+    return Venue().room([in_metres(box(0, 0, 40, 40)), in_metres([(15, 15), (15, 25), (25, 25), (25, 15)])]).anchor(*in_metres([(5, 20), (35, 20)]))
 
 
 def stairs(steps, anchors, west=(), category="walkway"):
-    return Venue(category=category).room(staircase(steps, west)).anchor(*[(0, 0)] * anchors)
+    return Venue().room([staircase(steps, west)], category=category).anchor(*[(0, 0)] * anchors, first=40_001)
 
 
 def bowls():
     venue = Venue()
     for k in range(8000):
-        venue.room(bowl(k))
+        venue.room([bowl(k)], number=20_000 + k)
     return venue
 
 
@@ -123,9 +62,9 @@ ROWS = [
     ("4,095 steps", lambda: stairs(4095, 2), True, ["rejected 1", FILE.format("S5")], None),
     ("4,095 steps, straight", lambda: stairs(4095, 2), False, ["accepted 5", "notes 0"], (3, 6)),
     ("8,000 bowls", bowls, True, ["accepted 8002", "notes 0"], None),
-    ("8,000 bowls and an opening", lambda: bowls().opening((1000, 1000), (2000, 1000)), True, ["rejected 1", FILE.format("S7")], None),
-    ("8,000 bowls and an opening, straight", lambda: bowls().opening((1000, 1000), (2000, 1000)), False, ["accepted 8003", "notes 1", "note N4 opening.geojson 0 0"], None),
-    ("8,000 bowls and an anchor", lambda: bowls().anchor((12_000, 4500)), True, ["rejected 1", FILE.format("S6")], None),
+    ("8,000 bowls and an opening", lambda: bowls().door((1000, 1000), (2000, 1000)), True, ["rejected 1", FILE.format("S7")], None),
+    ("8,000 bowls and an opening, straight", lambda: bowls().door((1000, 1000), (2000, 1000)), False, ["accepted 8003", "notes 1", "note N4 opening.geojson 0 0"], None),
+    ("8,000 bowls and an anchor", lambda: bowls().anchor((12_000, 4500), unit=20_000), True, ["rejected 1", FILE.format("S6")], None),
 ]
 
 
@@ -136,10 +75,7 @@ def run(program, *words):
 def differences(program, base, row):
     """What the program tells of a row's venue otherwise than it should."""
     name, venue, clear, wanted, table = row
-    with open(os.path.join(TOP, "checks", "rows", "venue.toml"), encoding="utf-8") as file:
-        settings = file.read()
-    with open(os.path.join(base, "venue.toml"), "w", encoding="utf-8") as file:
-        file.write(('inside = "clear"\n' if clear else "") + settings)
+    set_up(base, clear)
     venue().write(os.path.join(base, "folder"))
     found = run(program, "check", base, "folder")
     if found != wanted:

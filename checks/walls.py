@@ -1,0 +1,122 @@
+#!/usr/bin/env python3
+"""Checks ways through rooms with walls: how many nodes and links their venues have, and what the cheapest way costs, step by step.
+
+usage: walls.py [PROGRAM]   (without PROGRAM the launcher ./venue, which builds the program if need be)
+What is wanted was worked out by hand, in centimetres. Each way is proved by `verify`. It prints one line, and ends with status 1 at a difference.
+"""
+import os
+import shutil
+import subprocess
+import sys
+import tempfile
+
+from rooms import ELL, NAME, TOP, Venue, box, ell, in_metres, set_up
+
+HOLE = [(15, 15), (15, 25), (25, 25), (25, 15)]
+COMB = [(0, 0), (40, 0), (40, 20), (30, 20), (30, 10), (20, 10), (20, 20), (10, 20), (10, 10), (0, 10)]
+FIN = [(19.9, 0), (19.9, 15), (20.1, 15), (20.1, 0)]
+KITE = [(20, 0), (15, 5), (20, 10), (25, 5)]
+NOTCH = [(15, 0), (15, 10), (25, 10), (25, 0)]
+
+
+def room(*rings, places=(), display=None):
+    """A room of these rings in metres, with an anchor at each of these places."""
+    shown = in_metres([display])[0] if display else None
+    return Venue().room([in_metres(it) for it in rings], display=shown).anchor(*in_metres(places))
+
+
+def side(*jambs):
+    """A room of 40 by 20 metres with these positions in its south side, and a door between each two."""
+    venue = Venue().room([in_metres([(0, 0), *((x, 0) for x in jambs), (40, 0), (40, 20), (0, 20)])])
+    return venue.door(*in_metres([(9, 0), (11, 0)])).door(*in_metres([(13, 0), (15, 0)]), number=102)
+
+
+def walled(notch, **more):
+    return room([(0, 0), *notch, *box(0, 0, 40, 20)[1:]], **more)
+
+
+def halves(*polygons, **more):
+    venue = Venue().room(*[[in_metres(box(*it))] for it in polygons], display=more.get("display"))
+    return venue.anchor(*in_metres(more["places"]))
+
+
+def two_rooms():
+    venue = Venue(100 * 10_000, 60 * 10_000).room([ELL]).room([in_metres(box(10, 10, 40, 40))], number=301, category="room")
+    venue.anchor(*in_metres([(35, 5), (5, 35)])).anchor(*in_metres([(25, 25)]), first=43, unit=301)
+    return venue.door(*in_metres([(24, 10), (26, 10)]))
+
+
+def square(**more):
+    return lambda: room(box(0, 0, 40, 40), HOLE, places=more["places"])
+
+
+# A name, the venue, whether ways go round walls, settings more; how many nodes and links there are; from where to where, and what each step costs.
+ROWS = [
+    ("ell, straight", ell, False, "", (3, 6), (41, 42), [4243]),
+    ("ell", ell, True, "", (4, 6), (41, 42), [2550, 2550]),
+    ("ell, from its own place", ell, True, "", (4, 6), (300, 42), [1415, 2550]),
+    ("a hole, straight", square(places=[(5, 20), (35, 20)]), False, "", (3, 6), (41, 42), [3000]),
+    ("a hole", square(places=[(5, 20), (35, 20)]), True, "", (7, 18), (41, 42), [1119, 1000, 1119]),
+    ("along a hole", square(places=[(5, 15), (35, 15)]), True, "", (7, 18), (41, 42), [1000, 1000, 1000]),
+    ("a comb", lambda: room(COMB, places=[(35, 18), (15, 18)]), True, "", (6, 18), (41, 42), [944, 1000, 944]),
+    ("jambs in a wall", lambda: side(9, 11, 13, 15), True, "", (3, 4), (101, 102), [1415, 1167]),
+    ("jambs and a wide tolerance", lambda: side(9, 11, 13, 15), True, "contain_tol = 10000\n", (3, 6), (101, 102), [400]),
+    ("jambs and a wide tolerance of borders", lambda: side(9, 11, 13, 15), True, "border_tol = 10000\n", (3, 6), (101, 102), [400]),
+    ("no jambs", side, True, "", (3, 6), (101, 102), [400]),
+    ("jambs nearer than the tolerance", lambda: side(9.5, 10.5, 13.5, 14.5), True, "", (3, 6), (101, 102), [400]),
+    ("a fin", lambda: walled(FIN, places=[(10, 5), (30, 5)]), True, "", (5, 18), (41, 42), None),
+    ("a fin, and a place beside it", lambda: walled(FIN, places=[(10, 5), (30, 5)], display=(5, 18)), True, "", (5, 16), (41, 42), [1408, 1422]),
+    ("places at a fin", lambda: walled(FIN, places=[(19.5, 5), (20.5, 5)]), True, "", (5, 20), (41, 42), [100]),
+    ("a hole that touches the border", lambda: room(box(0, 0, 40, 20), KITE, places=[(10, 1), (30, 1)]), True, "", (7, 30), (41, 42), None),
+    ("a hole along the border", lambda: room(box(0, 0, 40, 20), NOTCH, places=[(10, 1), (30, 1)]), True, "", (7, 20), (41, 42), [510, 1000, 510]),
+    ("a notch", lambda: walled(NOTCH, places=[(10, 1), (30, 1)]), True, "", (5, 10), (41, 42), [1030, 1000, 1030]),
+    ("two polygons that share a side", lambda: halves((0, 0, 10, 10), (10, 0, 20, 10), places=[(5, 5), (15, 5)], display=(20_000, 80_000)), True, "", (3, 4), (41, 42), None),
+    ("two polygons apart", lambda: halves((0, 0, 10, 10), (30, 0, 40, 10), places=[(5, 5), (35, 5)]), True, "", (3, 6), (41, 42), [3000]),
+    ("two polygons apart, two places in one", lambda: halves((0, 0, 10, 10), (30, 0, 40, 10), places=[(5, 5), (8, 5), (35, 5)]), True, "", (4, 6), (41, 43), [300, 2700]),
+    ("ell with a room in its corner", two_rooms, True, "", (7, 16), (43, 42), [1500, 1500, 2550]),
+]
+# What the ways cost whose steps have no names of their own.
+COSTS = {"a fin": 2238, "a hole that touches the border": 2010, "two polygons that share a side": 1000}
+
+
+def run(program, *words):
+    return subprocess.run([*program, *words], capture_output=True, text=True).stdout
+
+
+def differences(program, base, row):
+    """What the program tells of a row's venue otherwise than it should."""
+    name, venue, clear, more, table, ends, wanted = row
+    set_up(base, clear, more)
+    venue().write(os.path.join(base, "folder"))
+    links = run(program, "links", base, "folder", "walk")
+    rows = [line.split() for line in links.splitlines()]
+    counted = tuple(sum(row[0] == word for row in rows) for word in ("node", "link"))
+    if counted != table:
+        yield f"{name}: {counted[0]} nodes and {counted[1]} links, wanted {table[0]} and {table[1]}"
+    answer = run(program, "route", base, "folder", "walk", *(NAME.format(it) for it in ends))
+    costs = [int(row[3]) for row in rows if row[0] == "link"]
+    steps = [costs[int(line.split()[1])] for line in answer.splitlines() if line.startswith("step ")]
+    if (sum(steps) != COSTS[name]) if wanted is None else (steps != wanted):
+        yield f"{name}: steps of {steps}, wanted {wanted or COSTS[name]}"
+    for file, text in (("links.txt", links), ("answer.txt", answer)):
+        with open(os.path.join(base, file), "w", encoding="utf-8") as out:
+            out.write(text)
+    told = run(program, "verify", base)
+    if told != "proved\n":
+        yield f"{name}: verify prints {told!r}"
+    shutil.rmtree(os.path.join(base, "folder"))
+
+
+def main():
+    program = [sys.argv[1]] if len(sys.argv) > 1 else [os.path.join(TOP, "venue")]
+    found = []
+    for row in ROWS:
+        with tempfile.TemporaryDirectory() as base:
+            found += differences(program, base, row)
+    for line in found:
+        print(line, file=sys.stderr)
+    print(f"walls: {len(ROWS)} ways, {len(found)} differences")
+    return 1 if found else 0
+
+
+sys.exit(main())
