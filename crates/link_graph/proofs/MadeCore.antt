@@ -49,6 +49,7 @@ use Rattle.link_graph.proofs.MadeSeats.{seats_same, stands_nowhere}
 use Rattle.link_graph.proofs.MadeTables.{tables_fit}
 use Rattle.link_graph.proofs.MadeTrails.{passages_few}
 use Rattle.link_graph.proofs.MadeUnits.{walks, via_of, vias_rise, via_within, crossings_many, barred_is, units_are}
+use Rattle.link_graph.proofs.RoomTables.{members_rise}
 use Rattle.link_graph.proofs.Passages.{of_relationship}
 use Rattle.link_graph.proofs.Ranges.{member_within, closables_count, passage_range}
 
@@ -90,10 +91,6 @@ rows_roomy features settings rows are crowds = record {
   each = all_of IsRoomy (row_list rows) (λ row h. row_short features settings row (unit_row features settings rows row are h) crowds);
   squares = subst (λ n. n ≤ 20000000) (sym (squares_are features settings rows are)) crowds.0.1;
 }
-
-members_rise : (features : Features) (settings : Settings) (u : UnitRow) → IsStrictlyIncreasing (members features settings u)
-unfolding members
-members_rise features settings u = IsStrictlyIncreasing-from_sorted _ (places_rise (is_member settings.border_tol u) 0 (node_rows features settings))
 
 row_within : (features : Features) (settings : Settings) (list : List Node) (row : List ℕ) (m : ℕ) → IsUnitRow features settings row → list ≡ nodes features settings → Contains row m → m < length list
 row_within features settings list row m h same there =

@@ -22,11 +22,12 @@ use Rattle.venue_nodes.proofs.Items.{at_member, at_map}
 use Rattle.venue_nodes.proofs.Places.{places_rise, place_at}
 use Rattle.link_graph.specs.declared.parts.Core.{Core}
 use Rattle.link_graph.specs.declared.parts.Crossing.{Crossing}
-use Rattle.link_graph.specs.Cores.{way_in, links_across, links_across_all, joined_in}
+use Rattle.link_graph.specs.Cores.{way_in, link_across, links_across_from, links_across, links_across_all, joined_in}
 use Rattle.link_graph.specs.Lengths.{length_between}
-use Rattle.link_graph.specs.Links.{spot_of, are_joined, inside_link, unit_links, way}
+use Rattle.link_graph.specs.Links.{spot_of, are_joined, links_from, unit_links, way}
 use Rattle.link_graph.specs.Making.{crossing_of, crossings_from, barred_from}
-use Rattle.link_graph.proofs.Joined.{filter_same, kept_so}
+use Rattle.link_graph.proofs.Joined.{filter_same, flat_map_within}
+use Rattle.link_graph.proofs.RoomTables.{kept_so}
 
 abbrev pub walks : UnitRow → Bool
 walks row = is_walkable row.category
@@ -96,10 +97,6 @@ mapped_same : {X Y : Type 0} (f g : X → Y) (xs : List X) → ((x : X) → f x 
 mapped_same f g [] same = refl
 mapped_same {X} {Y} f g (x ∷ xs) same = ap₂ (λ (y : Y) (ys : List Y). y ∷ ys) (same x) (mapped_same f g xs same)
 
-joined_same : {X Y : Type 0} (f g : X → List Y) (xs : List X) → ((x : X) → f x ≡ g x) → flat_map f xs ≡ flat_map g xs
-joined_same f g [] same = refl
-joined_same {X} {Y} f g (x ∷ xs) same = ap₂ (λ (ys zs : List Y). ys ++ zs) (same x) (joined_same f g xs same)
-
 -- the graph has the nodes and the settings
 pub record HasGround (features : Features) (settings : Settings) (core : Core) : Type 0 where
   pub nodes_are : node_list core.nodes ≡ nodes features settings
@@ -114,27 +111,33 @@ way_same features settings core a b ground =
     ap (λ (ns : List Node). length_between (spot_at (slice_get ns a)) (spot_at (slice_get ns b)) core.kx core.ky) ground.nodes_are
     ∙ ap₂ (λ (x y : ℕ). length_between (spot_of features settings a) (spot_of features settings b) x y) ground.kx_is ground.ky_is
 
-across_same : (features : Features) (settings : Settings) (core : Core) (via : ℕ) (u : UnitRow) (row : List ℕ) → HasGround features settings core
-    → flat_map (λ a. map (λ b. record { from = a; to = b; via = via; cost = way_in core a b; kind = unit_kind_of u.category }) (filter (joined_in (crossing_of features settings via u) row a) row)) row
-    ≡ flat_map (λ a. map (inside_link features settings via u a) (filter (are_joined features settings u a) row)) row
-across_same features settings core via u row ground =
-    joined_same _ _ row (λ a. ap (map (λ b. record { from = a; to = b; via = via; cost = way_in core a b; kind = unit_kind_of u.category }))
-    (filter_same (joined_in (crossing_of features settings via u) row a) (are_joined features settings u a) row (λ b h. kept_so features settings u (crossing_of features settings via u) row a b))
-    ∙ mapped_same _ _ (filter (are_joined features settings u a) row) (λ b. ap (λ (n : ℕ). record { from = a; to = b; via = via; cost = n; kind = unit_kind_of u.category }) (way_same features settings core a b ground)))
+start_same : (features : Features) (settings : Settings) (core : Core) (via : ℕ) (u : UnitRow) (a : ℕ) → carries u ≡ false → HasGround features settings core → Contains (members features settings u) a
+    → links_across_from core (crossing_of features settings via u) (members features settings u) a ≡ links_from features settings via u a
+start_same features settings core via u a still ground start =
+    let row = members features settings u in
+    let crossing = crossing_of features settings via u in
+    ap (map (link_across core crossing a)) (filter_same (joined_in crossing row a) (are_joined features settings u a) row (λ b h. kept_so features settings via u a b still start h))
+    ∙ mapped_same _ _ (filter (are_joined features settings u a) row) (λ b. ap (λ (n : ℕ). record { from = a; to = b; via = via; cost = n; kind = unit_kind_of u.category }) (way_same features settings core a b ground))
+
+walked_same : (features : Features) (settings : Settings) (core : Core) (via : ℕ) (u : UnitRow) (b : Bool) → carries u ≡ b → HasGround features settings core
+    → cond (not b) (flat_map (links_across_from core (crossing_of features settings via u) (members features settings u)) (members features settings u)) []
+    ≡ cond (not b) (flat_map (links_from features settings via u) (members features settings u)) []
+walked_same features settings core via u true e ground = refl
+walked_same features settings core via u false e ground =
+    flat_map_within (links_across_from core (crossing_of features settings via u) (members features settings u)) (links_from features settings via u) (members features settings u)
+    (λ a h. start_same features settings core via u a e ground h)
 
 unit_same : (features : Features) (settings : Settings) (core : Core) (via : ℕ) (u : UnitRow) → walks u ≡ true → HasGround features settings core
     → links_across core (crossing_of features settings via u) (members features settings u) ≡ unit_links features settings (via, u)
 unit_same features settings core via u walked ground =
-    let moving = not (carries u) in
-    let inside = flat_map (λ a. map (inside_link features settings via u a) (filter (are_joined features settings u a) (members features settings u))) (members features settings u) in
-    ap (λ (ls : List Link). cond moving ls []) (across_same features settings core via u (members features settings u) ground)
-    ∙ ap (λ (b : Bool). cond (b && moving) inside []) (sym walked)
+    let inside = flat_map (links_from features settings via u) (members features settings u) in
+    walked_same features settings core via u (carries u) refl ground
+    ∙ ap (λ (b : Bool). cond (b && not (carries u)) inside []) (sym walked)
 
 solid_none : (features : Features) (settings : Settings) (via : ℕ) (u : UnitRow) → walks u ≡ false → unit_links features settings (via, u) ≡ []
 solid_none features settings via u solid =
-    let moving = not (carries u) in
-    let inside = flat_map (λ a. map (inside_link features settings via u a) (filter (are_joined features settings u a) (members features settings u))) (members features settings u) in
-    ap (λ (b : Bool). cond (b && moving) inside []) solid
+    let inside = flat_map (links_from features settings via u) (members features settings u) in
+    ap (λ (b : Bool). cond (b && not (carries u)) inside []) solid
 
 units_step : (features : Features) (settings : Settings) (core : Core) (via : ℕ) (u : UnitRow) (us : List UnitRow) (b : Bool) → walks u ≡ b → HasGround features settings core
     → links_across_all core (crossings_from features settings (via + 1) us) (map (members features settings) (filter walks us)) ≡ flat_map (unit_links features settings) (enumerate_from (via + 1) us)
