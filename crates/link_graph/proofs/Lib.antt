@@ -13,7 +13,6 @@ pub mod MadeTrails
 pub mod MadeDoors
 pub mod MadeSeats
 pub mod MadeUnits
-pub mod MadeTables
 pub mod MadeCore
 pub mod LeadingLists
 pub mod LeadingRows

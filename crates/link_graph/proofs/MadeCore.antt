@@ -46,9 +46,8 @@ use Rattle.link_graph.specs.Networks.{IsNetworkOf, joined_facts, link_facts}
 use Rattle.link_graph.proofs.Items.{from_flat_map, from_enumerate}
 use Rattle.link_graph.proofs.MadeDoors.{asks_are, doors_many, door_own}
 use Rattle.link_graph.proofs.MadeSeats.{seats_same, stands_nowhere}
-use Rattle.link_graph.proofs.MadeTables.{tables_fit}
 use Rattle.link_graph.proofs.MadeTrails.{passages_few}
-use Rattle.link_graph.proofs.MadeUnits.{walks, via_of, vias_rise, via_within, crossings_many, barred_is, units_are}
+use Rattle.link_graph.proofs.MadeUnits.{walks, via_of, vias_rise, via_within, tables_fit, barred_is, units_are}
 use Rattle.link_graph.proofs.RoomTables.{members_rise}
 use Rattle.link_graph.proofs.Passages.{of_relationship}
 use Rattle.link_graph.proofs.Ranges.{member_within, closables_count, passage_range}
@@ -105,21 +104,9 @@ row_sound features settings core row made crowds h =
       short = row_short features settings row of_unit crowds;
     }
 
-rows_paired : (features : Features) (settings : Settings) (via : ℕ) (rows : Rows) (crossings : List Crossing) → AreRowsOf features settings rows → crossings ≡ crossings_from features settings via features.units
-    → length crossings ≡ length (row_list rows)
-rows_paired features settings via rows crossings are made =
-    ap (λ (cs : List Crossing). length cs) made
-    ∙ crossings_many features settings via features.units
-    ∙ sym (length-map (walkable_units features) (members features settings))
-    ∙ ap (λ (rs : List (List ℕ)). length rs) (sym are.members_are)
-
-rows_fit : (features : Features) (settings : Settings) (via : ℕ) (rows : Rows) (crossings : List Crossing) → AreRowsOf features settings rows → crossings ≡ crossings_from features settings via features.units
+pub rows_fit : (features : Features) (settings : Settings) (via : ℕ) (rows : Rows) (crossings : List Crossing) → AreRowsOf features settings rows → crossings ≡ crossings_from features settings via features.units
     → AreTables crossings (row_list rows)
-rows_fit features settings via rows crossings are made = tables_fit features settings via rows crossings are made (rows_paired features settings via rows crossings are made)
-
-pub tables_made : (features : Features) (settings : Settings) (via : ℕ) (rows : Rows) (crossings read : List Crossing) → AreRowsOf features settings rows → read ≡ crossings → crossings ≡ crossings_from features settings via features.units
-    → AreTables read (row_list rows)
-tables_made features settings via rows crossings read are same made = rows_fit features settings via rows read are (same ∙ made)
+rows_fit features settings via rows crossings are made = subst (λ (cs : List Crossing). AreTables cs (row_list rows)) (sym made) (tables_fit features settings rows via are)
 
 crossing_sound : (features : Features) (settings : Settings) (core : Core) (crossing : Crossing) → IsMadeOf features settings core → Contains core.crossings.items crossing → IsCrossing core crossing
 crossing_sound features settings core crossing made h =
@@ -230,12 +217,13 @@ pub core_sound : (features : Features) (settings : Settings) (core : Core) → A
 core_sound features settings core sound own crowds few law made =
     let count = closables_count features in
     let ids = made.nodes.closable_ids in
+    let fit = rows_fit features settings (first_unit features) core.rows core.crossings.items made.rows made.crossings in
     record {
       rows = all_of (IsRow core) (row_list core.rows) (λ row h. row_sound features settings core row made crowds h);
       squares = (rows_roomy features settings core.rows made.rows crowds).squares;
-      paired = rows_paired features settings (first_unit features) core.rows core.crossings.items made.rows made.crossings;
+      paired = fit.paired;
       crossings = all_of (IsCrossing core) core.crossings.items (λ crossing h. crossing_sound features settings core crossing made h);
-      tables = (rows_fit features settings (first_unit features) core.rows core.crossings.items made.rows made.crossings).each;
+      tables = fit.each;
       units_last = subst (λ (xs : List FeatureId). core.first_unit ≤ length xs) (sym ids) (omega (arith, count, made.first_unit_is));
       apart = subst (λ (cs : List Crossing). IsStrictlyIncreasing (map via_of cs)) (sym made.crossings) (vias_rise features settings (first_unit features) features.units);
       passages = all_of (IsPassage core) core.passages.items (λ link h. passage_sound features settings core link made h);

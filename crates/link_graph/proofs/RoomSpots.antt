@@ -4,7 +4,7 @@ use Rattle.std.specs.Prelude.{Contains, slice_get}
 use Rattle.std.proofs.lemmas.Int.{ints}
 use Rattle.std.proofs.lemmas.List.{length-map, get_or-map}
 use Rattle.std.proofs.lemmas.List.Elements.{All-append, All-contains, Contains-append_cases, Contains-get_or}
-use Rattle.std.proofs.lemmas.Option.{slice_get-get_or}
+use Rattle.std.proofs.lemmas.Option.{slice_get_cases}
 use Rattle.venue_types.specs.declared.features.Features.{Features}
 use Rattle.venue_types.specs.declared.features.UnitRow.{UnitRow}
 use Rattle.venue_types.specs.declared.link.Node.{Node}
@@ -20,7 +20,10 @@ use Rattle.plane_exact.proofs.ScaleLaw.{points_of_scaled}
 use Rattle.unit_sight.specs.Rooms.{AreLengths}
 use Rattle.venue_nodes.specs.Figures.{judged_positions}
 use Rattle.venue_nodes.specs.Sound.{AreSound, IsOnEarth}
+use Rattle.venue_nodes.specs.declared.nodes.Nodes.{Nodes}
+use Rattle.venue_nodes.specs.Members.{members}
 use Rattle.venue_nodes.specs.Nodes.{nodes}
+use Rattle.venue_nodes.specs.Views.{AreNodes, node_list}
 use Rattle.venue_nodes.proofs.CornerRows.{from_map}
 use Rattle.venue_nodes.proofs.Items.{member_at}
 use Rattle.venue_nodes.proofs.Judged.{all_of, unit_vertex}
@@ -28,6 +31,7 @@ use Rattle.venue_nodes.proofs.Spread.{IsSummed, close_sums, node_summed}
 use Rattle.link_graph.specs.Links.{way}
 use Rattle.link_graph.specs.Making.{spot_at}
 use Rattle.link_graph.proofs.Lengths.{between_length}
+use Rattle.link_graph.proofs.Ranges.{member_within}
 
 -- ---- spots of nodes
 
@@ -36,10 +40,10 @@ spot_there list m node at = ap (λ (o : Option Node). elim o [ None ↦ record {
 
 -- the spot of a number of a node is that of a node
 with_spot : (list : List Node) (m : ℕ) → m < length list → (node : Node) × Contains list node × (node.spot ≡ spot_at list m)
-with_spot list m low =
-    let none : Node = get_or list m _ in
-    let at = slice_get-get_or list m none low in
-    (get_or list m none, member_at list m (get_or list m none) at, sym (spot_there list m (get_or list m none) at))
+with_spot list m low = elim (slice_get_cases list m).1 [
+  | inl found ↦ (found.0, member_at list m found.0 found.2, sym (spot_there list m found.0 found.2))
+  | inr past ↦ absurd (let over = past.0 in omega (arith, low, over))
+]
 
 spot_summed : (features : Features) (settings : Settings) (m : ℕ) → AreSound features → m < length (nodes features settings) → IsSummed (judged_positions features) (spot_at (nodes features settings) m)
 spot_summed features settings m sound low =
@@ -171,3 +175,15 @@ room_lengths features settings row sound close within =
         (between_length (spot_at list (get_or row i 0)) (spot_at list (get_or row j 0)) settings.kx settings.ky
         (spots_close features settings (get_or row i 0) (get_or row j 0) sound close (within i 0 first) (within j 0 second)) settings.kx_range settings.ky_range);
     }
+
+-- ---- of a row of members, whose spots are read from the nodes that are kept
+
+pub members_low : (features : Features) (settings : Settings) (u : UnitRow) (row : List ℕ) → row ≡ members features settings u → All (λ m. m < length (nodes features settings)) row
+members_low features settings u row is = all_of (λ m. m < length (nodes features settings)) row (λ m h. member_within features settings u m (subst (λ (r : List ℕ). Contains r m) is h))
+
+pub numbers_low : (features : Features) (settings : Settings) (made : Nodes) (u : UnitRow) (row : List ℕ) → AreNodes features settings made → row ≡ members features settings u → All (λ m. m < length (node_list made)) row
+numbers_low features settings made u row are is = subst (λ (list : List Node). All (λ m. m < length list) row) (sym are.list) (members_low features settings u row is)
+
+pub spots_are : (features : Features) (settings : Settings) (made : Nodes) (row : List ℕ) (read spots : List Spot) → AreNodes features settings made → read ≡ spots → spots ≡ map (spot_at (node_list made)) row
+    → read ≡ map (spot_at (nodes features settings)) row
+spots_are features settings made row read spots are same there = same ∙ there ∙ ap (λ (list : List Node). map (spot_at list) row) are.list
