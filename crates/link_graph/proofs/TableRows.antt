@@ -31,7 +31,7 @@ at_place [] a h = absurd (Contains-nil a h)
 at_place (m ∷ row) a h = elim (cases_eq m a) [
   | inl same ↦ here_step row m a (place_in row a) same
   | inr apart ↦ later_step row m a (place_in row a) apart (at_place row a (elim (Contains-cons_cases m row a h) [
-    | inl here ↦ absurd (apart (sym here))
+    | inl here ↦ absurd (apart here)
     | inr there ↦ there
   ]))
 ]
