@@ -7,14 +7,16 @@ use Rattle.std.proofs.lemmas.Bool.{cases_eq, eq-eqb, ne_eqb}
 use Rattle.std.proofs.lemmas.List.{map-append}
 use Rattle.std.proofs.lemmas.List.Elements.{filter-append}
 use Rattle.std.proofs.lemmas.Map.Keys.{sorted_from_strictly_increasing}
-use Rattle.std.proofs.lemmas.Option.{slice_get-get_or}
+use Rattle.std.proofs.lemmas.Option.{slice_get_within, slice_get-get_or, get_or_from_slice_get}
 use Rattle.rule_reports.proofs.Members.{Contains-nil, Contains-cons_cases}
 use Rattle.unit_sight.specs.Tables.{joins, places, neighbours}
 use Rattle.unit_sight.proofs.Counts.{filter_same}
-use Rattle.venue_nodes.proofs.Items.{member_at}
+use Rattle.unit_sight.proofs.TableLemmas.{length_places, get_or_places}
+use Rattle.venue_nodes.proofs.Items.{member_at, at_member}
 use Rattle.venue_nodes.proofs.Places.{one_number}
 use Rattle.link_graph.specs.declared.parts.Crossing.{Crossing}
 use Rattle.link_graph.specs.Cores.{place_in, joined_in, IsTableOf}
+use Rattle.link_graph.proofs.Items.{from_filter}
 
 -- ---- where a member stands
 
@@ -80,3 +82,15 @@ pub joined_in_apart : (crossing : Crossing) (row : List ℕ) (a b : ℕ) → IsT
 unfolding joined_in
 joined_in_apart crossing row a b table h e =
     true≢false (sym h ∙ ap (λ (c : ℕ). joins crossing.sights (place_in row a) (place_in row c)) (sym e) ∙ table.apart (place_in row a))
+
+-- ---- neighbours are places
+
+pub neighbour_within : (table : List (List Bool)) (i k j : ℕ) → slice_get (neighbours table i) k ≡ Some j → j < length table
+neighbour_within table i k j h =
+    let all = places (length table) in
+    let at = at_member all j (from_filter (joins table i) all j (member_at (neighbours table i) k j h)).0 in
+    let within = slice_get_within all at.0 j at.1 in
+    let long = length_places (length table) in
+    let read = get_or_from_slice_get all at.0 j 0 at.1 in
+    let is = get_or_places (length table) at.0 0 (omega (arith, within, long)) in
+    omega (arith, within, long, read, is)
