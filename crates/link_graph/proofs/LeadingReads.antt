@@ -6,7 +6,7 @@ use Rattle.std.proofs.Math.Nat.{mul-le-mul}
 use Rattle.std.proofs.lemmas.Bool.{cases_lt, lt-ltb, le-ltb}
 use Rattle.std.proofs.lemmas.Int.{ints}
 use Rattle.std.proofs.lemmas.List.{get_or_read, get_or_past}
-use Rattle.std.proofs.lemmas.Option.{same_Some, none-some, slice_get_within, slice_get-get_or, get_or_from_slice_get}
+use Rattle.std.proofs.lemmas.Option.{same_Some, none-some, slice_get_within, slice_get_read, slice_get-get_or, get_or_from_slice_get}
 use Rattle.unit_sight.specs.Tables.{neighbours}
 use Rattle.venue_types.specs.declared.link.Link.{Link}
 use Rattle.venue_types.specs.declared.link.Node.{Node}
@@ -76,6 +76,10 @@ read_at core n w p crossing row h here there =
     let same_row : h.row ≡ row = same_Some h.row row (sym h.is_row ∙ there) in
     let same_crossing : h.crossing ≡ crossing = same_Some h.crossing crossing (sym h.is_crossing ∙ here) in
     subst₂ (IsReadAt n p) same_crossing same_row (record { stands = h.once.there; rise = h.kept.rise; table = h.table })
+
+-- the unit of the row that is read
+pub crossing_read : (core : Core) (n w p : ℕ) (crossing : Crossing) → IsSeated core n w p → crossing ≡ get_or core.crossings.items w crossing → slice_get core.crossings.items w ≡ Some crossing
+crossing_read core n w p crossing h read = slice_get_read core.crossings.items (length core.crossings.items) w crossing refl (slice_get_within core.crossings.items w h.crossing h.is_crossing) read
 
 -- the place is one of the table of the unit
 pub place_read : (core : Core) (n w p : ℕ) (crossing : Crossing) → IsSeated core n w p → slice_get core.crossings.items w ≡ Some crossing → p < length crossing.sights
