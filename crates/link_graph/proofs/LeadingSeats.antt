@@ -1,5 +1,5 @@
 -- The seats of a node: where its links across units lie.
-use Rattle.std.proofs.Common.{◌≡◌, ℕ, ◌+◌, ◌-◌, ◌≤◌, suc, Bool, true, false, cond, eqb, ltb, List, [], ◌∷◌, ◌++◌, Option, Some, None, length, map, get_or, refl, sym, ap, ◌∙◌, subst, arith, inl, inr}
+use Rattle.std.proofs.Common.{◌≡◌, ℕ, ◌+◌, ◌-◌, ◌<◌, ◌≤◌, suc, Bool, true, false, cond, eqb, ltb, List, [], ◌∷◌, ◌++◌, Option, Some, None, length, map, get_or, refl, sym, ap, ◌∙◌, subst, arith, inl, inr}
 use Rattle.std.specs.Prelude.{slice_get, filter, Contains}
 use Rattle.std.specs.List.{flat_map}
 use Rattle.std.specs.List.Sorted.{IsStrictlyIncreasing}
@@ -7,7 +7,7 @@ use Rattle.std.proofs.lemmas.Bool.{eqb-true, ltb-true, ltb-false}
 use Rattle.std.proofs.lemmas.List.{length-map, nil_from_length}
 use Rattle.std.proofs.lemmas.List.Elements.{filter-append, All-contains, Contains-append_cases}
 use Rattle.std.proofs.lemmas.Map.Keys.{sorted_from_strictly_increasing}
-use Rattle.std.proofs.lemmas.Option.{slice_get_within, get_or_from_slice_get}
+use Rattle.std.proofs.lemmas.Option.{same_Some, slice_get_within}
 use Rattle.rule_reports.proofs.Members.{Contains-nil, Contains-first, Contains-later, Contains-cons_cases}
 use Rattle.unit_sight.specs.Tables.{neighbours}
 use Rattle.venue_types.specs.declared.link.Link.{Link}
@@ -194,6 +194,12 @@ seat_seated core n seat sound h =
     let of = seat_from core 0 (standings n 0 (row_list core.rows)) seat (subst (λ (ss : List Seat). Contains ss seat) (sound.seated.seats_are n) h) in
     let at = seated_at core n of.m sound of.there in
     subst (λ p. IsSeated core n seat.row p) (sym of.place) (subst (λ w. IsSeated core n w of.m.place) (sym of.row) at)
+
+-- a seat's place is one of its row
+pub seat_within : (core : Core) (n : ℕ) (seat : Seat) → IsSoundCore core → Contains (seats_at core n) seat → (members : List ℕ) → slice_get (row_list core.rows) seat.row ≡ Some members → seat.place < length members
+seat_within core n seat sound h members there =
+    let at = seat_seated core n seat sound h in
+    subst (λ (row : List ℕ). seat.place < length row) (same_Some at.row members (sym at.is_row ∙ there)) (slice_get_within at.row seat.place n at.once.there)
 
 pub seat_count : (core : Core) (n : ℕ) (seat : Seat) → IsSoundCore core → Contains (seats_at core n) seat → others_in core seat.row seat.place ≡ length (links_of_row core n seat.row)
 seat_count core n seat sound h = row_count core n seat.row seat.place (seat_seated core n seat sound h)
