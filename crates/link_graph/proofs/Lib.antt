@@ -11,6 +11,7 @@ pub mod MadeDoors
 pub mod MadeSeats
 pub mod MadeUnits
 pub mod MadeCore
+pub mod TableRows
 pub mod LeadingLists
 pub mod LeadingRows
 pub mod LeadingSeats

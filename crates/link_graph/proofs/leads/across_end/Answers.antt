@@ -9,7 +9,7 @@ use Rattle.link_graph.proofs.LeadingPlaces.{seats_end}
 use Rattle.link_graph.proofs.LeadingReads.{seats_read}
 use Rattle.link_graph.proofs.leads.across_end.Goals as goal
 
-ends : (core : Core) (n : ℕ) (list : List Seat) (seat : Seat) → IsSoundCore core → list ≡ seats_at core n → Some seat ≡ slice_get list (length list - 1) → across_count core n ≡ seat.first + others_in core seat.row
+ends : (core : Core) (n : ℕ) (list : List Seat) (seat : Seat) → IsSoundCore core → list ≡ seats_at core n → Some seat ≡ slice_get list (length list - 1) → across_count core n ≡ seat.first + others_in core seat.row seat.place
 ends core n list seat sound e there =
     let here : slice_get (seats_at core n) (length (seats_at core n) - 1) ≡ Some seat = subst (λ (ss : List Seat). slice_get ss (length ss - 1) ≡ Some seat) e (sym there) in
     let within = slice_get_within (seats_at core n) (length (seats_at core n) - 1) seat here in
