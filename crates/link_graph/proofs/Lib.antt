@@ -10,6 +10,7 @@ pub mod MadeTrails
 pub mod MadeDoors
 pub mod MadeSeats
 pub mod MadeUnits
+pub mod MadeTables
 pub mod MadeCore
 pub mod TableRows
 pub mod LeadingLists

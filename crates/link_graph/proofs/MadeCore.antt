@@ -41,16 +41,16 @@ use Rattle.link_graph.specs.declared.parts.Crossing.{Crossing}
 use Rattle.link_graph.specs.Cores.{IsSoundCore, IsCrossing, IsPassage, IsRow, AreDoors, AreSeated, links_in, links_across_all, ends_in, barred_in, seats_from, network_in}
 use Rattle.link_graph.specs.Facts.{facts_at, end_at, unit_by}
 use Rattle.link_graph.specs.Links.{first_unit, links, relationship_links}
-use Rattle.link_graph.specs.Making.{AreClose, AreRoomy, IsMadeOf, crossings_from, passages_from}
+use Rattle.link_graph.specs.Making.{AreClose, AreRoomy, AreTables, IsMadeOf, crossings_from, passages_from}
 use Rattle.link_graph.specs.Networks.{IsNetworkOf, joined_facts, link_facts}
 use Rattle.link_graph.proofs.Items.{from_flat_map, from_enumerate}
 use Rattle.link_graph.proofs.MadeDoors.{asks_are, doors_many, door_own}
 use Rattle.link_graph.proofs.MadeSeats.{seats_same, stands_nowhere}
+use Rattle.link_graph.proofs.MadeTables.{tables_fit}
 use Rattle.link_graph.proofs.MadeTrails.{passages_few}
 use Rattle.link_graph.proofs.MadeUnits.{walks, via_of, vias_rise, via_within, crossings_many, barred_is, units_are}
 use Rattle.link_graph.proofs.Passages.{of_relationship}
 use Rattle.link_graph.proofs.Ranges.{member_within, closables_count, passage_range}
-use Rattle.link_graph.proofs.Joined.{whole_in}
 
 -- what holds of each item holds of all
 all_of : {X : Type 0} (P : X → Type 0) (xs : List X) → ((x : X) → Contains xs x → P x) → All P xs
@@ -108,17 +108,25 @@ row_sound features settings core row made crowds h =
       short = row_short features settings row of_unit crowds;
     }
 
-pub rows_paired : (features : Features) (settings : Settings) (via : ℕ) (units : List UnitRow) (rows : Rows) (crossings read : List Crossing) → AreRowsOf features settings rows → units ≡ features.units → read ≡ crossings
-    → crossings ≡ crossings_from via units → length read ≡ length (row_list rows)
-rows_paired features settings via units rows crossings read are whole same made =
-    ap (λ (cs : List Crossing). length cs) (same ∙ made ∙ ap (crossings_from via) whole)
-    ∙ crossings_many via features.units
+rows_paired : (features : Features) (settings : Settings) (via : ℕ) (rows : Rows) (crossings : List Crossing) → AreRowsOf features settings rows → crossings ≡ crossings_from features settings via features.units
+    → length crossings ≡ length (row_list rows)
+rows_paired features settings via rows crossings are made =
+    ap (λ (cs : List Crossing). length cs) made
+    ∙ crossings_many features settings via features.units
     ∙ sym (length-map (walkable_units features) (members features settings))
     ∙ ap (λ (rs : List (List ℕ)). length rs) (sym are.members_are)
 
+rows_fit : (features : Features) (settings : Settings) (via : ℕ) (rows : Rows) (crossings : List Crossing) → AreRowsOf features settings rows → crossings ≡ crossings_from features settings via features.units
+    → AreTables crossings (row_list rows)
+rows_fit features settings via rows crossings are made = tables_fit features settings via rows crossings are made (rows_paired features settings via rows crossings are made)
+
+pub tables_made : (features : Features) (settings : Settings) (via : ℕ) (rows : Rows) (crossings read : List Crossing) → AreRowsOf features settings rows → read ≡ crossings → crossings ≡ crossings_from features settings via features.units
+    → AreTables read (row_list rows)
+tables_made features settings via rows crossings read are same made = rows_fit features settings via rows read are (same ∙ made)
+
 crossing_sound : (features : Features) (settings : Settings) (core : Core) (crossing : Crossing) → IsMadeOf features settings core → Contains core.crossings.items crossing → IsCrossing core crossing
 crossing_sound features settings core crossing made h =
-    let within = via_within (first_unit features) features.units crossing (subst (λ (cs : List Crossing). Contains cs crossing) made.crossings h) in
+    let within = via_within features settings (first_unit features) features.units crossing (subst (λ (cs : List Crossing). Contains cs crossing) made.crossings h) in
     let count = closables_count features in
     let first : core.first_unit ≡ first_unit features = made.first_unit_is in
     let low : first_unit features ≤ crossing.via = within.0 in
@@ -228,11 +236,11 @@ core_sound features settings core sound own crowds few law made =
     record {
       rows = all_of (IsRow core) (row_list core.rows) (λ row h. row_sound features settings core row made crowds h);
       squares = (rows_roomy features settings core.rows made.rows crowds).squares;
-      paired = rows_paired features settings (first_unit features) features.units core.rows core.crossings.items core.crossings.items made.rows refl refl made.crossings;
+      paired = rows_paired features settings (first_unit features) core.rows core.crossings.items made.rows made.crossings;
       crossings = all_of (IsCrossing core) core.crossings.items (λ crossing h. crossing_sound features settings core crossing made h);
-      whole = λ w crossing row unit there. whole_in crossing row;
+      tables = (rows_fit features settings (first_unit features) core.rows core.crossings.items made.rows made.crossings).each;
       units_last = subst (λ (xs : List FeatureId). core.first_unit ≤ length xs) (sym ids) (omega (arith, count, made.first_unit_is));
-      apart = subst (λ (cs : List Crossing). IsStrictlyIncreasing (map via_of cs)) (sym made.crossings) (vias_rise (first_unit features) features.units);
+      apart = subst (λ (cs : List Crossing). IsStrictlyIncreasing (map via_of cs)) (sym made.crossings) (vias_rise features settings (first_unit features) features.units);
       passages = all_of (IsPassage core) core.passages.items (λ link h. passage_sound features settings core link made h);
       few_passages = few_passages features settings core.passages.items sound made.passages;
       doors = doors_sound features settings core made;

@@ -36,33 +36,33 @@ via_of crossing = crossing.via
 
 -- ---- their numbers
 
-via_choice : (b : Bool) (via : ℕ) (u : UnitRow) (cs : List Crossing) (ps : List ℕ) → map via_of cs ≡ ps → map via_of (cond b (crossing_of via u ∷ cs) cs) ≡ cond b (via ∷ ps) ps
-via_choice true via u cs ps e = ap (λ (xs : List ℕ). via ∷ xs) e
-via_choice false via u cs ps e = e
+via_choice : (features : Features) (settings : Settings) (b : Bool) (via : ℕ) (u : UnitRow) (cs : List Crossing) (ps : List ℕ) → map via_of cs ≡ ps → map via_of (cond b (crossing_of features settings via u ∷ cs) cs) ≡ cond b (via ∷ ps) ps
+via_choice features settings true via u cs ps e = ap (λ (xs : List ℕ). via ∷ xs) e
+via_choice features settings false via u cs ps e = e
 
-pub vias_are : (via : ℕ) (us : List UnitRow) → map via_of (crossings_from via us) ≡ places_where walks via us
-vias_are via [] = refl
-vias_are via (u ∷ us) = via_choice (walks u) via u (crossings_from (via + 1) us) (places_where walks (via + 1) us) (vias_are (via + 1) us)
+pub vias_are : (features : Features) (settings : Settings) (via : ℕ) (us : List UnitRow) → map via_of (crossings_from features settings via us) ≡ places_where walks via us
+vias_are features settings via [] = refl
+vias_are features settings via (u ∷ us) = via_choice features settings (walks u) via u (crossings_from features settings (via + 1) us) (places_where walks (via + 1) us) (vias_are features settings (via + 1) us)
 
-pub vias_rise : (via : ℕ) (us : List UnitRow) → IsStrictlyIncreasing (map via_of (crossings_from via us))
-vias_rise via us = subst (λ (xs : List ℕ). IsStrictlyIncreasing xs) (sym (vias_are via us)) (IsStrictlyIncreasing-from_sorted (places_where walks via us) (places_rise walks via us))
+pub vias_rise : (features : Features) (settings : Settings) (via : ℕ) (us : List UnitRow) → IsStrictlyIncreasing (map via_of (crossings_from features settings via us))
+vias_rise features settings via us = subst (λ (xs : List ℕ). IsStrictlyIncreasing xs) (sym (vias_are features settings via us)) (IsStrictlyIncreasing-from_sorted (places_where walks via us) (places_rise walks via us))
 
-pub via_within : (via : ℕ) (us : List UnitRow) (crossing : Crossing) → Contains (crossings_from via us) crossing → (via ≤ crossing.via) × (crossing.via < via + length us)
-via_within via us crossing h =
-    let at = at_member (crossings_from via us) crossing h in
-    let number : slice_get (places_where walks via us) at.0 ≡ Some crossing.via = ap (λ (ps : List ℕ). slice_get ps at.0) (sym (vias_are via us)) ∙ at_map via_of (crossings_from via us) at.0 crossing at.1 in
+pub via_within : (features : Features) (settings : Settings) (via : ℕ) (us : List UnitRow) (crossing : Crossing) → Contains (crossings_from features settings via us) crossing → (via ≤ crossing.via) × (crossing.via < via + length us)
+via_within features settings via us crossing h =
+    let at = at_member (crossings_from features settings via us) crossing h in
+    let number : slice_get (places_where walks via us) at.0 ≡ Some crossing.via = ap (λ (ps : List ℕ). slice_get ps at.0) (sym (vias_are features settings via us)) ∙ at_map via_of (crossings_from features settings via us) at.0 crossing at.1 in
     let place = place_at walks via us at.0 crossing.via number in
     let is : crossing.via ≡ via + place.k = place.is in
     let under : place.k < length us = slice_get_within us place.k place.x place.there in
     (omega arith, omega arith)
 
-choice_many : (b : Bool) (via : ℕ) (u : UnitRow) (cs : List Crossing) (us : List UnitRow) → length cs ≡ length us → length (cond b (crossing_of via u ∷ cs) cs) ≡ length (cond b (u ∷ us) us)
-choice_many true via u cs us e = ap suc e
-choice_many false via u cs us e = e
+choice_many : (features : Features) (settings : Settings) (b : Bool) (via : ℕ) (u : UnitRow) (cs : List Crossing) (us : List UnitRow) → length cs ≡ length us → length (cond b (crossing_of features settings via u ∷ cs) cs) ≡ length (cond b (u ∷ us) us)
+choice_many features settings true via u cs us e = ap suc e
+choice_many features settings false via u cs us e = e
 
-pub crossings_many : (via : ℕ) (us : List UnitRow) → length (crossings_from via us) ≡ length (filter walks us)
-crossings_many via [] = refl
-crossings_many via (u ∷ us) = choice_many (walks u) via u (crossings_from (via + 1) us) (filter walks us) (crossings_many (via + 1) us)
+pub crossings_many : (features : Features) (settings : Settings) (via : ℕ) (us : List UnitRow) → length (crossings_from features settings via us) ≡ length (filter walks us)
+crossings_many features settings via [] = refl
+crossings_many features settings via (u ∷ us) = choice_many features settings (walks u) via u (crossings_from features settings (via + 1) us) (filter walks us) (crossings_many features settings (via + 1) us)
 
 -- ---- whether they are restricted
 
@@ -115,15 +115,15 @@ way_same features settings core a b ground =
     ∙ ap₂ (λ (x y : ℕ). length_between (spot_of features settings a) (spot_of features settings b) x y) ground.kx_is ground.ky_is
 
 across_same : (features : Features) (settings : Settings) (core : Core) (via : ℕ) (u : UnitRow) (row : List ℕ) → HasGround features settings core
-    → flat_map (λ a. map (λ b. record { from = a; to = b; via = via; cost = way_in core a b; kind = unit_kind_of u.category }) (filter (joined_in (crossing_of via u) row a) row)) row
+    → flat_map (λ a. map (λ b. record { from = a; to = b; via = via; cost = way_in core a b; kind = unit_kind_of u.category }) (filter (joined_in (crossing_of features settings via u) row a) row)) row
     ≡ flat_map (λ a. map (inside_link features settings via u a) (filter (are_joined features settings u a) row)) row
 across_same features settings core via u row ground =
     joined_same _ _ row (λ a. ap (map (λ b. record { from = a; to = b; via = via; cost = way_in core a b; kind = unit_kind_of u.category }))
-    (filter_same (joined_in (crossing_of via u) row a) (are_joined features settings u a) row (λ b h. kept_so features settings u (crossing_of via u) row a b))
+    (filter_same (joined_in (crossing_of features settings via u) row a) (are_joined features settings u a) row (λ b h. kept_so features settings u (crossing_of features settings via u) row a b))
     ∙ mapped_same _ _ (filter (are_joined features settings u a) row) (λ b. ap (λ (n : ℕ). record { from = a; to = b; via = via; cost = n; kind = unit_kind_of u.category }) (way_same features settings core a b ground)))
 
 unit_same : (features : Features) (settings : Settings) (core : Core) (via : ℕ) (u : UnitRow) → walks u ≡ true → HasGround features settings core
-    → links_across core (crossing_of via u) (members features settings u) ≡ unit_links features settings (via, u)
+    → links_across core (crossing_of features settings via u) (members features settings u) ≡ unit_links features settings (via, u)
 unit_same features settings core via u walked ground =
     let moving = not (carries u) in
     let inside = flat_map (λ a. map (inside_link features settings via u a) (filter (are_joined features settings u a) (members features settings u))) (members features settings u) in
@@ -137,13 +137,13 @@ solid_none features settings via u solid =
     ap (λ (b : Bool). cond (b && moving) inside []) solid
 
 units_step : (features : Features) (settings : Settings) (core : Core) (via : ℕ) (u : UnitRow) (us : List UnitRow) (b : Bool) → walks u ≡ b → HasGround features settings core
-    → links_across_all core (crossings_from (via + 1) us) (map (members features settings) (filter walks us)) ≡ flat_map (unit_links features settings) (enumerate_from (via + 1) us)
-    → links_across_all core (cond b (crossing_of via u ∷ crossings_from (via + 1) us) (crossings_from (via + 1) us)) (map (members features settings) (cond b (u ∷ filter walks us) (filter walks us)))
+    → links_across_all core (crossings_from features settings (via + 1) us) (map (members features settings) (filter walks us)) ≡ flat_map (unit_links features settings) (enumerate_from (via + 1) us)
+    → links_across_all core (cond b (crossing_of features settings via u ∷ crossings_from features settings (via + 1) us) (crossings_from features settings (via + 1) us)) (map (members features settings) (cond b (u ∷ filter walks us) (filter walks us)))
     ≡ unit_links features settings (via, u) ++ flat_map (unit_links features settings) (enumerate_from (via + 1) us)
 units_step features settings core via u us true e ground rest = ap₂ (λ (xs ys : List Link). xs ++ ys) (unit_same features settings core via u e ground) rest
 units_step features settings core via u us false e ground rest = rest ∙ ap (λ (xs : List Link). xs ++ flat_map (unit_links features settings) (enumerate_from (via + 1) us)) (sym (solid_none features settings via u e))
 
 pub units_are : (features : Features) (settings : Settings) (core : Core) (via : ℕ) (us : List UnitRow) → HasGround features settings core
-    → links_across_all core (crossings_from via us) (map (members features settings) (filter walks us)) ≡ flat_map (unit_links features settings) (enumerate_from via us)
+    → links_across_all core (crossings_from features settings via us) (map (members features settings) (filter walks us)) ≡ flat_map (unit_links features settings) (enumerate_from via us)
 units_are features settings core via [] ground = refl
 units_are features settings core via (u ∷ us) ground = units_step features settings core via u us (walks u) refl ground (units_are features settings core (via + 1) us ground)
