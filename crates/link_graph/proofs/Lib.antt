@@ -14,7 +14,6 @@ pub mod MadeDoors
 pub mod MadeSeats
 pub mod MadeUnits
 pub mod MadeCore
-pub mod TableRows
 pub mod LeadingLists
 pub mod LeadingRows
 pub mod LeadingSeats
