@@ -1,13 +1,14 @@
 -- The units of a graph, as they are made.
-use Rattle.std.proofs.Common.{◌≡◌, ℕ, zero, suc, ◌+◌, ◌-◌, ◌<◌, ◌≤◌, Bool, true, false, cond, not, ◌&&◌, List, [], ◌∷◌, ◌++◌, Option, Some, None, length, map, flat_map, filter, replicate, get_or, pos, refl, sym, ap, ap₂, ◌∙◌, subst, inl, inr, arith}
+use Rattle.std.proofs.Common.{◌≡◌, ℕ, zero, suc, ◌+◌, ◌-◌, ◌<◌, ◌≤◌, Bool, true, false, cond, not, ◌&&◌, List, [], ◌∷◌, ◌++◌, Option, Some, None, length, map, flat_map, filter, replicate, get_or, take, pos, refl, sym, ap, ap₂, ◌∙◌, subst, inl, inr, arith}
 use Rattle.std.specs.Prelude.{Contains, slice_get, nat_lt}
 use Rattle.std.specs.List.{enumerate_from}
 use Rattle.std.specs.List.Sorted.{IsStrictlyIncreasing}
 use Rattle.std.specs.Option.{option_map_or}
+use Rattle.std.proofs.Math.Seq.{take-suc, take-length}
 use Rattle.std.proofs.lemmas.Bool.{cases_lt, lt-ltb, le-ltb}
 use Rattle.std.proofs.lemmas.List.{length-map, length-replicate, get_or-replicate, get_or-append-add, get_or_append_left}
 use Rattle.std.proofs.lemmas.Map.Keys.{IsStrictlyIncreasing-from_sorted}
-use Rattle.std.proofs.lemmas.Option.{same_Some, slice_get_within}
+use Rattle.std.proofs.lemmas.Option.{same_Some, slice_get_within, get_or_from_slice_get}
 use Rattle.venue_types.specs.declared.features.Features.{Features}
 use Rattle.venue_types.specs.declared.features.UnitRow.{UnitRow}
 use Rattle.venue_types.specs.declared.link.Link.{Link}
@@ -20,7 +21,7 @@ use Rattle.venue_nodes.specs.Nodes.{nodes, carries}
 use Rattle.venue_nodes.specs.Rows.{AreRowsOf, row_list, unit_indexes}
 use Rattle.venue_nodes.specs.Views.{node_list}
 use Rattle.venue_nodes.specs.declared.members.Rows.{Rows}
-use Rattle.venue_nodes.proofs.Items.{at_member, at_map, from_map}
+use Rattle.venue_nodes.proofs.Items.{at_member, member_at, at_map, from_map}
 use Rattle.venue_nodes.proofs.Places.{kept_at, places_rise, place_at}
 use Rattle.link_graph.specs.declared.parts.Core.{Core}
 use Rattle.link_graph.specs.declared.parts.Crossing.{Crossing}
@@ -114,6 +115,32 @@ row_at features settings rows via w k row are h number =
       is = sym from.2;
       crossed = subst (λ (m : ℕ). slice_get (crossings_from features settings m features.units) w ≡ Some (crossing_of features settings (via + k) from.0)) none (crossing_kept features settings via 0 features.units w k from.0 from.1 placed);
     }
+
+-- the same of a unit that is read at the index
+pub record IsRowOf (features : Features) (settings : Settings) (via w k : ℕ) (row : List ℕ) (u : UnitRow) : Type 0 where
+  pub own : Contains features.units u
+  pub is : row ≡ members features settings u
+  pub crossed : slice_get (crossings_from features settings via features.units) w ≡ Some (crossing_of features settings (via + k) u)
+
+pub row_of : (features : Features) (settings : Settings) (via w k : ℕ) (row : List ℕ) (units : List UnitRow) (u : UnitRow) → IsRowAt features settings via w k row → units ≡ features.units → u ≡ get_or units k u
+    → IsRowOf features settings via w k row u
+row_of features settings via w k row units u at whole read =
+    let there = subst (λ (us : List UnitRow). slice_get us k ≡ Some at.u) (sym whole) at.there in
+    let same : at.u ≡ u = sym (read ∙ get_or_from_slice_get units k at.u u there) in
+    subst (IsRowOf features settings via w k row) same (record { own = member_at features.units k at.u at.there; is = at.is; crossed = at.crossed })
+
+-- one more of a list
+pub taken_next : (all old new : List Crossing) (w : ℕ) (crossing : Crossing) → old ≡ take w all → slice_get all w ≡ Some crossing → new ≡ old ++ crossing ∷ [] → new ≡ take (w + 1) all
+taken_next all old new w crossing before at grown =
+    let on : suc w ≡ w + 1 = omega arith in
+    grown
+    ∙ ap (λ (cs : List Crossing). cs ++ crossing ∷ []) before
+    ∙ ap (λ (c : Crossing). take w all ++ c ∷ []) (sym (get_or_from_slice_get all w crossing crossing at))
+    ∙ sym (take-suc all w crossing (slice_get_within all w crossing at))
+    ∙ ap (λ (n : ℕ). take n all) on
+
+pub all_taken : (all read : List Crossing) (w count : ℕ) → read ≡ take w all → w ≡ count → length all ≡ count → read ≡ all
+all_taken all read w count taken last many = taken ∙ ap (λ (n : ℕ). take n all) (last ∙ sym many) ∙ take-length all
 
 -- there is a unit for each row, and its table fits it
 pub rows_paired : (features : Features) (settings : Settings) (rows : Rows) (via : ℕ) → AreRowsOf features settings rows → length (crossings_from features settings via features.units) ≡ length (row_list rows)

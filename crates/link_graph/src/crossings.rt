@@ -72,7 +72,8 @@ impl Ground<'_> {
     {
         let mut crossings = Vec::new(alloc);
         for w in 0..rows.len() {
-            crossings.push(self.room(alloc, first, rows, w)?)?;
+            let crossing = self.room(alloc, first, rows, w)?;
+            crossings.push(crossing)?;
         }
         Ok(crossings)
     }
