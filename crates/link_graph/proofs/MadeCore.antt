@@ -1,5 +1,5 @@
 -- What is made of features is sound, and its network is theirs.
-use Rattle.std.proofs.Common.{◌≡◌, ◌≢◌, ℕ, ◌+◌, ◌<◌, ◌≤◌, Bool, true, false, List, [], ◌++◌, Some, None, All, length, map, replicate, get_or, refl, sym, ap, ap₂, ◌∙◌, subst, inl, inr, arith, length-append}
+use Rattle.std.proofs.Common.{◌≡◌, ◌≢◌, ℕ, ◌+◌, ◌<◌, ◌≤◌, Bool, true, false, List, [], ◌++◌, Some, None, All, length, map, replicate, get_or, sym, ap, ap₂, ◌∙◌, subst, inl, inr, arith, length-append}
 use Rattle.std.specs.Prelude.{Contains, slice_get, AllPairs}
 use Rattle.std.specs.List.{enumerate_from}
 use Rattle.std.specs.List.Sorted.{IsStrictlyIncreasing}
@@ -7,7 +7,6 @@ use Rattle.std.specs.Option.{option_map_or}
 use Rattle.std.proofs.lemmas.Bool.{cases_lt}
 use Rattle.std.proofs.lemmas.List.{length-map, length-replicate, get_or_past}
 use Rattle.std.proofs.lemmas.List.Elements.{All-contains, All-contains_itself}
-use Rattle.std.proofs.lemmas.Map.Keys.{IsStrictlyIncreasing-from_sorted}
 use Rattle.std.proofs.lemmas.Option.{slice_get_within, slice_get-get_or}
 use Rattle.venue_types.specs.declared.feature_id.FeatureId.{FeatureId}
 use Rattle.venue_types.specs.declared.features.Features.{Features}
@@ -25,8 +24,8 @@ use Rattle.plane_exact.specs.Plane.{IsCloseDoubled}
 use Rattle.venue_nodes.specs.declared.nodes.Nodes.{Nodes}
 use Rattle.venue_nodes.specs.declared.members.Rows.{Rows}
 use Rattle.venue_nodes.specs.Crowds.{Crowds, IsRoomy}
-use Rattle.venue_nodes.specs.Members.{members, is_member}
-use Rattle.venue_nodes.specs.Nodes.{nodes, node_rows, closables, walkable_units}
+use Rattle.venue_nodes.specs.Members.{members}
+use Rattle.venue_nodes.specs.Nodes.{nodes, closables, walkable_units}
 use Rattle.venue_nodes.specs.Numbering.{number_among}
 use Rattle.venue_nodes.specs.Rows.{AreRowsOf, row_list}
 use Rattle.venue_nodes.specs.Standing.{standings}
@@ -35,7 +34,7 @@ use Rattle.venue_nodes.proofs.Counts.{are_few}
 use Rattle.venue_nodes.proofs.Items.{at_member, from_map}
 use Rattle.venue_nodes.proofs.Limiting.{squares_are}
 use Rattle.venue_nodes.proofs.Once.{closables_once}
-use Rattle.venue_nodes.proofs.Places.{kept_at, places_rise}
+use Rattle.venue_nodes.proofs.Places.{kept_at}
 use Rattle.link_graph.specs.declared.parts.Core.{Core}
 use Rattle.link_graph.specs.declared.parts.Crossing.{Crossing}
 use Rattle.link_graph.specs.Cores.{IsSoundCore, IsCrossing, IsPassage, IsRow, AreDoors, AreSeated, links_in, links_across_all, ends_in, barred_in, seats_from, network_in}
