@@ -1,6 +1,9 @@
 pub mod Lengths
 pub mod Items
 pub mod Joined
+pub mod TableRows
+pub mod RoomSpots
+pub mod RoomTables
 pub mod Passages
 pub mod Sorts
 pub mod Ranges
