@@ -75,7 +75,7 @@ read_at : (core : Core) (n w p : ℕ) (crossing : Crossing) (row : List ℕ) →
 read_at core n w p crossing row h here there =
     let same_row : h.row ≡ row = same_Some h.row row (sym h.is_row ∙ there) in
     let same_crossing : h.crossing ≡ crossing = same_Some h.crossing crossing (sym h.is_crossing ∙ here) in
-    subst₂ (IsReadAt n p) same_crossing same_row (record { stands = h.once.there; rise = h.kept.rise; table = h.table })
+    subst₂ (IsReadAt n p) same_crossing same_row (record { stands = h.stands; rise = h.kept.rise; table = h.table })
 
 -- the unit of the row that is read
 pub crossing_read : (core : Core) (n w p : ℕ) (crossing : Crossing) → IsSeated core n w p → crossing ≡ get_or core.crossings.items w crossing → slice_get core.crossings.items w ≡ Some crossing
