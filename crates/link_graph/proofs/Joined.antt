@@ -51,14 +51,14 @@ pub whole_seeing : (features : Features) (settings : Settings) (u : UnitRow)
 unfolding are_joined
 whole_seeing features settings u seeing = record {
   joined = λ a b h k apart. by_whole settings.inside features settings u a b
-  (λ clear. seeing_whole (sees features settings u) (way features settings) (members features settings u) a b seeing h k) apart;
+      (λ clear. seeing_whole (sees features settings u) (way features settings) (members features settings u) a b seeing h k) apart;
 }
 
 pub whole_blind : (features : Features) (settings : Settings) (u : UnitRow) → are_blind (sees features settings u) (members features settings u) ≡ true → IsWhole features settings u
 unfolding are_joined
 whole_blind features settings u blind = record {
   joined = λ a b h k apart. by_whole settings.inside features settings u a b
-  (λ clear. blind_whole (sees features settings u) (way features settings) (members features settings u) a b blind) apart;
+      (λ clear. blind_whole (sees features settings u) (way features settings) (members features settings u) a b blind) apart;
 }
 
 -- ---- what is the same for all items of a list

@@ -156,7 +156,7 @@ row_table features settings rows via w crossing row are made h =
     let kept = kept_at walks 0 features.units w from.0 from.1 in
     let none : via + 0 ≡ via = omega arith in
     let crossed = subst (λ (m : ℕ). slice_get (crossings_from features settings m features.units) w ≡ Some (crossing_of features settings (via + (0 + kept.k)) from.0)) none
-        (crossing_kept features settings via 0 features.units w (0 + kept.k) from.0 from.1 kept.placed) in
+    (crossing_kept features settings via 0 features.units w (0 + kept.k) from.0 from.1 kept.placed) in
     subst (λ (r : List ℕ). IsTableOf crossing r) from.2
     (subst (λ (c : Crossing). IsTableOf c (members features settings from.0)) (same_Some _ crossing (sym crossed ∙ made))
     (table_fits features settings (via + (0 + kept.k)) from.0))
