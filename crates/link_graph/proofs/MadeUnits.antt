@@ -27,8 +27,8 @@ use Rattle.link_graph.specs.declared.parts.Core.{Core}
 use Rattle.link_graph.specs.declared.parts.Crossing.{Crossing}
 use Rattle.link_graph.specs.Cores.{way_in, links_across, links_across_all, links_across_from, joined_in, IsTableOf}
 use Rattle.link_graph.specs.Lengths.{length_between}
-use Rattle.link_graph.specs.Links.{first_unit, spot_of, are_joined, inside_link, links_from, unit_links, way}
-use Rattle.link_graph.specs.Making.{AreTables, IsMadeOf, crossing_of, crossings_from, barred_from}
+use Rattle.link_graph.specs.Links.{spot_of, are_joined, inside_link, links_from, unit_links, way}
+use Rattle.link_graph.specs.Making.{AreTables, crossing_of, crossings_from, barred_from}
 use Rattle.link_graph.proofs.Joined.{filter_same, flat_map_within}
 use Rattle.link_graph.proofs.RoomTables.{kept_so, table_fits}
 
@@ -156,7 +156,7 @@ row_table features settings rows via w crossing row are made h =
     let kept = kept_at walks 0 features.units w from.0 from.1 in
     let none : via + 0 ≡ via = omega arith in
     let crossed = subst (λ (m : ℕ). slice_get (crossings_from features settings m features.units) w ≡ Some (crossing_of features settings (via + (0 + kept.k)) from.0)) none
-        (crossing_kept features settings via 0 features.units w (0 + kept.k) from.0 from.1 kept.placed) in
+    (crossing_kept features settings via 0 features.units w (0 + kept.k) from.0 from.1 kept.placed) in
     subst (λ (r : List ℕ). IsTableOf crossing r) from.2
     (subst (λ (c : Crossing). IsTableOf c (members features settings from.0)) (same_Some _ crossing (sym crossed ∙ made))
     (table_fits features settings (via + (0 + kept.k)) from.0))
@@ -166,11 +166,6 @@ tables_fit features settings rows via are = record {
   paired = rows_paired features settings rows via are;
   each = λ w crossing row made h. row_table features settings rows via w crossing row are made h;
 }
-
-pub tables_made : (features : Features) (settings : Settings) (core : Core) → IsMadeOf features settings core
-    → (w : ℕ) (crossing : Crossing) (row : List ℕ) → slice_get core.crossings.items w ≡ Some crossing → slice_get (row_list core.rows) w ≡ Some row → IsTableOf crossing row
-tables_made features settings core made w crossing row there h =
-    row_table features settings core.rows (first_unit features) w crossing row made.rows (ap (λ (cs : List Crossing). slice_get cs w) (sym made.crossings) ∙ there) h
 
 -- ---- whether they are restricted
 

@@ -1,18 +1,17 @@
 -- Where members stand and where the walls of their room are: as close, and as far from the middle of the plane, as who asks for the sights of a room wants.
-use Rattle.std.proofs.Common.{◌≡◌, ℕ, ◌<◌, ◌≤◌, ℤ, pos, ◌+ℤ◌, ◌*ℤ◌, List, ◌++◌, Option, Some, None, All, length, map, get_or, refl, sym, ap, ap₂, ◌∙◌, subst, inl, inr, arith}
+use Rattle.std.proofs.Common.{◌≡◌, ℕ, ◌<◌, ℤ, pos, ◌+ℤ◌, ◌*ℤ◌, List, ◌++◌, Option, Some, None, All, length, map, get_or, refl, sym, ap, ◌∙◌, subst, inl, inr, arith}
 use Rattle.std.specs.Prelude.{Contains, slice_get}
 use Rattle.std.proofs.lemmas.Int.{ints}
 use Rattle.std.proofs.lemmas.List.{length-map, get_or-map}
-use Rattle.std.proofs.lemmas.List.Elements.{All-append, All-contains, Contains-append_cases, Contains-get_or}
+use Rattle.std.proofs.lemmas.List.Elements.{All-append, All-contains, Contains-append_cases}
 use Rattle.std.proofs.lemmas.Option.{slice_get_cases}
 use Rattle.venue_types.specs.declared.features.Features.{Features}
 use Rattle.venue_types.specs.declared.features.UnitRow.{UnitRow}
 use Rattle.venue_types.specs.declared.link.Node.{Node}
 use Rattle.venue_types.specs.declared.point.Point.{Point}
-use Rattle.venue_types.specs.declared.point.Shape.{Shape}
 use Rattle.venue_types.specs.declared.point.Spot.{Spot}
 use Rattle.venue_types.specs.declared.settings.Settings.{Settings}
-use Rattle.plane_exact.specs.Plane.{IsWithin, IsClose, IsCloseDoubled, IsInRange, IsNearby}
+use Rattle.plane_exact.specs.Plane.{IsWithin, IsCloseDoubled, IsInRange, IsNearby}
 use Rattle.plane_exact.specs.Figure.{AllClose, AllNearby, vertices}
 use Rattle.plane_exact.specs.Scaled.{times, scaled}
 use Rattle.plane_exact.specs.Sight.{at_spot}
@@ -169,11 +168,11 @@ room_lengths features settings row sound close within =
     let size = length-map row (spot_at list) in
     record {
       lengths = λ i j low high.
-        let first : i < length row = omega (arith, low, size) in
-        let second : j < length row = omega (arith, high, size) in
-        rw (get_or-map (spot_at list) row i 0 none first, get_or-map (spot_at list) row j 0 none second)
-        (between_length (spot_at list (get_or row i 0)) (spot_at list (get_or row j 0)) settings.kx settings.ky
-        (spots_close features settings (get_or row i 0) (get_or row j 0) sound close (within i 0 first) (within j 0 second)) settings.kx_range settings.ky_range);
+          let first : i < length row = omega (arith, low, size) in
+          let second : j < length row = omega (arith, high, size) in
+          rw (get_or-map (spot_at list) row i 0 none first, get_or-map (spot_at list) row j 0 none second)
+          (between_length (spot_at list (get_or row i 0)) (spot_at list (get_or row j 0)) settings.kx settings.ky
+          (spots_close features settings (get_or row i 0) (get_or row j 0) sound close (within i 0 first) (within j 0 second)) settings.kx_range settings.ky_range);
     }
 
 -- ---- of a row of members, whose spots are read from the nodes that are kept

@@ -1,10 +1,10 @@
 -- Which members of a unit are joined, as its table tells: the table of a room is made of what its members see, and fits its row.
-use Rattle.std.proofs.Common.{◌≡◌, ℕ, ◌<◌, ◌≤◌, Bool, true, false, cond, not, ◌&&◌, ◌||◌, ◌==◌, List, [], ◌∷◌, Option, Some, All, length, map, filter, get_or, pos, refl, sym, ap, ap₂, ◌∙◌, subst, inl, inr, arith}
-use Rattle.std.specs.Prelude.{Contains, slice_get, IsTrue}
+use Rattle.std.proofs.Common.{◌≡◌, ℕ, ◌<◌, ◌≤◌, Bool, true, false, cond, not, ◌&&◌, ◌||◌, ◌==◌, List, [], ◌∷◌, Option, length, map, get_or, pos, refl, sym, ap, ap₂, ◌∙◌, subst, inl, inr, arith}
+use Rattle.std.specs.Prelude.{Contains}
 use Rattle.std.specs.List.{list_all}
 use Rattle.std.specs.Option.{option_map_or}
 use Rattle.std.specs.List.Sorted.{IsStrictlyIncreasing}
-use Rattle.std.proofs.lemmas.Bool.{cases_lt, cases_eq, eq-eqb, ne_eqb}
+use Rattle.std.proofs.lemmas.Bool.{cases_lt, eq-eqb, ne_eqb}
 use Rattle.std.proofs.lemmas.List.{length-map, get_or-map, get_or_past}
 use Rattle.std.proofs.lemmas.List.Elements.{Contains-get_or}
 use Rattle.std.proofs.lemmas.List.Kept.{AllPairs-from_increasing}
@@ -13,12 +13,11 @@ use Rattle.std.proofs.lemmas.Option.{slice_get_within, get_or_from_slice_get}
 use Rattle.venue_types.proofs.Items.{Contains-first, Contains-later}
 use Rattle.venue_types.specs.declared.features.Features.{Features}
 use Rattle.venue_types.specs.declared.features.UnitRow.{UnitRow}
-use Rattle.venue_types.specs.declared.link.Node.{Node}
 use Rattle.venue_types.specs.declared.point.Spot.{Spot}
 use Rattle.venue_types.specs.declared.settings.Inside.{Inside}
 use Rattle.venue_types.specs.declared.settings.Inside.TheVariants.{Straight, Clear}
 use Rattle.venue_types.specs.declared.settings.Settings.{Settings}
-use Rattle.unit_sight.specs.Joined.{is_blind, are_blind, seeing, nearest, host_of, is_guest_of, is_joined}
+use Rattle.unit_sight.specs.Joined.{is_blind, are_blind, nearest, host_of, is_guest_of, is_joined}
 use Rattle.unit_sight.specs.Rooms.{joined_places, sees_in}
 use Rattle.unit_sight.specs.Tables.{joins, places, table_of}
 use Rattle.unit_sight.proofs.PlacesLaw.{joined_by_place}
@@ -27,7 +26,6 @@ use Rattle.venue_nodes.specs.Members.{members, is_member}
 use Rattle.venue_nodes.specs.Nodes.{nodes, node_rows, carries}
 use Rattle.venue_nodes.proofs.Places.{places_rise}
 use Rattle.plane_exact.proofs.DecisionLemmas.{not_true}
-use Rattle.link_graph.specs.declared.parts.Crossing.{Crossing}
 use Rattle.link_graph.specs.Cores.{joined_in, place_in, IsTableOf}
 use Rattle.link_graph.specs.Links.{are_joined, joined_by, sees, way, wall_tol}
 use Rattle.link_graph.specs.Making.{crossing_of, joined_at, room_table, spot_at}

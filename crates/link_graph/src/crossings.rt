@@ -37,13 +37,7 @@ impl Ground<'_> {
     }
 
     // The unit of a row of members, where the first unit has this number among what can be closed.
-    fn room(
-        &self,
-        alloc: Global,
-        first: u32,
-        rows: &Rows,
-        w: u32,
-    ) -> Result<Crossing, OutOfMemory>
+    fn room(&self, alloc: Global, first: u32, rows: &Rows, w: u32) -> Result<Crossing, OutOfMemory>
         requires ground { IsRoomGround self.now }
         requires rows { AreRowsOf self.now.features.now self.now.settings.now rows.now }
         requires roomy { AreRoomy (row_list rows.now) }

@@ -44,7 +44,7 @@ returns c =
     let far = far_at features settings row in
     let spots = spots_are features settings c.args.self.now.nodes.now row read c.in_ok-spots.spots.items c.requires.ground.nodes c.deref.ensures.value c.in_ok-spots.ensures in
     let lengths = subst (λ (ss : List Spot). AreLengths ss settings.kx settings.ky far) (sym spots)
-        (room_lengths features settings row c.requires.ground.sound c.requires.ground.close (members_low features settings unit row c.requires.row)) in
+    (room_lengths features settings row c.requires.ground.sound c.requires.ground.close (members_low features settings unit row c.requires.row)) in
     IfOk-weaker c.of.result (λ sights. sights ≡ joined_places unit.shape read tolerance far) (λ sights. sights ≡ room_table features settings unit)
     (λ sights told. told ∙ clear_table features settings unit row read tolerance c.requires.row spots c.wall_tolerance-tolerance.ensures.value c.requires.clear c.requires.still)
     (c.of.ensures far lengths)
