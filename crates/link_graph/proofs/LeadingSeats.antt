@@ -1,12 +1,10 @@
 -- The seats of a node: where its links across units lie.
-use Rattle.std.proofs.Common.{◌≡◌, ℕ, ◌+◌, ◌-◌, ◌<◌, ◌≤◌, suc, Bool, true, false, cond, eqb, ltb, List, [], ◌∷◌, ◌++◌, Option, Some, None, length, map, get_or, refl, sym, ap, ◌∙◌, subst, arith, inl, inr}
+use Rattle.std.proofs.Common.{◌≡◌, ℕ, ◌+◌, ◌<◌, ◌≤◌, suc, Bool, true, false, cond, eqb, ltb, List, [], ◌∷◌, ◌++◌, Option, Some, None, length, map, get_or, refl, sym, ap, ◌∙◌, subst, arith, inl, inr}
 use Rattle.std.specs.Prelude.{slice_get, filter, Contains}
 use Rattle.std.specs.List.{flat_map}
-use Rattle.std.specs.List.Sorted.{IsStrictlyIncreasing}
 use Rattle.std.proofs.lemmas.Bool.{eqb-true, ltb-true, ltb-false}
 use Rattle.std.proofs.lemmas.List.{length-map, nil_from_length}
 use Rattle.std.proofs.lemmas.List.Elements.{filter-append, All-contains, Contains-append_cases}
-use Rattle.std.proofs.lemmas.Map.Keys.{sorted_from_strictly_increasing}
 use Rattle.std.proofs.lemmas.Option.{same_Some, slice_get_within}
 use Rattle.rule_reports.proofs.Members.{Contains-nil, Contains-first, Contains-later, Contains-cons_cases}
 use Rattle.unit_sight.specs.Tables.{neighbours}
@@ -16,7 +14,7 @@ use Rattle.venue_nodes.specs.Members.{places_where}
 use Rattle.venue_nodes.specs.Rows.{row_list}
 use Rattle.venue_nodes.specs.Standing.{standings}
 use Rattle.venue_nodes.proofs.Items.{member_at, at_member}
-use Rattle.venue_nodes.proofs.Places.{place_at, one_number}
+use Rattle.venue_nodes.proofs.Places.{place_at}
 use Rattle.venue_nodes.proofs.Spread.{from_map}
 use Rattle.link_graph.specs.declared.parts.Core.{Core}
 use Rattle.link_graph.specs.declared.parts.Crossing.{Crossing}
@@ -114,9 +112,9 @@ pub row_count : (core : Core) (n w place : ℕ) → IsSeated core n w place → 
 row_count core n w place h =
     let next = neighbours h.crossing.sights place in
     let many : length (links_across_from core h.crossing h.row n) ≡ length next =
-        length-map (filter (joined_in h.crossing h.row n) h.row) (link_across core h.crossing n)
-        ∙ ap length (joined_row h.crossing h.row place n h.kept.rise h.table h.stands)
-        ∙ length-map next (λ j. get_or h.row j 0) in
+    length-map (filter (joined_in h.crossing h.row n) h.row) (link_across core h.crossing n)
+    ∙ ap length (joined_row h.crossing h.row place n h.kept.rise h.table h.stands)
+    ∙ length-map next (λ j. get_or h.row j 0) in
     others_known core w place h.crossing h.is_crossing
     ∙ sym (count_of h.crossing.walked (links_across_from core h.crossing h.row n) (length next) many)
     ∙ sym (ap length (row_known core n w h.crossing h.row h.is_crossing h.is_row))
