@@ -62,7 +62,7 @@ kept_by_place t row (suc n) h =
 
 -- ---- who is joined
 
-same_place : (crossing : Crossing) (row : List ℕ) (i a j : ℕ) → IsStrictlyIncreasing row → slice_get row i ≡ Some a → j < length row → joined_in crossing row a (get_or row j 0) ≡ joins crossing.sights i j
+pub same_place : (crossing : Crossing) (row : List ℕ) (i a j : ℕ) → IsStrictlyIncreasing row → slice_get row i ≡ Some a → j < length row → joined_in crossing row a (get_or row j 0) ≡ joins crossing.sights i j
 unfolding joined_in
 same_place crossing row i a j rise at low =
     ap (λ (p : ℕ). joins crossing.sights p (place_in row (get_or row j 0))) (place_at row i a rise at)
