@@ -1,5 +1,5 @@
 -- What the code reads of a graph, and the ways between its nodes.
-use Rattle.std.proofs.Common.{◌≡◌, ℕ, ◌+◌, ◌-◌, ◌<◌, ◌≤◌, ◌↔◌, pos, Bool, true, false, cond, List, [], Option, Some, None, length, get_or, refl, sym, ap, ◌∙◌, subst, subst₂, arith, inl, inr}
+use Rattle.std.proofs.Common.{◌≡◌, ℕ, ◌+◌, ◌<◌, ◌≤◌, ◌↔◌, pos, Bool, true, false, cond, List, [], Option, Some, None, length, get_or, refl, sym, ap, ◌∙◌, subst, subst₂, arith, inl, inr}
 use Rattle.std.specs.Prelude.{slice_get, filter}
 use Rattle.std.specs.List.Sorted.{IsStrictlyIncreasing}
 use Rattle.std.proofs.Math.Nat.{mul-le-mul}
@@ -75,7 +75,7 @@ read_at : (core : Core) (n w p : ℕ) (crossing : Crossing) (row : List ℕ) →
 read_at core n w p crossing row h here there =
     let same_row : h.row ≡ row = same_Some h.row row (sym h.is_row ∙ there) in
     let same_crossing : h.crossing ≡ crossing = same_Some h.crossing crossing (sym h.is_crossing ∙ here) in
-    subst₂ (IsReadAt n p) same_crossing same_row (record { stands = h.once.there; rise = h.kept.rise; table = h.table })
+    subst₂ (IsReadAt n p) same_crossing same_row (record { stands = h.stands; rise = h.kept.rise; table = h.table })
 
 -- the unit of the row that is read
 pub crossing_read : (core : Core) (n w p : ℕ) (crossing : Crossing) → IsSeated core n w p → crossing ≡ get_or core.crossings.items w crossing → slice_get core.crossings.items w ≡ Some crossing
@@ -119,8 +119,8 @@ across_lead core n w p k place crossing row h here there below joined =
     let read = read_at core n w p crossing row h here there in
     let some = some_joined core w p k crossing here below in
     let item : slice_get (filter (joined_in crossing row n) row) k ≡ Some (get_or row place 0) =
-        ap (λ (xs : List ℕ). slice_get xs k) (joined_row crossing row p n read.rise read.table read.stands)
-        ∙ at_map (λ (j : ℕ). get_or row j 0) (neighbours crossing.sights p) k place joined in
+    ap (λ (xs : List ℕ). slice_get xs k) (joined_row crossing row p n read.rise read.table read.stands)
+    ∙ at_map (λ (j : ℕ). get_or row j 0) (neighbours crossing.sights p) k place joined in
     ap (λ (ls : List Link). slice_get ls k) (row_known core n w crossing row here there)
     ∙ ap (λ (b : Bool). slice_get (cond b (links_across_from core crossing row n) []) k) some.0
     ∙ at_map (link_across core crossing n) (filter (joined_in crossing row n) row) k (get_or row place 0) item

@@ -1,13 +1,11 @@
 -- The seats of a node: where its links across units lie.
-use Rattle.std.proofs.Common.{◌≡◌, ℕ, ◌+◌, ◌-◌, ◌≤◌, suc, Bool, true, false, cond, eqb, ltb, List, [], ◌∷◌, ◌++◌, Option, Some, None, length, map, get_or, refl, sym, ap, ◌∙◌, subst, arith, inl, inr}
+use Rattle.std.proofs.Common.{◌≡◌, ℕ, ◌+◌, ◌<◌, ◌≤◌, suc, Bool, true, false, cond, eqb, ltb, List, [], ◌∷◌, ◌++◌, Option, Some, None, length, map, get_or, refl, sym, ap, ◌∙◌, subst, arith, inl, inr}
 use Rattle.std.specs.Prelude.{slice_get, filter, Contains}
 use Rattle.std.specs.List.{flat_map}
-use Rattle.std.specs.List.Sorted.{IsStrictlyIncreasing}
 use Rattle.std.proofs.lemmas.Bool.{eqb-true, ltb-true, ltb-false}
 use Rattle.std.proofs.lemmas.List.{length-map, nil_from_length}
 use Rattle.std.proofs.lemmas.List.Elements.{filter-append, All-contains, Contains-append_cases}
-use Rattle.std.proofs.lemmas.Map.Keys.{sorted_from_strictly_increasing}
-use Rattle.std.proofs.lemmas.Option.{slice_get_within, get_or_from_slice_get}
+use Rattle.std.proofs.lemmas.Option.{same_Some, slice_get_within}
 use Rattle.rule_reports.proofs.Members.{Contains-nil, Contains-first, Contains-later, Contains-cons_cases}
 use Rattle.unit_sight.specs.Tables.{neighbours}
 use Rattle.venue_types.specs.declared.link.Link.{Link}
@@ -16,7 +14,7 @@ use Rattle.venue_nodes.specs.Members.{places_where}
 use Rattle.venue_nodes.specs.Rows.{row_list}
 use Rattle.venue_nodes.specs.Standing.{standings}
 use Rattle.venue_nodes.proofs.Items.{member_at, at_member}
-use Rattle.venue_nodes.proofs.Places.{place_at, one_number}
+use Rattle.venue_nodes.proofs.Places.{place_at}
 use Rattle.venue_nodes.proofs.Spread.{from_map}
 use Rattle.link_graph.specs.declared.parts.Core.{Core}
 use Rattle.link_graph.specs.declared.parts.Crossing.{Crossing}
@@ -24,7 +22,7 @@ use Rattle.link_graph.specs.declared.parts.Seat.{Seat}
 use Rattle.link_graph.specs.Cores.{IsSoundCore, IsRow, network_in, links_in, link_across, links_across_from, links_across_all, others_in, seats_from, seats_at, joined_in, IsTableOf}
 use Rattle.link_graph.specs.Networks.{links_out}
 use Rattle.link_graph.specs.Leads.{starts_at, links_of_row, links_of_seats, passages_out, AreSeats}
-use Rattle.link_graph.proofs.LeadingLists.{at_place, StandsOnce}
+use Rattle.link_graph.proofs.LeadingLists.{at_place}
 use Rattle.link_graph.proofs.LeadingRows.{row_known, across_memberships}
 use Rattle.link_graph.proofs.TableRows.{joined_row}
 
@@ -69,9 +67,6 @@ standing_at n w (row ∷ rows) m h = elim (Contains-append_cases (map (seated w)
   | inr there ↦ stands_later n w row rows m (standing_at n (w + 1) rows m there)
 ]
 
-pub stands_once : (row : List ℕ) (n p : ℕ) → IsStrictlyIncreasing row → slice_get row p ≡ Some n → StandsOnce row n p
-stands_once row n p rise there = record { there = there; once = λ k at. one_number row k p n (sorted_from_strictly_increasing row rise) at there }
-
 -- ---- what is known of a row in which a node stands
 
 -- the row of this number and its unit, the table of its places, and where the node stands in it
@@ -80,7 +75,7 @@ pub record IsSeated (core : Core) (n w place : ℕ) : Type 0 where
   pub row : List ℕ
   pub is_crossing : slice_get core.crossings.items w ≡ Some crossing
   pub is_row : slice_get (row_list core.rows) w ≡ Some row
-  pub once : StandsOnce row n place
+  pub stands : slice_get row place ≡ Some n
   pub kept : IsRow core row
   pub table : IsTableOf crossing row
 
@@ -99,7 +94,7 @@ seated_at core n m sound h =
       row = standing.row;
       is_crossing = crossing.1;
       is_row = there;
-      once = stands_once standing.row n m.place kept.rise standing.stands;
+      stands = standing.stands;
       kept = kept;
       table = sound.tables m.unit crossing.0 standing.row crossing.1 there;
     }
@@ -117,9 +112,9 @@ pub row_count : (core : Core) (n w place : ℕ) → IsSeated core n w place → 
 row_count core n w place h =
     let next = neighbours h.crossing.sights place in
     let many : length (links_across_from core h.crossing h.row n) ≡ length next =
-        length-map (filter (joined_in h.crossing h.row n) h.row) (link_across core h.crossing n)
-        ∙ ap length (joined_row h.crossing h.row place n h.kept.rise h.table h.once.there)
-        ∙ length-map next (λ j. get_or h.row j 0) in
+    length-map (filter (joined_in h.crossing h.row n) h.row) (link_across core h.crossing n)
+    ∙ ap length (joined_row h.crossing h.row place n h.kept.rise h.table h.stands)
+    ∙ length-map next (λ j. get_or h.row j 0) in
     others_known core w place h.crossing h.is_crossing
     ∙ sym (count_of h.crossing.walked (links_across_from core h.crossing h.row n) (length next) many)
     ∙ sym (ap length (row_known core n w h.crossing h.row h.is_crossing h.is_row))
@@ -194,6 +189,12 @@ seat_seated core n seat sound h =
     let of = seat_from core 0 (standings n 0 (row_list core.rows)) seat (subst (λ (ss : List Seat). Contains ss seat) (sound.seated.seats_are n) h) in
     let at = seated_at core n of.m sound of.there in
     subst (λ p. IsSeated core n seat.row p) (sym of.place) (subst (λ w. IsSeated core n w of.m.place) (sym of.row) at)
+
+-- a seat's place is one of its row
+pub seat_within : (core : Core) (n : ℕ) (seat : Seat) → IsSoundCore core → Contains (seats_at core n) seat → (members : List ℕ) → slice_get (row_list core.rows) seat.row ≡ Some members → seat.place < length members
+seat_within core n seat sound h members there =
+    let at = seat_seated core n seat sound h in
+    subst (λ (row : List ℕ). seat.place < length row) (same_Some at.row members (sym at.is_row ∙ there)) (slice_get_within at.row seat.place n at.stands)
 
 pub seat_count : (core : Core) (n : ℕ) (seat : Seat) → IsSoundCore core → Contains (seats_at core n) seat → others_in core seat.row seat.place ≡ length (links_of_row core n seat.row)
 seat_count core n seat sound h = row_count core n seat.row seat.place (seat_seated core n seat sound h)

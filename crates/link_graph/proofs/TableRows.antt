@@ -1,5 +1,5 @@
 -- A row and the table of its places: who is joined with a member stands at the neighbours of the member's place.
-use Rattle.std.proofs.Common.{◌≡◌, ◌≢◌, ℕ, ◌+◌, ◌<◌, ◌≤◌, zero, suc, Bool, true, false, cond, ◌==◌, List, [], ◌∷◌, ◌++◌, Some, length, map, filter, get_or, take, refl, sym, ap, ◌∙◌, subst, arith, inl, inr, true≢false}
+use Rattle.std.proofs.Common.{◌≡◌, ◌≢◌, ℕ, ◌+◌, ◌<◌, ◌≤◌, zero, suc, Bool, true, false, cond, ◌==◌, List, [], ◌∷◌, ◌++◌, Some, length, map, filter, get_or, take, refl, sym, ap, ◌∙◌, arith, inl, inr, true≢false}
 use Rattle.std.specs.Prelude.{slice_get, slice_index_or, Contains, IsTrue}
 use Rattle.std.specs.List.Sorted.{IsStrictlyIncreasing}
 use Rattle.std.proofs.Math.Seq.{take-suc, take-length}
