@@ -19,20 +19,17 @@ apart_others a b h = ap not (ne_eqb a b h)
 
 -- ---- nobody is joined to itself
 
-not_itself : (sees : ℕ → ℕ → Bool) (far : ℕ → ℕ → ℕ) (members : List ℕ) (a : ℕ) → is_joined sees far members a a ≡ false
+not_itself : (sees : ℕ → ℕ → Bool) (far : ℕ → ℕ → ℕ) (members : List ℕ) (a b : ℕ) → a ≡ b → is_joined sees far members a b ≡ false
 unfolding is_joined
-not_itself sees far members a = rw (eq-eqb a a refl) refl
+not_itself sees far members a b same = rw (eq-eqb a b same) refl
 
-by_itself : (inside : Inside) (features : Features) (settings : Settings) (u : UnitRow) (a : ℕ) → joined_by inside features settings u a a ≡ false
-by_itself insides.Straight features settings u a = ap not (eq-eqb a a refl)
-by_itself insides.Clear features settings u a = not_itself (sees features settings u) (way features settings) (members features settings u) a
-
-pub joined_itself : (features : Features) (settings : Settings) (u : UnitRow) (a : ℕ) → are_joined features settings u a a ≡ false
-unfolding are_joined
-joined_itself features settings u a = by_itself settings.inside features settings u a
+by_apart : (inside : Inside) (features : Features) (settings : Settings) (u : UnitRow) (a b : ℕ) → IsTrue (joined_by inside features settings u a b) → a ≢ b
+by_apart insides.Straight features settings u a b h same = true≢false (sym h ∙ ap not (eq-eqb a b same))
+by_apart insides.Clear features settings u a b h same = true≢false (sym h ∙ not_itself (sees features settings u) (way features settings) (members features settings u) a b same)
 
 pub joined_apart : (features : Features) (settings : Settings) (u : UnitRow) (a b : ℕ) → IsTrue (are_joined features settings u a b) → a ≢ b
-joined_apart features settings u a b h same = true≢false (sym h ∙ ap (are_joined features settings u a) (sym same) ∙ joined_itself features settings u a)
+unfolding are_joined
+joined_apart features settings u a b h = by_apart settings.inside features settings u a b h
 
 -- ---- where any two are
 
@@ -54,14 +51,14 @@ pub whole_seeing : (features : Features) (settings : Settings) (u : UnitRow)
 unfolding are_joined
 whole_seeing features settings u seeing = record {
   joined = λ a b h k apart. by_whole settings.inside features settings u a b
-  (λ clear. seeing_whole (sees features settings u) (way features settings) (members features settings u) a b seeing h k) apart;
+      (λ clear. seeing_whole (sees features settings u) (way features settings) (members features settings u) a b seeing h k) apart;
 }
 
 pub whole_blind : (features : Features) (settings : Settings) (u : UnitRow) → are_blind (sees features settings u) (members features settings u) ≡ true → IsWhole features settings u
 unfolding are_joined
 whole_blind features settings u blind = record {
   joined = λ a b h k apart. by_whole settings.inside features settings u a b
-  (λ clear. blind_whole (sees features settings u) (way features settings) (members features settings u) a b blind) apart;
+      (λ clear. blind_whole (sees features settings u) (way features settings) (members features settings u) a b blind) apart;
 }
 
 -- ---- what is the same for all items of a list

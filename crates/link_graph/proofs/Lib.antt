@@ -1,6 +1,9 @@
 pub mod Lengths
 pub mod Items
 pub mod Joined
+pub mod TableRows
+pub mod RoomSpots
+pub mod RoomTables
 pub mod Passages
 pub mod Sorts
 pub mod Ranges
@@ -10,9 +13,7 @@ pub mod MadeTrails
 pub mod MadeDoors
 pub mod MadeSeats
 pub mod MadeUnits
-pub mod MadeTables
 pub mod MadeCore
-pub mod TableRows
 pub mod LeadingLists
 pub mod LeadingRows
 pub mod LeadingSeats
