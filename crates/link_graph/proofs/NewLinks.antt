@@ -133,7 +133,7 @@ pub place_of_seat : (core : Core) (a w : ℕ) (seat : Seat) → IsSoundCore core
 place_of_seat core a w seat sound h e =
     let seated = seat_seated core a seat sound h in
     let read = get_or_from_slice_get (row_list core.rows) seat.row seated.row [] seated.is_row in
-    subst (λ (r : ℕ). IsPlaceOf core r a seat.place) e (subst (λ (members : List ℕ). slice_get members seat.place ≡ Some a) (sym read) seated.once.there)
+    subst (λ (r : ℕ). IsPlaceOf core r a seat.place) e (subst (λ (members : List ℕ). slice_get members seat.place ≡ Some a) (sym read) seated.stands)
 
 -- ---- what is known across a unit
 
