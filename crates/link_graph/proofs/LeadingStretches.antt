@@ -137,7 +137,7 @@ sort_of core n stretch sound h = elim (Contains-append_cases (map (stretch_of co
   | inr there ↦ of_rest (Contains-only (between core n) stretch there)
 ]
 
-seat_some : (core : Core) (at : ℕ) (seats : List Seat) (i : ℕ) (seat : Seat) → AreSeats core at seats → slice_get seats i ≡ Some seat → 0 < others_in core seat.row seat.place
+pub seat_some : (core : Core) (at : ℕ) (seats : List Seat) (i : ℕ) (seat : Seat) → AreSeats core at seats → slice_get seats i ≡ Some seat → 0 < others_in core seat.row seat.place
 seat_some core at [] i seat h there = absurd (let no : None ≡ Some seat = there in cc)
 seat_some core at (s ∷ seats) zero seat h there = subst (λ (t : Seat). 0 < others_in core t.row t.place) (same_Some s seat there) h.1
 seat_some core at (s ∷ seats) (suc i) seat h there = seat_some core (at + others_in core s.row s.place) seats i seat h.2 there

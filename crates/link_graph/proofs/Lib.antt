@@ -31,6 +31,7 @@ pub mod AskingDoors
 pub mod AreaLinks
 pub mod RowLinks
 pub mod Detouring
+pub mod NewPlaces
 pub mod NewLinks
 pub use Rattle.venue_nodes.proofs.Places
 pub use Rattle.venue_nodes.proofs.Finding
