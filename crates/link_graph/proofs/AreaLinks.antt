@@ -1,5 +1,5 @@
 -- The links of a graph are those across its areas, and those by relationships.
-use Rattle.std.proofs.Common.{◌≡◌, ◌==◌, ℕ, zero, suc, ◌<◌, ◌≤◌, Bool, true, false, not, List, [], ◌∷◌, ◌++◌, length, map, filter, flat_map, cond, Some, None, refl, sym, ap, ◌∙◌, get_or, inl, inr, subst, arith}
+use Rattle.std.proofs.Common.{◌≡◌, ◌==◌, ℕ, zero, suc, ◌<◌, ◌≤◌, Bool, true, false, not, List, [], ◌∷◌, ◌++◌, length, map, filter, flat_map, cond, Some, None, refl, sym, ap, ◌∙◌, get_or, inl, inr, arith}
 use Rattle.std.specs.Prelude.{slice_get, Contains}
 use Rattle.std.proofs.lemmas.Bool.{cases_eq, eq-eqb, ne_eqb}
 use Rattle.std.proofs.lemmas.Option.{same_Some, slice_get_read, slice_get_within}
@@ -15,7 +15,7 @@ use Rattle.link_graph.specs.Graphs.{network}
 use Rattle.link_graph.proofs.AskingRanges.{row_at, crossing_there}
 use Rattle.link_graph.proofs.Joined.{filter_same, flat_map_within}
 use Rattle.link_graph.proofs.TableRows.{at_place}
-use Rattle.unit_sight.specs.Tables.{IsWhole, joins}
+use Rattle.unit_sight.specs.Tables.{IsWhole}
 
 -- ---- the links across one area
 

@@ -1,5 +1,5 @@
 -- What the next link of a stretch is, and how it is read again.
-use Rattle.std.proofs.Common.{◌≡◌, ◌≢◌, ℕ, ◌+◌, ◌-◌, ◌<◌, ◌≤◌, zero, suc, max, Bool, true, false, cond, not, ◌&&◌, ◌==◌, ◌⊎◌, nat_lt, filter, List, [], ◌∷◌, Option, Some, None, length, map, get_or, refl, sym, ap, ◌∙◌, subst, subst₂, arith, inl, inr, true≢false}
+use Rattle.std.proofs.Common.{◌≡◌, ℕ, ◌+◌, ◌-◌, ◌<◌, ◌≤◌, zero, suc, max, Bool, true, false, cond, not, ◌&&◌, ◌==◌, ◌⊎◌, nat_lt, filter, List, [], ◌∷◌, Option, Some, None, length, map, get_or, refl, sym, ap, ◌∙◌, subst, arith, inl, inr, true≢false}
 use Rattle.std.specs.Prelude.{slice_get, Contains, IfSome, is_some}
 use Rattle.std.proofs.lemmas.Bool.{cases_eq, leb-true, ne_eqb}
 use Rattle.std.proofs.lemmas.List.Elements.{Contains-append_cases}
@@ -17,7 +17,7 @@ use Rattle.link_graph.specs.declared.parts.Crossing.{Crossing}
 use Rattle.link_graph.specs.declared.parts.Seat.{Seat}
 use Rattle.link_graph.specs.declared.stretches.Stretch.{Stretch}
 use Rattle.link_graph.specs.declared.stretches.Way.TheVariants.{Between}
-use Rattle.link_graph.specs.Cores.{IsSoundCore, network_in, links_in, link_across, joined_in, others_in, seats_at, leaving_at, across_count, stretch_of}
+use Rattle.link_graph.specs.Cores.{IsSoundCore, network_in, links_in, link_across, others_in, seats_at, leaving_at, across_count, stretch_of}
 use Rattle.link_graph.specs.Detours.{AreKnown, HasLinkAcross, IsKnown, IsKnownFrom, IsInFront, IsNewIn}
 use Rattle.link_graph.specs.Leads.{links_of_row, links_of_seats, passages_out, lower_than, starts_at}
 use Rattle.link_graph.specs.Lower.{lower_of}

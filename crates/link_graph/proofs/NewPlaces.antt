@@ -1,14 +1,14 @@
 -- The neighbours of a place by their numbers, and the first of them that is new.
-use Rattle.std.proofs.Common.{◌≡◌, ℕ, zero, suc, ◌+◌, ◌-◌, ◌<◌, ◌≤◌, Bool, true, false, cond, not, ◌&&◌, ◌==◌, ◌⊎◌, nat_lt, nat_le, List, [], ◌∷◌, ◌++◌, Option, Some, None, length, refl, sym, ap, ◌∙◌, subst, arith, inl, inr, true≢false}
+use Rattle.std.proofs.Common.{◌≡◌, ℕ, zero, suc, ◌+◌, ◌-◌, ◌<◌, ◌≤◌, Bool, true, false, cond, not, ◌&&◌, ◌==◌, nat_lt, nat_le, List, [], ◌∷◌, ◌++◌, Option, Some, None, length, refl, sym, ap, ◌∙◌, subst, arith, inl, inr, true≢false}
 use Rattle.std.specs.Prelude.{slice_get}
 use Rattle.std.specs.List.{filter}
 use Rattle.std.proofs.lemmas.Bool.{cases_lt, le-leb}
 use Rattle.std.proofs.lemmas.List.Elements.{filter-append}
-use Rattle.std.proofs.lemmas.Option.{same_Some, slice_get_within}
+use Rattle.std.proofs.lemmas.Option.{same_Some}
 use Rattle.unit_sight.specs.Tables.{is_new, joins, neighbours, new_neighbours, places, IsWhole}
 use Rattle.unit_sight.specs.Words.{count_to, is_next}
 use Rattle.unit_sight.proofs.Counts.{count_more, count_rises, filter_below, filter_twice, nth_here}
-use Rattle.link_graph.proofs.LeadingLists.{at_left, at_place, at_right}
+use Rattle.link_graph.proofs.LeadingLists.{at_left, at_right}
 
 -- ---- which is the k-th that passes
 

@@ -1,4 +1,4 @@
-use Rattle.std.proofs.Common.{◌≡◌, ℕ, ◌+◌, ◌<◌, ◌≤◌, List, [], ◌∷◌, ◌++◌, Bool, true, false, Option, Some, None, cond, filter, map, length, get_or, take, refl, sym, ap, ◌∙◌, arith, length-append}
+use Rattle.std.proofs.Common.{◌≡◌, ℕ, ◌+◌, ◌<◌, List, [], ◌∷◌, ◌++◌, Bool, true, false, Option, Some, None, cond, filter, length, get_or, take, refl, sym, ap, ◌∙◌, arith, length-append}
 use Rattle.std.specs.Prelude.{slice_get}
 use Rattle.std.specs.List.{flat_map}
 use Rattle.std.proofs.lemmas.List.{append-nil, length-map, take_all, take_more}
@@ -9,7 +9,7 @@ use Rattle.venue_nodes.specs.Rows.{row_list}
 use Rattle.unit_sight.specs.Tables.{neighbours}
 use Rattle.link_graph.specs.declared.parts.Core.{Core}
 use Rattle.link_graph.specs.declared.parts.Crossing.{Crossing}
-use Rattle.link_graph.specs.Cores.{IsRow, IsSoundCore, joined_in, link_across, links_across_from, others_in}
+use Rattle.link_graph.specs.Cores.{IsSoundCore, joined_in, link_across, links_across_from, others_in}
 use Rattle.link_graph.proofs.AskingRanges.{row_at}
 use Rattle.link_graph.proofs.TableRows.{joined_row}
 use Rattle.link_graph.proofs.link_list.across_count.Goals as goal

@@ -1,5 +1,5 @@
-use Rattle.std.proofs.Common.{◌≡◌, ◌-◌, ◌<◌, ℕ, List, Option, Some, None, max, true, get_or, length, refl, sym, ap, ◌∙◌, subst, arith}
-use Rattle.std.specs.Prelude.{slice_get, is_some, Contains}
+use Rattle.std.proofs.Common.{◌≡◌, ◌-◌, ◌<◌, ℕ, List, Option, Some, None, max, get_or, length, sym, ap, ◌∙◌, subst, arith}
+use Rattle.std.specs.Prelude.{slice_get, Contains}
 use Rattle.std.proofs.lemmas.Option.{slice_get_within}
 use Rattle.venue_nodes.specs.Rows.{row_list}
 use Rattle.link_graph.specs.declared.new_links.NewLink.{NewLink}
@@ -11,7 +11,7 @@ use Rattle.link_graph.specs.Detours.{AreKnown}
 use Rattle.link_graph.proofs.LeadingReads.{crossing_read, place_read}
 use Rattle.link_graph.proofs.LeadingSeats.{seat_seated}
 use Rattle.link_graph.proofs.LeadingStretches.{crossing_within}
-use Rattle.link_graph.proofs.NewLinks.{IsThere, IsKnownPlace, found_few, found_within, has_seat, passed_all, passed_found, passed_none, passed_whole, place_known, seat_new, seat_there}
+use Rattle.link_graph.proofs.NewLinks.{IsThere, found_few, found_within, has_seat, passed_all, passed_found, passed_none, passed_whole, place_known, seat_new, seat_there}
 use Rattle.link_graph.proofs.new_links.next_across.Goals as goal
 
 -- the seat with the unit that is read
