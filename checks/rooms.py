@@ -69,6 +69,16 @@ def set_up(base, clear, more=""):
         file.write(('inside = "clear"\n' if clear else "") + more + settings)
 
 
+class Kept:
+    """A folder of examples."""
+
+    def __init__(self, *path):
+        self.path = os.path.join(TOP, "examples", *path)
+
+    def write(self, folder):
+        shutil.copytree(self.path, folder)
+
+
 ELL = in_metres([(0, 0), (40, 0), (40, 10), (10, 10), (10, 40), (0, 40)])
 
 

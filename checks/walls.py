@@ -10,7 +10,7 @@ import subprocess
 import sys
 import tempfile
 
-from rooms import ELL, NAME, TOP, Venue, box, ell, in_metres, set_up
+from rooms import ELL, NAME, TOP, Kept, Venue, box, ell, in_metres, set_up
 
 HOLE = [(15, 15), (15, 25), (25, 25), (25, 15)]
 COMB = [(0, 0), (40, 0), (40, 20), (30, 20), (30, 10), (20, 10), (20, 20), (10, 20), (10, 10), (0, 10)]
@@ -74,13 +74,36 @@ ROWS = [
     ("two polygons apart", lambda: halves((0, 0, 10, 10), (30, 0, 40, 10), places=[(5, 5), (35, 5)]), True, "", (3, 6), (41, 42), [3000]),
     ("two polygons apart, two places in one", lambda: halves((0, 0, 10, 10), (30, 0, 40, 10), places=[(5, 5), (8, 5), (35, 5)]), True, "", (4, 6), (41, 43), [300, 2700]),
     ("ell with a room in its corner", two_rooms, True, "", (7, 16), (43, 42), [1500, 1500, 2550]),
+    ("the ell of examples", lambda: Kept("walls", "ell"), True, "", (4, 6), (41, 42), [2550, 2550]),
+    ("the concourse of examples, straight", lambda: Kept("walls", "concourse"), False, "", (19, 78), (53, 55), None),
+    ("the concourse of examples", lambda: Kept("walls", "concourse"), True, "", (75, 1634), (53, 55), [500, 1152, 1304, 1152, 500]),
+    ("the station", lambda: Kept("station"), True, "", (31, 243), (51, 52), None),
 ]
 # What the ways cost whose steps have no names of their own.
-COSTS = {"a fin": 2238, "a hole that touches the border": 2010, "two polygons that share a side": 1000}
+COSTS = {
+    "a fin": 2238,
+    "a hole that touches the border": 2010,
+    "two polygons that share a side": 1000,
+    "the concourse of examples, straight": 4606,
+    "the station": 9040,
+}
+# The corners of unit #0300 by which a way goes.
+CORNERS = {"the ell of examples": [1], "the concourse of examples": [15, 37]}
 
 
 def run(program, *words):
     return subprocess.run([*program, *words], capture_output=True, text=True).stdout
+
+
+def corners(rows, answer):
+    """The corners at which a way's steps end: the k-th further line of a unit's identifier is its corner k."""
+    nodes, seen = [], {}
+    for _, name in (row for row in rows if row[0] == "node"):
+        seen[name] = seen.get(name, -1) + 1
+        nodes.append(seen[name])
+    ends = [int(row[2]) for row in rows if row[0] == "link"]
+    found = [nodes[ends[int(line.split()[1])]] for line in answer.splitlines() if line.startswith("step ")]
+    return [corner for corner in found if corner]
 
 
 def differences(program, base, row):
@@ -98,6 +121,8 @@ def differences(program, base, row):
     steps = [costs[int(line.split()[1])] for line in answer.splitlines() if line.startswith("step ")]
     if (sum(steps) != COSTS[name]) if wanted is None else (steps != wanted):
         yield f"{name}: steps of {steps}, wanted {wanted or COSTS[name]}"
+    if name in CORNERS and corners(rows, answer) != CORNERS[name]:
+        yield f"{name}: by corners {corners(rows, answer)}, wanted {CORNERS[name]}"
     for file, text in (("links.txt", links), ("answer.txt", answer)):
         with open(os.path.join(base, file), "w", encoding="utf-8") as out:
             out.write(text)
