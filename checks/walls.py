@@ -85,7 +85,7 @@ COSTS = {
     "a hole that touches the border": 2010,
     "two polygons that share a side": 1000,
     "the concourse of examples, straight": 4606,
-    "the station": 9040,
+    "the station": 8683,
 }
 # The corners of unit #0300 by which a way goes.
 CORNERS = {"the ell of examples": [1], "the concourse of examples": [15, 37]}
