@@ -61,10 +61,10 @@ class Venue:
                 json.dump({"type": "FeatureCollection", "features": features}, file)
 
 
-def set_up(base, clear, more=""):
-    """The settings of the station, under which ways go round walls or straight."""
+def set_up(base, clear, more="", kx=10_000_000, ky=10_000_000):
+    """The settings of the station, under which ways go round walls or straight, at another scale where one is given."""
     with open(os.path.join(TOP, "checks", "rows", "venue.toml"), encoding="utf-8") as file:
-        settings = file.read()
+        settings = file.read().replace("kx = 10000000", f"kx = {kx}").replace("ky = 10000000", f"ky = {ky}")
     with open(os.path.join(base, "venue.toml"), "w", encoding="utf-8") as file:
         file.write(('inside = "clear"\n' if clear else "") + more + settings)
 
