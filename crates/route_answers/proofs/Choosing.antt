@@ -40,13 +40,13 @@ from_step mk r t j x ys zs false true jx tx rest = rest ∙ sym (ap (λ (v : Boo
 from_step mk r t j x ys zs false false jx tx rest = rest
 
 -- the links to those that pass, where the test is that of their ends
-from_one : (mk : ℕ → Link) (r : Link → TableLink) (t : Link → Bool) (j ok : ℕ → Bool) → ((b : ℕ) → t (mk b) ≡ ok b) → (xs : List ℕ)
+pub from_one : (mk : ℕ → Link) (r : Link → TableLink) (t : Link → Bool) (j ok : ℕ → Bool) → ((b : ℕ) → t (mk b) ≡ ok b) → (xs : List ℕ)
     → map r (filter t (map mk (filter j xs))) ≡ map (λ (b : ℕ). r (mk b)) (filter j (filter ok xs))
 from_one mk r t j ok same [] = refl
 from_one mk r t j ok same (x ∷ xs) = from_step mk r t j x (filter j xs) (filter ok xs) (j x) (ok x) refl (same x) (from_one mk r t j ok same xs)
 
 -- none, where none passes
-from_none : (mk : ℕ → Link) (r : Link → TableLink) (t : Link → Bool) → ((b : ℕ) → t (mk b) ≡ false) → (ys : List ℕ) → map r (filter t (map mk ys)) ≡ []
+pub from_none : (mk : ℕ → Link) (r : Link → TableLink) (t : Link → Bool) → ((b : ℕ) → t (mk b) ≡ false) → (ys : List ℕ) → map r (filter t (map mk ys)) ≡ []
 from_none mk r t fail [] = refl
 from_none mk r t fail (y ∷ ys) = ap (λ (v : Bool). map r (cond v (mk y ∷ filter t (map mk ys)) (filter t (map mk ys)))) (fail y) ∙ from_none mk r t fail ys
 
@@ -56,7 +56,7 @@ all_step : (h : ℕ → List TableLink) (ok : ℕ → Bool) (x : ℕ) (ys : List
 all_step h ok x ys piece true e pass fail = ap (λ (rows : List TableLink). rows ++ flat_map h ys) (pass e)
 all_step h ok x ys piece false e pass fail = ap (λ (rows : List TableLink). rows ++ flat_map h ys) (fail e)
 
-from_all : (r : Link → TableLink) (t : Link → Bool) (g : ℕ → List Link) (h : ℕ → List TableLink) (ok : ℕ → Bool) → ((a : ℕ) → ok a ≡ true → map r (filter t (g a)) ≡ h a) → ((a : ℕ) → ok a ≡ false → map r (filter t (g a)) ≡ [])
+pub from_all : (r : Link → TableLink) (t : Link → Bool) (g : ℕ → List Link) (h : ℕ → List TableLink) (ok : ℕ → Bool) → ((a : ℕ) → ok a ≡ true → map r (filter t (g a)) ≡ h a) → ((a : ℕ) → ok a ≡ false → map r (filter t (g a)) ≡ [])
     → (xs : List ℕ) → map r (filter t (flat_map g xs)) ≡ flat_map h (filter ok xs)
 from_all r t g h ok pass fail [] = refl
 from_all r t g h ok pass fail (x ∷ xs) =
@@ -71,7 +71,7 @@ none_all r t g fail (x ∷ xs) = chosen_joined r t (g x) (flat_map g xs) ∙ ap 
 -- ---- across a unit
 
 -- whether the profile allows the link across a unit from node to node
-across_test : PartsLaw → (graph : Graph) (profile : Profile) (area : Area) → (network graph).barred area.via ≡ area.restricted → (way from : Bool) (a : ℕ) → passes_by profile area.kind area.restricted ≡ way
+pub across_test : PartsLaw → (graph : Graph) (profile : Profile) (area : Area) → (network graph).barred area.via ≡ area.restricted → (way from : Bool) (a : ℕ) → passes_by profile area.kind area.restricted ≡ way
     → passes_node (network graph) profile a ≡ from → (b : ℕ) → passes_link (network graph) profile (inside_area graph area a b) ≡ (way && (from && passes_node (network graph) profile b))
 across_test law graph profile area barred way from a crossed start b =
     let to = passes_node (network graph) profile b in
