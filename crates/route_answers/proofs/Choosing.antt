@@ -80,26 +80,26 @@ across_test law graph profile area barred way from a crossed start b =
     ∙ ap (λ (v : Bool). v && (passes_node (network graph) profile a && to)) crossed
     ∙ ap (λ (v : Bool). way && (v && to)) start
 
-pub crossed_rows : PartsLaw → (graph : Graph) (profile : Profile) (area : Area) (members : List ℕ) → IsWholeAcross area members → (network graph).barred area.via ≡ area.restricted → passes_by profile area.kind area.restricted ≡ true
-    → rows_of (network graph) profile (area_links graph (area, members))
+pub crossed_rows : PartsLaw → (graph : Graph) (profile : Profile) (area : Area) (members : List ℕ) (table : List (List Bool)) → IsWholeAcross table members → (network graph).barred area.via ≡ area.restricted → passes_by profile area.kind area.restricted ≡ true
+    → rows_of (network graph) profile (area_links graph (area, members, table))
     ≡ flat_map (rows_from graph area (filter (passes_node (network graph) profile) members)) (filter (passes_node (network graph) profile) members)
 unfolding rows_of rows_from
-crossed_rows law graph profile area members whole barred crossed =
+crossed_rows law graph profile area members table whole barred crossed =
     let r = link_row (network graph) in
     let t = passes_link (network graph) profile in
     let ok = passes_node (network graph) profile in
-    ap (λ (links : List Link). map r (filter t links)) (whole_links graph area members whole)
+    ap (λ (links : List Link). map r (filter t links)) (whole_links graph area members table whole)
     ∙ from_all r t (λ (a : ℕ). map (inside_area graph area a) (filter (other_than a) members)) (λ (a : ℕ). map (pair_row graph area a) (filter (other_than a) (filter ok members))) ok
     (λ a start. from_one (inside_area graph area a) r t (other_than a) ok (across_test law graph profile area barred true true a crossed start) members)
     (λ a start. from_none (inside_area graph area a) r t (across_test law graph profile area barred true false a crossed start) (filter (other_than a) members))
     members
 
-pub closed_rows : PartsLaw → (graph : Graph) (profile : Profile) (area : Area) (members : List ℕ) → (network graph).barred area.via ≡ area.restricted → passes_by profile area.kind area.restricted ≡ false
-    → rows_of (network graph) profile (area_links graph (area, members)) ≡ []
+pub closed_rows : PartsLaw → (graph : Graph) (profile : Profile) (area : Area) (members : List ℕ) (table : List (List Bool)) → (network graph).barred area.via ≡ area.restricted → passes_by profile area.kind area.restricted ≡ false
+    → rows_of (network graph) profile (area_links graph (area, members, table)) ≡ []
 unfolding rows_of
-closed_rows law graph profile area members barred closed =
+closed_rows law graph profile area members table barred closed =
     let r = link_row (network graph) in
     let t = passes_link (network graph) profile in
-    none_all r t (λ (a : ℕ). map (inside_area graph area a) (filter (joined_across area members a) members))
-    (λ a. from_none (inside_area graph area a) r t (across_test law graph profile area barred false (passes_node (network graph) profile a) a closed refl) (filter (joined_across area members a) members))
+    none_all r t (λ (a : ℕ). map (inside_area graph area a) (filter (joined_across table members a) members))
+    (λ a. from_none (inside_area graph area a) r t (across_test law graph profile area barred false (passes_node (network graph) profile a) a closed refl) (filter (joined_across table members a) members))
     members

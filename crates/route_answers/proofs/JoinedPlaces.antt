@@ -7,6 +7,7 @@ use Rattle.std.proofs.lemmas.List.Kept.{IsStrictlyIncreasing-filter}
 use Rattle.route_certificate.specs.declared.table.TableLink.{TableLink}
 use Rattle.route_answers.specs.Places.{IsFirstPlace}
 use Rattle.route_answers.proofs.FirstRows.{first_piece, moved}
+use Rattle.route_answers.proofs.MemberPlaces.{first_passes}
 use Rattle.route_answers.proofs.PairPlaces.{IsRowOf, first_to, lacks_pairs}
 use Rattle.route_answers.proofs.Rising.{at_item, kept_at, lesser_before, passed_at, passing_below, rises_from}
 
@@ -53,9 +54,6 @@ pair_at f is t ok xs i a b rise here there pass joined =
     (ap (λ (n : ℕ). n + k) (pair_lengths f h (take at chosen) ∙ ap (λ (ys : List ℕ). length (flat_map h ys)) (front_kept ok i xs)))
     (first_piece g chosen at a (f a b) k first (lacks_pairs f is h (take at chosen) a b (lesser_before chosen at a (rises_from chosen up) first)) second)
 
-both_true : (a b : Bool) → a ≡ true → b ≡ true → (a && b) ≡ true
-both_true a b one two = ap (λ (v : Bool). v && b) one ∙ two
-
 -- behind those from lesser numbers, and behind those to lesser ones
 pub joined_pair : (f : ℕ → ℕ → TableLink) → IsRowOf f → (t : ℕ → ℕ → Bool) (ok : ℕ → Bool) (xs : List ℕ) (a b : ℕ) → IsStrictlyIncreasing xs → Contains xs a → Contains xs b → ok a ≡ true → ok b ≡ true → t a b ≡ true
     → IsFirstPlace (flat_map (λ (c : ℕ). map (f c) (filter (λ d. t c d && ok d) xs)) (filter ok xs)) (f a b)
@@ -64,4 +62,4 @@ joined_pair f is t ok xs a b rise from to start end joined =
     let h : ℕ → List ℕ = λ c. filter (λ d. t c d && ok d) xs in
     let at = at_item xs a from in
     moved _ (f a b) _ _ (ap (λ (ys : List ℕ). length (flat_map h ys) + length (filter (λ (d : ℕ). nat_lt d b && (t a d && ok d)) xs)) (sym (passing_below ok xs at.0 a (rises_from xs rise) at.1)))
-    (pair_at f is t ok xs at.0 a b rise at.1 to start (both_true (t a b) (ok b) joined end))
+    (pair_at f is t ok xs at.0 a b rise at.1 to start (first_passes (t a b) (ok b) true joined end))

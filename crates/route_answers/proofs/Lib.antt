@@ -13,6 +13,7 @@ pub mod FirstRows
 pub mod Rising
 pub mod PairPlaces
 pub mod JoinedRows
+pub mod MemberPlaces
 pub mod JoinedPlaces
 pub mod Keys
 pub mod UnitPlaces

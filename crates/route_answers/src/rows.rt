@@ -65,6 +65,7 @@ fn add_area(
 }
 
 // A unit some of whose members aren't joined, as a profile passes it.
+#[derive(Clone, Copy)]
 struct Room<'a> {
     graph: &'a Graph,
     profile: &'a Profile,

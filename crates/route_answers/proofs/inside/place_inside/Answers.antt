@@ -15,8 +15,9 @@ pair_place-requires-clause-start c =
     let link = c.args.link.now in
     let area = c.area.result.0 in
     let members = c.area.result.1.now in
-    let is_link = inside graph area members link (c.requires.there (area, members) c.area.ensures.there) in
-    let are = ranks c.network_parts_law.ensures graph profile area members link c.passing_below-start.result c.passing_below-end.result c.area.ensures.area is_link c.requires.allowed c.passing_below-start.ensures c.passing_below-end.ensures in
+    let table = c.area.result.2.now in
+    let is_link = inside graph area members table link (c.requires.there (area, members, table) c.area.ensures.there) in
+    let are = ranks c.network_parts_law.ensures graph profile area members table link c.passing_below-start.result c.passing_below-end.result c.area.ensures.area is_link c.requires.allowed c.passing_below-start.ensures c.passing_below-end.ensures in
     let within = slice_get_within (filter (passes_node (network graph) profile) members) c.passing_below-start.result link.from are.from in
     let count = c.passing_count-count.ensures.number in
     omega (arith, within, count)
@@ -28,8 +29,9 @@ pair_place-requires-clause-end c =
     let link = c.args.link.now in
     let area = c.area.result.0 in
     let members = c.area.result.1.now in
-    let is_link = inside graph area members link (c.requires.there (area, members) c.area.ensures.there) in
-    let are = ranks c.network_parts_law.ensures graph profile area members link c.passing_below-start.result c.passing_below-end.result c.area.ensures.area is_link c.requires.allowed c.passing_below-start.ensures c.passing_below-end.ensures in
+    let table = c.area.result.2.now in
+    let is_link = inside graph area members table link (c.requires.there (area, members, table) c.area.ensures.there) in
+    let are = ranks c.network_parts_law.ensures graph profile area members table link c.passing_below-start.result c.passing_below-end.result c.area.ensures.area is_link c.requires.allowed c.passing_below-start.ensures c.passing_below-end.ensures in
     let within = slice_get_within (filter (passes_node (network graph) profile) members) c.passing_below-end.result link.to are.to in
     let count = c.passing_count-count.ensures.number in
     omega (arith, within, count)
@@ -41,9 +43,10 @@ returns c = λ pair there.
     let link = c.args.link.now in
     let area = c.area.result.0 in
     let members = c.area.result.1.now in
-    let is_link = inside graph area members link (c.requires.there (area, members) c.area.ensures.there) in
-    let are = ranks c.network_parts_law.ensures graph profile area members link c.passing_below-start.result c.passing_below-end.result c.area.ensures.area is_link c.requires.allowed c.passing_below-start.ensures c.passing_below-end.ensures in
-    let same : (area, members) ≡ pair = same_Some (area, members) pair (sym c.area.ensures.there ∙ there) in
-    subst (λ (p : Area × List ℕ × List (List Bool) × List (List Bool)). StandsFirst (network graph) profile (area_links graph p) link c.pair_place.result) same
-    (unit_place c.network_parts_law.ensures graph profile area members link c.passing_count-count.result c.passing_below-start.result c.passing_below-end.result c.pair_place.result c.area.ensures.area c.area.ensures.whole is_link c.requires.allowed
+    let table = c.area.result.2.now in
+    let is_link = inside graph area members table link (c.requires.there (area, members, table) c.area.ensures.there) in
+    let are = ranks c.network_parts_law.ensures graph profile area members table link c.passing_below-start.result c.passing_below-end.result c.area.ensures.area is_link c.requires.allowed c.passing_below-start.ensures c.passing_below-end.ensures in
+    let same : (area, members, table) ≡ pair = same_Some (area, members, table) pair (sym c.area.ensures.there ∙ there) in
+    subst (λ (p : Area × List ℕ × List (List Bool)). StandsFirst (network graph) profile (area_links graph p) link c.pair_place.result) same
+    (unit_place c.network_parts_law.ensures graph profile area members table link c.passing_count-count.result c.passing_below-start.result c.passing_below-end.result c.pair_place.result c.area.ensures.area (c.is_whole.ensures.0 c.if-is_whole.true) is_link c.requires.allowed
     c.passing_count-count.ensures.number are c.pair_place.ensures.before c.pair_place.ensures.behind)

@@ -18,11 +18,11 @@ some_within : (bound : ℕ) (ok : ℕ → Bool) (members passed given : List ℕ
 some_within bound ok members passed given same chosen within = subst (All (λ (m : ℕ). m < bound)) (sym (same ∙ chosen)) (All-filter ok (λ (m : ℕ). m < bound) members within)
 
 -- the rows of an area, told of the area that stands in the list
-told : (graph : Graph) (profile : Profile) (w : ℕ) (area : Area) (members : List ℕ) (pair : Area × List ℕ × List (List Bool) × List (List Bool)) (count : ℕ) (start end rows : List TableLink) → slice_get (areas graph) w ≡ Some (area, members) → slice_get (areas graph) w ≡ Some pair
-    → rows_of (network graph) profile (area_links graph (area, members)) ≡ rows → Adds count start end rows → Adds count start end (rows_of (network graph) profile (area_links graph pair))
-told graph profile w area members pair count start end rows here there are added =
-    let same : (area, members) ≡ pair = same_Some (area, members) pair (sym here ∙ there) in
-    subst (Adds count start end) (sym are ∙ ap (λ (p : Area × List ℕ × List (List Bool) × List (List Bool)). rows_of (network graph) profile (area_links graph p)) same) added
+told : (graph : Graph) (profile : Profile) (w : ℕ) (area : Area) (members : List ℕ) (table : List (List Bool)) (pair : Area × List ℕ × List (List Bool)) (count : ℕ) (start end rows : List TableLink) → slice_get (areas graph) w ≡ Some (area, members, table) → slice_get (areas graph) w ≡ Some pair
+    → rows_of (network graph) profile (area_links graph (area, members, table)) ≡ rows → Adds count start end rows → Adds count start end (rows_of (network graph) profile (area_links graph pair))
+told graph profile w area members table pair count start end rows here there are added =
+    let same : (area, members, table) ≡ pair = same_Some (area, members, table) pair (sym here ∙ there) in
+    subst (Adds count start end) (sym are ∙ ap (λ (p : Area × List ℕ × List (List Bool)). rows_of (network graph) profile (area_links graph p)) same) added
 
 pub add_pairs-requires-clause-within : goal.add_pairs-requires-clause-within
 add_pairs-requires-clause-within c =
@@ -35,9 +35,10 @@ returns-in_ok-add_pairs c = λ pair there.
     let profile = c.args.profile.now in
     let area = c.area.result.0 in
     let members = c.area.result.1.now in
-    told graph profile c.args.w area members pair (length (network graph).nodes) c.args.rows.now.items c.add_pairs.new.rows.items (flat_map (rows_from graph area c.deref.result.now) c.deref.result.now)
+    let table = c.area.result.2.now in
+    told graph profile c.args.w area members table pair (length (network graph).nodes) c.args.rows.now.items c.add_pairs.new.rows.items (flat_map (rows_from graph area c.deref.result.now) c.deref.result.now)
     c.area.ensures.there there
-    (crossed_rows c.network_parts_law.ensures graph profile area members (c.area.ensures.area.whole c.area.ensures.whole) c.area.ensures.area.barred (sym c.may_cross.ensures ∙ c.if-may_cross.true)
+    (crossed_rows c.network_parts_law.ensures graph profile area members table (c.area.ensures.area.whole (c.is_whole.ensures.0 c.if-is_whole.true)) c.area.ensures.area.barred (sym c.may_cross.ensures ∙ c.if-may_cross.true)
     ∙ ap (λ (xs : List ℕ). flat_map (rows_from graph area xs) xs) (sym (c.deref.ensures.value ∙ c.in_ok-passed.ensures)))
     c.in_ok-add_pairs.ensures
 
@@ -47,6 +48,7 @@ returns-else-may_cross c = λ pair there.
     let profile = c.args.profile.now in
     let area = c.area.result.0 in
     let members = c.area.result.1.now in
-    told graph profile c.args.w area members pair (length (network graph).nodes) c.args.rows.now.items c.args.rows.now.items [] c.area.ensures.there there
-    (closed_rows c.network_parts_law.ensures graph profile area members c.area.ensures.area.barred (sym c.may_cross.ensures ∙ c.if-may_cross.false))
+    let table = c.area.result.2.now in
+    told graph profile c.args.w area members table pair (length (network graph).nodes) c.args.rows.now.items c.args.rows.now.items [] c.area.ensures.there there
+    (closed_rows c.network_parts_law.ensures graph profile area members table c.area.ensures.area.barred (sym c.may_cross.ensures ∙ c.if-may_cross.false))
     (adds_none (length (network graph).nodes) c.args.rows.now.items)
