@@ -92,12 +92,12 @@ areas_few graph profile w area n m there before one law =
     let both = length-append (flat_map f (areas graph)) (passages graph) in
     omega (arith, some, more, piece, within, whole, both, before, one)
 
--- the same, told of the area that stands in the list
-pub told_count : (graph : Graph) (profile : Profile) (w : ℕ) (area : Area) (members : List ℕ) (table : List (List Bool)) (pair : Area × List ℕ × List (List Bool)) (n : ℕ) → slice_get (areas graph) w ≡ Some (area, members, table) → slice_get (areas graph) w ≡ Some pair
-    → n ≡ length (rows_of (network graph) profile (area_links graph (area, members, table))) → n ≡ length (rows_of (network graph) profile (area_links graph pair))
-told_count graph profile w area members table pair n here there is =
-    let same : (area, members, table) ≡ pair = same_Some (area, members, table) pair (sym here ∙ there) in
-    is ∙ ap (λ (p : Area × List ℕ × List (List Bool)). length (rows_of (network graph) profile (area_links graph p))) same
+-- what holds of the rows of an area, told of the area that stands in the list
+pub told : (graph : Graph) (profile : Profile) (w : ℕ) (area : Area) (members : List ℕ) (table : List (List Bool)) (listed : Area × List ℕ × List (List Bool)) (P : List TableLink → Type 0)
+    → slice_get (areas graph) w ≡ Some (area, members, table) → slice_get (areas graph) w ≡ Some listed
+    → P (rows_of (network graph) profile (area_links graph (area, members, table))) → P (rows_of (network graph) profile (area_links graph listed))
+told graph profile w area members table listed P here there holds =
+    subst (λ (given : Area × List ℕ × List (List Bool)). P (rows_of (network graph) profile (area_links graph given))) (same_Some (area, members, table) listed (sym here ∙ there)) holds
 
 -- ---- of all
 
