@@ -23,23 +23,23 @@ loop-j-preserved c =
     let few = c.loop-j.invariant.few in
     elim c.if-joins.branch [
       | then-joins+then-may_pass w ↦ record {
-          number = λ a at.
-              kept_number (test a) members j 0 c.loop-j.count c.if-joins.count within (c.loop-j.invariant.number a at)
-              (first_passes (joined_across table members a b) (ok b) true (joined_at table members c.args.i j a c.requires.rise at within ∙ sym c.joins.ensures ∙ w.if-joins.true) (sym w.may_pass.ensures ∙ w.if-may_pass.true))
-              w.count-is;
-          few = let is = w.count-is in omega (arith, few, is);
-        }
+        number = λ a at.
+            kept_number (test a) members j 0 c.loop-j.count c.if-joins.count within (c.loop-j.invariant.number a at)
+            (first_passes (joined_across table members a b) (ok b) true (joined_at table members c.args.i j a c.requires.rise at within ∙ sym c.joins.ensures ∙ w.if-joins.true) (sym w.may_pass.ensures ∙ w.if-may_pass.true))
+            w.count-is;
+        few = let is = w.count-is in omega (arith, few, is);
+      }
       | else-joins w ↦ record {
-          number = λ a at.
-              left_number (test a) members j 0 c.loop-j.count c.if-joins.count within (c.loop-j.invariant.number a at)
-              (elim w.else-joins.branch [
-                | else-joins-via-then-joins+else-may_pass v ↦
-                    first_passes (joined_across table members a b) (ok b) false (joined_at table members c.args.i j a c.requires.rise at within ∙ sym c.joins.ensures ∙ v.if-joins.true) (sym v.may_pass.ensures ∙ v.if-may_pass.false)
-                | else-joins-via-else-joins v ↦ first_fails (joined_across table members a b) (ok b) (joined_at table members c.args.i j a c.requires.rise at within ∙ sym c.joins.ensures ∙ v.if-joins.false)
-              ])
-              w.count-is;
-          few = let is = w.count-is in omega (arith, few, is);
-        }
+        number = λ a at.
+            left_number (test a) members j 0 c.loop-j.count c.if-joins.count within (c.loop-j.invariant.number a at)
+            (elim w.else-joins.branch [
+              | else-joins-via-then-joins+else-may_pass v ↦
+                  first_passes (joined_across table members a b) (ok b) false (joined_at table members c.args.i j a c.requires.rise at within ∙ sym c.joins.ensures ∙ v.if-joins.true) (sym v.may_pass.ensures ∙ v.if-may_pass.false)
+              | else-joins-via-else-joins v ↦ first_fails (joined_across table members a b) (ok b) (joined_at table members c.args.i j a c.requires.rise at within ∙ sym c.joins.ensures ∙ v.if-joins.false)
+            ])
+            w.count-is;
+        few = let is = w.count-is in omega (arith, few, is);
+      }
     ]
 
 pub returns-clause-number : goal.returns-clause-number

@@ -25,14 +25,14 @@ loop-i-preserved c =
     let few = c.loop-i.invariant.few in
     elim c.if-may_pass.branch [
       | then-may_pass w ↦ record {
-          number = kept_sum joined ok members i 0 c.loop-i.count w.joined_below-count.result c.if-may_pass.count within c.loop-i.invariant.number (sym c.may_pass.ensures ∙ w.if-may_pass.true)
-              (w.joined_below-count.ensures.number a (slice_get-get_or members i 0 within)
-              ∙ ap (λ (some : List ℕ). length (filter (λ b. joined_across table members a b && ok b) some)) (take_all (length members) members (omega arith)))
-              w.count-is;
-          few = let is = w.count-is in let one = w.joined_below-count.ensures.few in omega (arith, few, is, one);
-        }
+        number = kept_sum joined ok members i 0 c.loop-i.count w.joined_below-count.result c.if-may_pass.count within c.loop-i.invariant.number (sym c.may_pass.ensures ∙ w.if-may_pass.true)
+            (w.joined_below-count.ensures.number a (slice_get-get_or members i 0 within)
+            ∙ ap (λ (some : List ℕ). length (filter (λ b. joined_across table members a b && ok b) some)) (take_all (length members) members (omega arith)))
+            w.count-is;
+        few = let is = w.count-is in let one = w.joined_below-count.ensures.few in omega (arith, few, is, one);
+      }
       | else-may_pass w ↦ record {
-          number = left_sum joined ok members i 0 c.loop-i.count c.if-may_pass.count within c.loop-i.invariant.number (sym c.may_pass.ensures ∙ w.if-may_pass.false) w.count-is;
-          few = let is = w.count-is in omega (arith, few, is);
-        }
+        number = left_sum joined ok members i 0 c.loop-i.count c.if-may_pass.count within c.loop-i.invariant.number (sym c.may_pass.ensures ∙ w.if-may_pass.false) w.count-is;
+        few = let is = w.count-is in omega (arith, few, is);
+      }
     ]
