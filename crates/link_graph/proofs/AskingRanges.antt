@@ -12,7 +12,7 @@ use Rattle.link_graph.specs.Cores.{IsSoundCore, IsCrossing, IsPassage, IsRow, li
 use Rattle.link_graph.proofs.AskingLinks.{IsByRow, link_sort}
 use Rattle.link_graph.proofs.Lengths.{between_bound}
 use Rattle.link_graph.proofs.Ranges.{IsInRange}
-use Rattle.link_graph.proofs.Joined.{joined_in_apart}
+use Rattle.link_graph.proofs.TableRows.{joined_in_apart}
 
 -- ---- of what is kept
 
@@ -43,7 +43,7 @@ across_range core link sound h =
       to = member_node core h.row link.to row h.goes.finish;
       via = subst (λ (via : ℕ). via < length (closable_list core.nodes)) h.goes.via unit.within;
       cost = let same = h.goes.cost in omega (arith, long, same);
-      apart = joined_in_apart h.crossing h.row link.from link.to h.goes.joined;
+      apart = joined_in_apart h.crossing h.row link.from link.to (sound.tables h.k h.crossing h.row h.unit h.there) h.goes.joined;
     }
 
 passage_range : (core : Core) (link : Link) → IsSoundCore core → Contains core.passages.items link → IsInRange (length (node_list core.nodes)) (length (closable_list core.nodes)) link

@@ -1,71 +1,67 @@
--- Who is joined: the facts of the tests, which nothing else unfolds.
-use Rattle.std.proofs.Common.{◌≡◌, ◌≢◌, ℕ, Bool, true, false, cond, not, List, [], ◌∷◌, ◌++◌, filter, flat_map, refl, sym, ap, ap₂, ◌∙◌, ◌⊎◌, inl, inr, true≢false, eq-eqb}
+-- Who is joined in a unit: what the tests on features say, which nothing else unfolds.
+use Rattle.std.proofs.Common.{◌≡◌, ◌≢◌, ℕ, Bool, true, false, cond, not, ◌==◌, List, [], ◌∷◌, ◌++◌, filter, flat_map, refl, sym, ap, ap₂, ◌∙◌, true≢false, eq-eqb}
 use Rattle.std.specs.Prelude.{Contains, IsTrue}
-use Rattle.std.proofs.lemmas.Bool.{cases_eq, ne_eqb}
+use Rattle.std.proofs.lemmas.Bool.{ne_eqb}
 use Rattle.venue_types.proofs.Items.{Contains-first, Contains-later}
 use Rattle.venue_types.specs.declared.features.Features.{Features}
 use Rattle.venue_types.specs.declared.features.UnitRow.{UnitRow}
+use Rattle.venue_types.specs.declared.settings.Inside.{Inside}
+use Rattle.venue_types.specs.declared.settings.Inside.TheVariants as insides
 use Rattle.venue_types.specs.declared.settings.Settings.{Settings}
-use Rattle.link_graph.specs.declared.areas.Area.{Area}
-use Rattle.link_graph.specs.declared.parts.Crossing.{Crossing}
-use Rattle.link_graph.specs.Areas.{joined_across, IsWholeAcross}
-use Rattle.link_graph.specs.Cores.{other_than, joined_in, IsWholeIn}
-use Rattle.link_graph.specs.Links.{are_joined}
+use Rattle.unit_sight.specs.Joined.{are_blind, is_joined}
+use Rattle.unit_sight.proofs.HostLaws.{seeing_whole, blind_whole}
+use Rattle.venue_nodes.specs.Members.{members}
+use Rattle.link_graph.specs.Links.{are_joined, joined_by, sees, way}
 use Rattle.link_graph.specs.Usable.{IsWhole}
 
-apart_others : (a b : ℕ) → a ≢ b → IsTrue (other_than a b)
-apart_others a b h = rw (ne_eqb a b h) refl
+apart_others : (a b : ℕ) → a ≢ b → IsTrue (not (a == b))
+apart_others a b h = ap not (ne_eqb a b h)
 
-others_turn : (a b : ℕ) → other_than a b ≡ other_than b a
-others_turn a b = elim (cases_eq a b) [
-  | inl same ↦ ap not (eq-eqb a b same ∙ sym (eq-eqb b a (sym same)))
-  | inr apart ↦ ap not (ne_eqb a b apart ∙ sym (ne_eqb b a (λ e. apart (sym e))))
-]
+-- ---- nobody is joined to itself
 
--- ---- of features
+not_itself : (sees : ℕ → ℕ → Bool) (far : ℕ → ℕ → ℕ) (members : List ℕ) (a b : ℕ) → a ≡ b → is_joined sees far members a b ≡ false
+unfolding is_joined
+not_itself sees far members a b same = rw (eq-eqb a b same) refl
+
+by_apart : (inside : Inside) (features : Features) (settings : Settings) (u : UnitRow) (a b : ℕ) → IsTrue (joined_by inside features settings u a b) → a ≢ b
+by_apart insides.Straight features settings u a b h same = true≢false (sym h ∙ ap not (eq-eqb a b same))
+by_apart insides.Clear features settings u a b h same = true≢false (sym h ∙ not_itself (sees features settings u) (way features settings) (members features settings u) a b same)
 
 pub joined_apart : (features : Features) (settings : Settings) (u : UnitRow) (a b : ℕ) → IsTrue (are_joined features settings u a b) → a ≢ b
 unfolding are_joined
-joined_apart features settings u a b h e = true≢false (sym h ∙ rw (eq-eqb a b e) refl)
+joined_apart features settings u a b h = by_apart settings.inside features settings u a b h
 
-pub joined_turns : (features : Features) (settings : Settings) (u : UnitRow) (a b : ℕ) → are_joined features settings u a b ≡ are_joined features settings u b a
+-- ---- where any two are
+
+by_whole : (inside : Inside) (features : Features) (settings : Settings) (u : UnitRow) (a b : ℕ)
+    → (inside ≡ insides.Clear → is_joined (sees features settings u) (way features settings) (members features settings u) a b ≡ not (a == b))
+    → a ≢ b → IsTrue (joined_by inside features settings u a b)
+by_whole insides.Straight features settings u a b all apart = apart_others a b apart
+by_whole insides.Clear features settings u a b all apart = all refl ∙ apart_others a b apart
+
+by_straight : (inside : Inside) (features : Features) (settings : Settings) (u : UnitRow) (a b : ℕ) → inside ≡ insides.Straight → a ≢ b → IsTrue (joined_by inside features settings u a b)
+by_straight inside features settings u a b straight apart = ap (λ (i : Inside). joined_by i features settings u a b) straight ∙ apart_others a b apart
+
+pub whole_straight : (features : Features) (settings : Settings) (u : UnitRow) → settings.inside ≡ insides.Straight → IsWhole features settings u
 unfolding are_joined
-joined_turns features settings u a b = others_turn a b
+whole_straight features settings u straight = record { joined = λ a b h k apart. by_straight settings.inside features settings u a b straight apart }
 
-pub whole_unit : (features : Features) (settings : Settings) (u : UnitRow) → IsWhole features settings u
+pub whole_seeing : (features : Features) (settings : Settings) (u : UnitRow)
+    → ((c d : ℕ) → Contains (members features settings u) c → Contains (members features settings u) d → c ≢ d → sees features settings u c d ≡ true) → IsWhole features settings u
 unfolding are_joined
-whole_unit features settings u = record { joined = λ a b h k apart. apart_others a b apart }
+whole_seeing features settings u seeing = record {
+  joined = λ a b h k apart. by_whole settings.inside features settings u a b
+      (λ clear. seeing_whole (sees features settings u) (way features settings) (members features settings u) a b seeing h k) apart;
+}
 
--- ---- of what a graph keeps
+pub whole_blind : (features : Features) (settings : Settings) (u : UnitRow) → are_blind (sees features settings u) (members features settings u) ≡ true → IsWhole features settings u
+unfolding are_joined
+whole_blind features settings u blind = record {
+  joined = λ a b h k apart. by_whole settings.inside features settings u a b
+      (λ clear. blind_whole (sees features settings u) (way features settings) (members features settings u) a b blind) apart;
+}
 
-pub joined_in_apart : (crossing : Crossing) (row : List ℕ) (a b : ℕ) → IsTrue (joined_in crossing row a b) → a ≢ b
-unfolding joined_in
-joined_in_apart crossing row a b h e = true≢false (sym h ∙ rw (eq-eqb a b e) refl)
-
-pub whole_in : (crossing : Crossing) (row : List ℕ) → IsWholeIn crossing row
-unfolding joined_in
-whole_in crossing row = record { joined = λ a b h k apart. apart_others a b apart }
-
--- what is kept of the unit is what holds in it
-pub kept_so : (features : Features) (settings : Settings) (u : UnitRow) (crossing : Crossing) (row : List ℕ) (a b : ℕ) → joined_in crossing row a b ≡ are_joined features settings u a b
-unfolding joined_in are_joined
-kept_so features settings u crossing row a b = refl
-
--- ---- of areas
-
-pub joined_across_apart : (area : Area) (members : List ℕ) (a b : ℕ) → IsTrue (joined_across area members a b) → a ≢ b
-unfolding joined_across
-joined_across_apart area members a b h e = true≢false (sym h ∙ rw (eq-eqb a b e) refl)
-
-pub whole_across : (area : Area) (members : List ℕ) → IsWholeAcross area members
-unfolding joined_across
-whole_across area members = record { joined = λ a b h k apart. apart_others a b apart }
-
-pub told_so : (crossing : Crossing) (area : Area) (row : List ℕ) (a b : ℕ) → joined_in crossing row a b ≡ joined_across area row a b
-unfolding joined_in joined_across
-told_so crossing area row a b = refl
-
--- ---- where any two are joined, those that are joined with a member are all others
+-- ---- what is the same for all items of a list
 
 same_step : (s t : Bool) (x : ℕ) (xs ys : List ℕ) → s ≡ t → xs ≡ ys → cond s (x ∷ xs) xs ≡ cond t (x ∷ ys) ys
 same_step s t x xs ys e rest = rw (e, rest) refl
@@ -77,25 +73,3 @@ filter_same s t (x ∷ xs) same = same_step (s x) (t x) x (filter s xs) (filter 
 pub flat_map_within : {Y : Type 0} (f g : ℕ → List Y) (xs : List ℕ) → ((x : ℕ) → Contains xs x → f x ≡ g x) → flat_map f xs ≡ flat_map g xs
 flat_map_within f g [] same = refl
 flat_map_within {Y} f g (x ∷ xs) same = ap₂ (λ (ys zs : List Y). ys ++ zs) (same x (Contains-first x xs)) (flat_map_within f g xs (λ y h. same y (Contains-later x xs y h)))
-
-not_true : (b : Bool) → (b ≡ true → ⊥) → b ≡ false
-not_true b refused = elim (tested b) [
-  | inl holds ↦ absurd (refused holds)
-  | inr fails ↦ fails
-] where
-  tested : (c : Bool) → (c ≡ true) ⊎ (c ≡ false)
-  tested true = inl refl
-  tested false = inr refl
-
--- a test that never holds of equal numbers, and of all others of the list
-all_others : (t : ℕ → ℕ → Bool) (xs : List ℕ) (a : ℕ) → ((b : ℕ) → IsTrue (t a b) → a ≢ b) → ((b : ℕ) → Contains xs b → a ≢ b → IsTrue (t a b)) → filter (t a) xs ≡ filter (other_than a) xs
-all_others t xs a apart whole = filter_same (t a) (other_than a) xs (λ b h. elim (cases_eq a b) [
-  | inl same ↦ not_true (t a b) (λ joined. apart b joined same) ∙ sym (ap not (eq-eqb a b same))
-  | inr differ ↦ whole b h differ ∙ sym (apart_others a b differ)
-])
-
-pub all_in : (crossing : Crossing) (row : List ℕ) (a : ℕ) → IsWholeIn crossing row → Contains row a → filter (joined_in crossing row a) row ≡ filter (other_than a) row
-all_in crossing row a whole member = all_others (joined_in crossing row) row a (λ b. joined_in_apart crossing row a b) (λ b h. whole.joined a b member h)
-
-pub all_across : (area : Area) (members : List ℕ) (a : ℕ) → IsWholeAcross area members → Contains members a → filter (joined_across area members a) members ≡ filter (other_than a) members
-all_across area members a whole member = all_others (joined_across area members) members a (λ b. joined_across_apart area members a b) (λ b h. whole.joined a b member h)

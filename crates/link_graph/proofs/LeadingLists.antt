@@ -1,11 +1,9 @@
 -- Lists that are filtered, joined and read by place.
-use Rattle.std.proofs.Common.{◌≡◌, ℕ, ◌+◌, ◌<◌, ◌≤◌, zero, suc, Bool, true, false, cond, not, eqb, List, [], ◌∷◌, ◌++◌, Some, None, length, map, get_or, take, refl, sym, ap, ◌∙◌, arith}
+use Rattle.std.proofs.Common.{◌≡◌, ℕ, ◌+◌, ◌<◌, zero, suc, Bool, true, false, cond, eqb, List, [], ◌∷◌, ◌++◌, Some, length, map, get_or, take, refl, sym, ap, ◌∙◌, arith}
 use Rattle.std.specs.Prelude.{slice_get, filter}
 use Rattle.std.specs.List.{flat_map}
-use Rattle.std.proofs.lemmas.Bool.{eq-eqb, ne_eqb}
 use Rattle.std.proofs.lemmas.List.{append-nil, append_assoc, map-append}
 use Rattle.std.proofs.lemmas.List.Elements.{filter-append, filter_more}
-use Rattle.std.proofs.lemmas.Option.{same_Some}
 use Rattle.venue_nodes.specs.Members.{places_where}
 
 -- ---- filtered
@@ -72,65 +70,6 @@ pub at_place : {X : Type 0} (xs : List X) (n : ℕ) → n < length xs → (x : X
 at_place [] n h = absurd (omega (arith, h))
 at_place (x ∷ xs) zero h = (x, refl)
 at_place (x ∷ xs) (suc n) h = at_place xs n (omega (arith, h))
-
--- ---- all items but one
-
-keeps : (n m : ℕ) (ms : List ℕ) → (n ≡ m → ⊥) → cond (not (eqb n m)) (m ∷ ms) ms ≡ m ∷ ms
-keeps n m ms h = ap (λ b. cond (not b) (m ∷ ms) ms) (ne_eqb n m h)
-
-drops : (n m : ℕ) (ms : List ℕ) → n ≡ m → cond (not (eqb n m)) (m ∷ ms) ms ≡ ms
-drops n m ms h = ap (λ b. cond (not b) (m ∷ ms) ms) (eq-eqb n m h)
-
--- where n doesn't stand, all stay
-pub none_dropped : (n : ℕ) (row : List ℕ) → ((k : ℕ) → slice_get row k ≡ Some n → ⊥) → filter (λ m. not (eqb n m)) row ≡ row
-none_dropped n [] h = refl
-none_dropped n (m ∷ row) h =
-    keeps n m (filter (λ m. not (eqb n m)) row) (λ e. h 0 (ap (λ x. Some x) (sym e)))
-    ∙ ap (λ (ms : List ℕ). m ∷ ms) (none_dropped n row (λ k at. h (suc k) at))
-
--- n stands at this place and nowhere else
-pub record StandsOnce (row : List ℕ) (n p : ℕ) : Type 0 where
-  pub there : slice_get row p ≡ Some n
-  pub once : (k : ℕ) → slice_get row k ≡ Some n → k ≡ p
-
-once_later : (m : ℕ) (row : List ℕ) (n p : ℕ) → StandsOnce (m ∷ row) n (suc p) → StandsOnce row n p
-once_later m row n p h = record { there = h.there; once = λ k at. let e : suc k ≡ suc p = h.once (suc k) at in omega (arith, e) }
-
-not_first : (m : ℕ) (row : List ℕ) (n p : ℕ) → StandsOnce (m ∷ row) n (suc p) → n ≡ m → ⊥
-not_first m row n p h e = let same : 0 ≡ suc p = h.once 0 (ap (λ x. Some x) (sym e)) in omega (arith, same)
-
-pub one_dropped : (row : List ℕ) (n p : ℕ) → StandsOnce row n p → length (filter (λ m. not (eqb n m)) row) + 1 ≡ length row
-one_dropped [] n p h = absurd (let no : None ≡ Some n = h.there in cc)
-one_dropped (m ∷ row) n zero h =
-    let same : m ≡ n = same_Some m n h.there in
-    let rest : filter (λ m. not (eqb n m)) row ≡ row = none_dropped n row (λ k at. let e : suc k ≡ 0 = h.once (suc k) at in omega (arith, e)) in
-    let all = ap length (drops n m (filter (λ m. not (eqb n m)) row) (sym same) ∙ rest) in
-    omega (arith, all)
-one_dropped (m ∷ row) n (suc p) h =
-    let rest = one_dropped row n p (once_later m row n p h) in
-    let all = ap length (keeps n m (filter (λ m. not (eqb n m)) row) (not_first m row n p h)) in
-    omega (arith, all, rest)
-
--- before its place the others stand where they stood
-pub other_before : (row : List ℕ) (n p k : ℕ) → StandsOnce row n p → k < p → slice_get (filter (λ m. not (eqb n m)) row) k ≡ slice_get row k
-other_before [] n p k h below = absurd (let no : None ≡ Some n = h.there in cc)
-other_before (m ∷ row) n zero k h below = absurd (omega (arith, below))
-other_before (m ∷ row) n (suc p) zero h below = ap (λ (ms : List ℕ). slice_get ms 0) (keeps n m (filter (λ m. not (eqb n m)) row) (not_first m row n p h))
-other_before (m ∷ row) n (suc p) (suc k) h below =
-    ap (λ (ms : List ℕ). slice_get ms (suc k)) (keeps n m (filter (λ m. not (eqb n m)) row) (not_first m row n p h))
-    ∙ other_before row n p k (once_later m row n p h) (omega (arith, below))
-
--- from its place on one before
-pub other_behind : (row : List ℕ) (n p k : ℕ) → StandsOnce row n p → p ≤ k → slice_get (filter (λ m. not (eqb n m)) row) k ≡ slice_get row (suc k)
-other_behind [] n p k h from = absurd (let no : None ≡ Some n = h.there in cc)
-other_behind (m ∷ row) n zero k h from =
-    let same : m ≡ n = same_Some m n h.there in
-    let rest : filter (λ m. not (eqb n m)) row ≡ row = none_dropped n row (λ k at. let e : suc k ≡ 0 = h.once (suc k) at in omega (arith, e)) in
-    ap (λ (ms : List ℕ). slice_get ms k) (drops n m (filter (λ m. not (eqb n m)) row) (sym same) ∙ rest)
-other_behind (m ∷ row) n (suc p) zero h from = absurd (omega (arith, from))
-other_behind (m ∷ row) n (suc p) (suc k) h from =
-    ap (λ (ms : List ℕ). slice_get ms (suc k)) (keeps n m (filter (λ m. not (eqb n m)) row) (not_first m row n p h))
-    ∙ other_behind row n p k (once_later m row n p h) (omega (arith, from))
 
 -- ---- kept one by one
 

@@ -25,7 +25,7 @@ first_from core at (s ∷ seats) zero seat h there =
     let first : seat.first ≡ at = subst (λ (t : Seat). t.first ≡ at) (same_Some s seat there) h.0 in
     omega (arith, first)
 first_from core at (s ∷ seats) (suc i) seat h there =
-    let later = first_from core (at + others_in core s.row) seats i seat h.2 there in
+    let later = first_from core (at + others_in core s.row s.place) seats i seat h.2 there in
     omega (arith, later)
 
 firsts_rise : (core : Core) (at : ℕ) (seats : List Seat) (i j : ℕ) (a b : Seat) → AreSeats core at seats → i ≤ j → slice_get seats i ≡ Some a → slice_get seats j ≡ Some b → a.first ≤ b.first
@@ -35,7 +35,7 @@ firsts_rise core at (s ∷ seats) zero j a b h order here there =
     let from = first_from core at (s ∷ seats) j b h there in
     omega (arith, first, from)
 firsts_rise core at (s ∷ seats) (suc i) zero a b h order here there = absurd (omega (arith, order))
-firsts_rise core at (s ∷ seats) (suc i) (suc j) a b h order here there = firsts_rise core (at + others_in core s.row) seats i j a b h.2 (omega (arith, order)) here there
+firsts_rise core at (s ∷ seats) (suc i) (suc j) a b h order here there = firsts_rise core (at + others_in core s.row s.place) seats i j a b h.2 (omega (arith, order)) here there
 
 pub seats_rise : (core : Core) (n : ℕ) → IsSoundCore core → IsNonDecreasingBy (λ (seat : Seat). seat.first) (seats_at core n)
 seats_rise core n sound i j d order within =
@@ -43,70 +43,70 @@ seats_rise core n sound i j d order within =
     (slice_get-get_or (seats_at core n) i d (omega (arith, order, within)))
     (slice_get-get_or (seats_at core n) j d within)
 
-next_first : (core : Core) (at : ℕ) (seats : List Seat) (i : ℕ) (seat next : Seat) → AreSeats core at seats → slice_get seats i ≡ Some seat → slice_get seats (suc i) ≡ Some next → next.first ≡ seat.first + others_in core seat.row
+next_first : (core : Core) (at : ℕ) (seats : List Seat) (i : ℕ) (seat next : Seat) → AreSeats core at seats → slice_get seats i ≡ Some seat → slice_get seats (suc i) ≡ Some next → next.first ≡ seat.first + others_in core seat.row seat.place
 next_first core at [] i seat next h here there = absurd (let no : None ≡ Some seat = here in cc)
 next_first core at (s ∷ []) zero seat next h here there = absurd (let no : None ≡ Some next = there in cc)
 next_first core at (s ∷ (t ∷ seats)) zero seat next h here there =
-    let same : next.first ≡ at + others_in core s.row = subst (λ (u : Seat). u.first ≡ at + others_in core s.row) (same_Some t next there) h.2.0 in
+    let same : next.first ≡ at + others_in core s.row s.place = subst (λ (u : Seat). u.first ≡ at + others_in core s.row s.place) (same_Some t next there) h.2.0 in
     let first : s.first ≡ at = h.0 in
-    let up : next.first ≡ s.first + others_in core s.row = omega (arith, same, first) in
-    subst (λ (u : Seat). next.first ≡ u.first + others_in core u.row) (same_Some s seat here) up
-next_first core at (s ∷ seats) (suc i) seat next h here there = next_first core (at + others_in core s.row) seats i seat next h.2 here there
+    let up : next.first ≡ s.first + others_in core s.row s.place = omega (arith, same, first) in
+    subst (λ (u : Seat). next.first ≡ u.first + others_in core u.row u.place) (same_Some s seat here) up
+next_first core at (s ∷ seats) (suc i) seat next h here there = next_first core (at + others_in core s.row s.place) seats i seat next h.2 here there
 
 -- ---- the links of a seat
 
 -- each of these seats has as many links as its row has others
 abbrev AreCounted : Core → ℕ → List Seat → Type 0
-AreCounted core n seats = (seat : Seat) → Contains seats seat → others_in core seat.row ≡ length (links_of_row core n seat.row)
+AreCounted core n seats = (seat : Seat) → Contains seats seat → others_in core seat.row seat.place ≡ length (links_of_row core n seat.row)
 
 counted_later : (core : Core) (n : ℕ) (s : Seat) (seats : List Seat) → AreCounted core n (s ∷ seats) → AreCounted core n seats
 counted_later core n s seats h = λ seat i. h seat (Contains-later s seats seat i)
 
-pub in_seat : (core : Core) (n at : ℕ) (seats : List Seat) (i : ℕ) (seat : Seat) (k j : ℕ) → AreSeats core at seats → AreCounted core n seats → slice_get seats i ≡ Some seat → k < others_in core seat.row → seat.first + k ≡ at + j
+pub in_seat : (core : Core) (n at : ℕ) (seats : List Seat) (i : ℕ) (seat : Seat) (k j : ℕ) → AreSeats core at seats → AreCounted core n seats → slice_get seats i ≡ Some seat → k < others_in core seat.row seat.place → seat.first + k ≡ at + j
     → slice_get (links_of_seats core n seats) j ≡ slice_get (links_of_row core n seat.row) k
 in_seat core n at [] i seat k j h counts there below e = absurd (let no : None ≡ Some seat = there in cc)
 in_seat core n at (s ∷ seats) zero seat k j h counts there below e =
     let same = same_Some s seat there in
     let first : seat.first ≡ at = subst (λ (t : Seat). t.first ≡ at) same h.0 in
-    let count : others_in core seat.row ≡ length (links_of_row core n seat.row) = subst (λ (t : Seat). others_in core t.row ≡ length (links_of_row core n t.row)) same (counts s (Contains-first s seats)) in
+    let count : others_in core seat.row seat.place ≡ length (links_of_row core n seat.row) = subst (λ (t : Seat). others_in core t.row t.place ≡ length (links_of_row core n t.row)) same (counts s (Contains-first s seats)) in
     let is : j ≡ k = omega (arith, first, e) in
     let within : j < length (links_of_row core n seat.row) = omega (arith, is, below, count) in
     ap (λ (t : Seat). slice_get (links_of_row core n t.row ++ links_of_seats core n seats) j) same
     ∙ at_left (links_of_row core n seat.row) (links_of_seats core n seats) j within
     ∙ ap (slice_get (links_of_row core n seat.row)) is
 in_seat core n at (s ∷ seats) (suc i) seat k j h counts there below e =
-    let later = first_from core (at + others_in core s.row) seats i seat h.2 there in
-    let count : others_in core s.row ≡ length (links_of_row core n s.row) = counts s (Contains-first s seats) in
+    let later = first_from core (at + others_in core s.row s.place) seats i seat h.2 there in
+    let count : others_in core s.row s.place ≡ length (links_of_row core n s.row) = counts s (Contains-first s seats) in
     let rest : j ≡ length (links_of_row core n s.row) + (j - length (links_of_row core n s.row)) = omega (arith, later, count, e) in
-    let on : seat.first + k ≡ at + others_in core s.row + (j - length (links_of_row core n s.row)) = omega (arith, later, count, e) in
+    let on : seat.first + k ≡ at + others_in core s.row s.place + (j - length (links_of_row core n s.row)) = omega (arith, later, count, e) in
     at_right (links_of_row core n s.row) (links_of_seats core n seats) j (j - length (links_of_row core n s.row)) rest
-    ∙ in_seat core n (at + others_in core s.row) seats i seat k (j - length (links_of_row core n s.row)) h.2 (counted_later core n s seats counts) there below on
+    ∙ in_seat core n (at + others_in core s.row s.place) seats i seat k (j - length (links_of_row core n s.row)) h.2 (counted_later core n s seats counts) there below on
 
-seats_long : (core : Core) (n : ℕ) (seats : List Seat) → AreCounted core n seats → length (links_of_seats core n seats) ≡ sum_by (λ (seat : Seat). others_in core seat.row) seats
+seats_long : (core : Core) (n : ℕ) (seats : List Seat) → AreCounted core n seats → length (links_of_seats core n seats) ≡ sum_by (λ (seat : Seat). others_in core seat.row seat.place) seats
 seats_long core n [] counts = refl
 seats_long core n (s ∷ seats) counts =
-    let count : others_in core s.row ≡ length (links_of_row core n s.row) = counts s (Contains-first s seats) in
+    let count : others_in core s.row s.place ≡ length (links_of_row core n s.row) = counts s (Contains-first s seats) in
     let rest = seats_long core n seats (counted_later core n s seats counts) in
     let both = length-append (links_of_row core n s.row) (links_of_seats core n seats) in
-    let sum = sum_by-cons (λ (seat : Seat). others_in core seat.row) s seats in
+    let sum = sum_by-cons (λ (seat : Seat). others_in core seat.row seat.place) s seats in
     omega (arith, count, rest, both, sum)
 
 last_end : (core : Core) (at : ℕ) (seats : List Seat) (i : ℕ) (seat : Seat) → AreSeats core at seats → slice_get seats i ≡ Some seat → length seats ≡ i + 1
-    → at + sum_by (λ (s : Seat). others_in core s.row) seats ≡ seat.first + others_in core seat.row
+    → at + sum_by (λ (s : Seat). others_in core s.row s.place) seats ≡ seat.first + others_in core seat.row seat.place
 last_end core at [] i seat h there long = absurd (let no : None ≡ Some seat = there in cc)
 last_end core at (s ∷ []) zero seat h there long =
     let first : s.first ≡ at = h.0 in
-    let end : at + (0 + others_in core s.row) ≡ s.first + others_in core s.row = omega (arith, first) in
-    subst (λ (t : Seat). at + (0 + others_in core s.row) ≡ t.first + others_in core t.row) (same_Some s seat there) end
+    let end : at + (0 + others_in core s.row s.place) ≡ s.first + others_in core s.row s.place = omega (arith, first) in
+    subst (λ (t : Seat). at + (0 + others_in core s.row s.place) ≡ t.first + others_in core t.row t.place) (same_Some s seat there) end
 last_end core at (s ∷ (t ∷ seats)) zero seat h there long = absurd (omega (arith, long))
 last_end core at (s ∷ seats) (suc i) seat h there long =
-    let rest = last_end core (at + others_in core s.row) seats i seat h.2 there (omega (arith, long)) in
-    let sum = sum_by-cons (λ (u : Seat). others_in core u.row) s seats in
+    let rest = last_end core (at + others_in core s.row s.place) seats i seat h.2 there (omega (arith, long)) in
+    let sum = sum_by-cons (λ (u : Seat). others_in core u.row u.place) s seats in
     omega (arith, rest, sum)
 
 -- ---- of a node
 
-pub node_counted : (core : Core) (n : ℕ) → IsSoundCore core → (seat : Seat) → Contains (seats_at core n) seat → others_in core seat.row ≡ length (links_of_row core n seat.row)
+pub node_counted : (core : Core) (n : ℕ) → IsSoundCore core → (seat : Seat) → Contains (seats_at core n) seat → others_in core seat.row seat.place ≡ length (links_of_row core n seat.row)
 node_counted core n sound seat h = seat_count core n seat sound h
 
 pub across_long : (core : Core) (n : ℕ) → IsSoundCore core → length (links_of_seats core n (seats_at core n)) ≡ across_count core n
@@ -125,7 +125,7 @@ out_long core n sound =
     omega (arith, all, both, across, passages)
 
 -- a link across the unit of a seat
-pub lead_across : (core : Core) (n place k : ℕ) (seat : Seat) (link : Link) → IsSoundCore core → Contains (seats_at core n) seat → place ≡ seat.first + k → k < others_in core seat.row → slice_get (links_of_row core n seat.row) k ≡ Some link
+pub lead_across : (core : Core) (n place k : ℕ) (seat : Seat) (link : Link) → IsSoundCore core → Contains (seats_at core n) seat → place ≡ seat.first + k → k < others_in core seat.row seat.place → slice_get (links_of_row core n seat.row) k ≡ Some link
     → slice_get (links_out (network_in core) n) place ≡ Some link
 lead_across core n place k seat link sound (i, within, is) e below there =
     let seats = seats_at core n in
@@ -144,12 +144,12 @@ lead_passage core n place k link sound e there =
     ∙ there
 
 -- where the links across units end
-pub seats_end : (core : Core) (n k : ℕ) (seat : Seat) → IsSoundCore core → slice_get (seats_at core n) k ≡ Some seat → length (seats_at core n) ≡ k + 1 → across_count core n ≡ seat.first + others_in core seat.row
+pub seats_end : (core : Core) (n k : ℕ) (seat : Seat) → IsSoundCore core → slice_get (seats_at core n) k ≡ Some seat → length (seats_at core n) ≡ k + 1 → across_count core n ≡ seat.first + others_in core seat.row seat.place
 seats_end core n k seat sound there long =
     let end = last_end core 0 (seats_at core n) k seat (node_seats core n sound) there long in
     omega (arith, end)
 
-is_last : (core : Core) (n place : ℕ) (seat : Seat) (h : IsLastSeat (seats_at core n) place seat) → IsSoundCore core → seat.first + others_in core seat.row ≤ place → length (seats_at core n) ≡ h.k + 1
+is_last : (core : Core) (n place : ℕ) (seat : Seat) (h : IsLastSeat (seats_at core n) place seat) → IsSoundCore core → seat.first + others_in core seat.row seat.place ≤ place → length (seats_at core n) ≡ h.k + 1
 is_last core n place seat h sound behind = elim (cases_lt (suc h.k) (length (seats_at core n))) [
   | inl more ↦
       let next = at_place (seats_at core n) (suc h.k) more in
@@ -161,10 +161,10 @@ is_last core n place seat h sound behind = elim (cases_lt (suc h.k) (length (sea
       omega (arith, none, within)
 ]
 
-pub end_behind : (core : Core) (n place : ℕ) (seat : Seat) → IsSoundCore core → IsLastSeat (seats_at core n) place seat → seat.first + others_in core seat.row ≤ place → across_count core n ≡ seat.first + others_in core seat.row
+pub end_behind : (core : Core) (n place : ℕ) (seat : Seat) → IsSoundCore core → IsLastSeat (seats_at core n) place seat → seat.first + others_in core seat.row seat.place ≤ place → across_count core n ≡ seat.first + others_in core seat.row seat.place
 end_behind core n place seat sound h behind = seats_end core n h.k seat sound h.there (is_last core n place seat h sound behind)
 
-none_end : (core : Core) (place : ℕ) (seats : List Seat) → AreSeats core 0 seats → HasNoSeat seats place → sum_by (λ (seat : Seat). others_in core seat.row) seats ≡ 0
+none_end : (core : Core) (place : ℕ) (seats : List Seat) → AreSeats core 0 seats → HasNoSeat seats place → sum_by (λ (seat : Seat). others_in core seat.row seat.place) seats ≡ 0
 none_end core place [] h none = refl
 none_end core place (s ∷ seats) h none =
     let first : s.first ≡ 0 = h.0 in

@@ -1,11 +1,13 @@
 -- What the code reads of a graph, and the ways between its nodes.
-use Rattle.std.proofs.Common.{◌≡◌, ℕ, ◌+◌, ◌-◌, ◌<◌, ◌≤◌, ◌↔◌, ◌⊎◌, pos, suc, Bool, true, false, cond, List, [], Option, Some, None, length, get_or, refl, sym, ap, ◌∙◌, subst, subst₂, arith, inl, inr}
+use Rattle.std.proofs.Common.{◌≡◌, ℕ, ◌+◌, ◌<◌, ◌≤◌, ◌↔◌, pos, Bool, true, false, cond, List, [], Option, Some, None, length, get_or, refl, sym, ap, ◌∙◌, subst, subst₂, arith, inl, inr}
 use Rattle.std.specs.Prelude.{slice_get, filter}
+use Rattle.std.specs.List.Sorted.{IsStrictlyIncreasing}
 use Rattle.std.proofs.Math.Nat.{mul-le-mul}
 use Rattle.std.proofs.lemmas.Bool.{cases_lt, lt-ltb, le-ltb}
 use Rattle.std.proofs.lemmas.Int.{ints}
 use Rattle.std.proofs.lemmas.List.{get_or_read, get_or_past}
-use Rattle.std.proofs.lemmas.Option.{same_Some, slice_get-get_or, get_or_from_slice_get}
+use Rattle.std.proofs.lemmas.Option.{same_Some, none-some, slice_get_within, slice_get_read, slice_get-get_or, get_or_from_slice_get}
+use Rattle.unit_sight.specs.Tables.{neighbours}
 use Rattle.venue_types.specs.declared.link.Link.{Link}
 use Rattle.venue_types.specs.declared.link.Node.{Node}
 use Rattle.venue_types.specs.declared.point.Spot.{Spot}
@@ -17,14 +19,14 @@ use Rattle.venue_nodes.proofs.Items.{member_at, at_map}
 use Rattle.link_graph.specs.declared.parts.Core.{Core}
 use Rattle.link_graph.specs.declared.parts.Crossing.{Crossing}
 use Rattle.link_graph.specs.declared.parts.Seat.{Seat}
-use Rattle.link_graph.specs.Cores.{IsSoundCore, network_in, spot_in, way_in, link_across, links_across_from, others_in, seats_at, leaving_at, joined_in, IsWholeIn, other_than}
-use Rattle.link_graph.proofs.Joined.{all_in}
+use Rattle.link_graph.specs.Cores.{IsSoundCore, network_in, spot_in, way_in, link_across, links_across_from, others_in, seats_at, leaving_at, joined_in, IsTableOf}
 use Rattle.link_graph.specs.Leads.{links_of_row, passages_out, lower_than}
 use Rattle.link_graph.proofs.Lengths.{between_length, between_bound}
-use Rattle.link_graph.proofs.LeadingLists.{at_place, StandsOnce, other_before, other_behind}
+use Rattle.link_graph.proofs.LeadingLists.{at_place}
 use Rattle.link_graph.proofs.LeadingRows.{row_known}
 use Rattle.link_graph.proofs.LeadingSeats.{IsSeated, others_known}
 use Rattle.link_graph.proofs.LeadingPlaces.{IsLeaving, leaving_at_place}
+use Rattle.link_graph.proofs.TableRows.{joined_row, neighbour_within}
 
 -- ---- lists of a node
 
@@ -61,45 +63,67 @@ passage_read core n k list given sound some read e =
 pub passage_is : (core : Core) (n k number : ℕ) (link : Link) → IsLeaving core n k number → link ≡ get_or core.passages.items number link → slice_get (passages_out core n) k ≡ Some link
 passage_is core n k number link h read = h.leaves ∙ ap (λ (l : Link). Some l) (sym (read ∙ get_or_from_slice_get core.passages.items number h.link link h.there))
 
--- ---- one of the others of a row
+-- ---- one of those with which a member is joined
 
--- the place k among the others, of a node that stands at p
-abbrev pub IsOther : ℕ → ℕ → ℕ → Type 0
-IsOther k p at = ((k < p) × (at ≡ k)) ⊎ ((p ≤ k) × (at ≡ k + 1))
+-- the node stands at a place of the row of a unit that is read
+record IsReadAt (n p : ℕ) (crossing : Crossing) (row : List ℕ) : Type 0 where
+  stands : slice_get row p ≡ Some n
+  rise : IsStrictlyIncreasing row
+  table : IsTableOf crossing row
 
-other_at : (row : List ℕ) (n p k at : ℕ) → StandsOnce row n p → IsOther k p at → slice_get (filter (other_than n) row) k ≡ slice_get row at
-other_at row n p k at h (inl before) = other_before row n p k h before.0 ∙ ap (slice_get row) (sym before.1)
-other_at row n p k at h (inr behind) =
-    let e : suc k ≡ at = let is : at ≡ k + 1 = behind.1 in omega (arith, is) in
-    other_behind row n p k h behind.0 ∙ ap (slice_get row) e
+read_at : (core : Core) (n w p : ℕ) (crossing : Crossing) (row : List ℕ) → IsSeated core n w p → slice_get core.crossings.items w ≡ Some crossing → slice_get (row_list core.rows) w ≡ Some row → IsReadAt n p crossing row
+read_at core n w p crossing row h here there =
+    let same_row : h.row ≡ row = same_Some h.row row (sym h.is_row ∙ there) in
+    let same_crossing : h.crossing ≡ crossing = same_Some h.crossing crossing (sym h.is_crossing ∙ here) in
+    subst₂ (IsReadAt n p) same_crossing same_row (record { stands = h.stands; rise = h.kept.rise; table = h.table })
 
-other_within : (k p at count : ℕ) → IsOther k p at → k < count - 1 → at < count
-other_within k p at count (inl before) h = omega (arith, before, h)
-other_within k p at count (inr behind) h = omega (arith, behind, h)
+-- the unit of the row that is read
+pub crossing_read : (core : Core) (n w p : ℕ) (crossing : Crossing) → IsSeated core n w p → crossing ≡ get_or core.crossings.items w crossing → slice_get core.crossings.items w ≡ Some crossing
+crossing_read core n w p crossing h read = slice_get_read core.crossings.items (length core.crossings.items) w crossing refl (slice_get_within core.crossings.items w h.crossing h.is_crossing) read
+
+-- the place is one of the table of the unit
+pub place_read : (core : Core) (n w p : ℕ) (crossing : Crossing) → IsSeated core n w p → slice_get core.crossings.items w ≡ Some crossing → p < length crossing.sights
+place_read core n w p crossing h here =
+    let read = read_at core n w p crossing h.row h here h.is_row in
+    let within = slice_get_within h.row p n read.stands in
+    let long = read.table.long in
+    omega (arith, within, long)
+
+-- a place with which it is joined is one of the row
+pub joined_read : (core : Core) (n w p k place : ℕ) (crossing : Crossing) (row : List ℕ) → IsSeated core n w p → slice_get core.crossings.items w ≡ Some crossing → slice_get (row_list core.rows) w ≡ Some row
+    → slice_get (neighbours crossing.sights p) k ≡ Some place → place < length row
+joined_read core n w p k place crossing row h here there joined =
+    let read = read_at core n w p crossing row h here there in
+    let within = neighbour_within crossing.sights p k place joined in
+    let long = read.table.long in
+    omega (arith, within, long)
 
 walked_some : (b : Bool) (k count : ℕ) → k < cond b count 0 → (b ≡ true) × (k < count)
 walked_some true k count h = (refl, h)
 walked_some false k count h = absurd (omega (arith, h))
 
-pub across_lead : (core : Core) (n w p k at : ℕ) (crossing : Crossing) (row : List ℕ) → IsSeated core n w p → slice_get core.crossings.items w ≡ Some crossing → slice_get (row_list core.rows) w ≡ Some row → k < others_in core w → IsOther k p at
-    → slice_get (links_of_row core n w) k ≡ Some (link_across core crossing n (get_or row at 0))
-across_lead core n w p k at crossing row h here there below other =
-    let same_row : h.row ≡ row = same_Some h.row row (sym h.is_row ∙ there) in
-    let same_crossing : h.crossing ≡ crossing = same_Some h.crossing crossing (sym h.is_crossing ∙ here) in
-    let once : StandsOnce row n p = subst (λ (r : List ℕ). StandsOnce r n p) same_row h.once in
-    let some = walked_some crossing.walked k (length row - 1) (subst (λ (m : ℕ). k < m) (others_known core w crossing row here there) below) in
-    let within = other_within k p at (length row) other some.1 in
-    let whole = subst (λ (c : Crossing). IsWholeIn c row) same_crossing (subst (λ (r : List ℕ). IsWholeIn h.crossing r) same_row h.whole) in
-    let others = all_in crossing row n whole (member_at row p n once.there) in
-    let item : slice_get (filter (joined_in crossing row n) row) k ≡ Some (get_or row at 0) = ap (λ (xs : List ℕ). slice_get xs k) others ∙ other_at row n p k at once other ∙ slice_get-get_or row at 0 within in
+-- as many places as it has links are joined with it
+pub some_joined : (core : Core) (w p k : ℕ) (crossing : Crossing) → slice_get core.crossings.items w ≡ Some crossing → k < others_in core w p → (crossing.walked ≡ true) × (k < length (neighbours crossing.sights p))
+some_joined core w p k crossing here below = walked_some crossing.walked k (length (neighbours crossing.sights p)) (subst (λ (m : ℕ). k < m) (others_known core w p crossing here) below)
+
+pub none_joined : (core : Core) (w p k : ℕ) (crossing : Crossing) → slice_get core.crossings.items w ≡ Some crossing → k < others_in core w p → slice_get (neighbours crossing.sights p) k ≡ None → ⊥
+none_joined core w p k crossing here below nowhere =
+    let some = some_joined core w p k crossing here below in
+    let at = at_place (neighbours crossing.sights p) k some.1 in
+    none-some at.0 (sym nowhere ∙ at.1)
+
+-- the link to the member that stands there
+pub across_lead : (core : Core) (n w p k place : ℕ) (crossing : Crossing) (row : List ℕ) → IsSeated core n w p → slice_get core.crossings.items w ≡ Some crossing → slice_get (row_list core.rows) w ≡ Some row → k < others_in core w p
+    → slice_get (neighbours crossing.sights p) k ≡ Some place → slice_get (links_of_row core n w) k ≡ Some (link_across core crossing n (get_or row place 0))
+across_lead core n w p k place crossing row h here there below joined =
+    let read = read_at core n w p crossing row h here there in
+    let some = some_joined core w p k crossing here below in
+    let item : slice_get (filter (joined_in crossing row n) row) k ≡ Some (get_or row place 0) =
+    ap (λ (xs : List ℕ). slice_get xs k) (joined_row crossing row p n read.rise read.table read.stands)
+    ∙ at_map (λ (j : ℕ). get_or row j 0) (neighbours crossing.sights p) k place joined in
     ap (λ (ls : List Link). slice_get ls k) (row_known core n w crossing row here there)
     ∙ ap (λ (b : Bool). slice_get (cond b (links_across_from core crossing row n) []) k) some.0
-    ∙ at_map (link_across core crossing n) (filter (joined_in crossing row n) row) k (get_or row at 0) item
-
-pub other_row_within : (core : Core) (n w p k at : ℕ) (row : List ℕ) → IsSeated core n w p → slice_get (row_list core.rows) w ≡ Some row → k < others_in core w → IsOther k p at → at < length row
-other_row_within core n w p k at row h there below other =
-    let some = walked_some h.crossing.walked k (length row - 1) (subst (λ (m : ℕ). k < m) (others_known core w h.crossing row h.is_crossing there) below) in
-    other_within k p at (length row) other some.1
+    ∙ at_map (link_across core crossing n) (filter (joined_in crossing row n) row) k (get_or row place 0) item
 
 -- ---- ways
 

@@ -1,31 +1,30 @@
 -- The seats of a node: where its links across units lie.
-use Rattle.std.proofs.Common.{◌≡◌, ℕ, ◌+◌, ◌-◌, ◌≤◌, suc, Bool, true, false, cond, eqb, ltb, List, [], ◌∷◌, ◌++◌, Option, Some, None, length, map, get_or, refl, sym, ap, ◌∙◌, subst, arith, inl, inr}
+use Rattle.std.proofs.Common.{◌≡◌, ℕ, ◌+◌, ◌<◌, ◌≤◌, suc, Bool, true, false, cond, eqb, ltb, List, [], ◌∷◌, ◌++◌, Option, Some, None, length, map, get_or, refl, sym, ap, ◌∙◌, subst, arith, inl, inr}
 use Rattle.std.specs.Prelude.{slice_get, filter, Contains}
 use Rattle.std.specs.List.{flat_map}
-use Rattle.std.specs.List.Sorted.{IsStrictlyIncreasing}
 use Rattle.std.proofs.lemmas.Bool.{eqb-true, ltb-true, ltb-false}
 use Rattle.std.proofs.lemmas.List.{length-map, nil_from_length}
 use Rattle.std.proofs.lemmas.List.Elements.{filter-append, All-contains, Contains-append_cases}
-use Rattle.std.proofs.lemmas.Map.Keys.{sorted_from_strictly_increasing}
-use Rattle.std.proofs.lemmas.Option.{slice_get_within, get_or_from_slice_get}
+use Rattle.std.proofs.lemmas.Option.{same_Some, slice_get_within}
 use Rattle.rule_reports.proofs.Members.{Contains-nil, Contains-first, Contains-later, Contains-cons_cases}
+use Rattle.unit_sight.specs.Tables.{neighbours}
 use Rattle.venue_types.specs.declared.link.Link.{Link}
 use Rattle.venue_nodes.specs.declared.members.Membership.{Membership}
 use Rattle.venue_nodes.specs.Members.{places_where}
 use Rattle.venue_nodes.specs.Rows.{row_list}
 use Rattle.venue_nodes.specs.Standing.{standings}
 use Rattle.venue_nodes.proofs.Items.{member_at, at_member}
-use Rattle.venue_nodes.proofs.Places.{place_at, one_number}
+use Rattle.venue_nodes.proofs.Places.{place_at}
 use Rattle.venue_nodes.proofs.Spread.{from_map}
 use Rattle.link_graph.specs.declared.parts.Core.{Core}
 use Rattle.link_graph.specs.declared.parts.Crossing.{Crossing}
 use Rattle.link_graph.specs.declared.parts.Seat.{Seat}
-use Rattle.link_graph.specs.Cores.{IsSoundCore, IsRow, network_in, links_in, link_across, links_across_from, links_across_all, others_in, seats_from, seats_at, joined_in, IsWholeIn}
-use Rattle.link_graph.proofs.Joined.{all_in}
+use Rattle.link_graph.specs.Cores.{IsSoundCore, IsRow, network_in, links_in, link_across, links_across_from, links_across_all, others_in, seats_from, seats_at, joined_in, IsTableOf}
 use Rattle.link_graph.specs.Networks.{links_out}
 use Rattle.link_graph.specs.Leads.{starts_at, links_of_row, links_of_seats, passages_out, AreSeats}
-use Rattle.link_graph.proofs.LeadingLists.{at_place, StandsOnce, one_dropped}
+use Rattle.link_graph.proofs.LeadingLists.{at_place}
 use Rattle.link_graph.proofs.LeadingRows.{row_known, across_memberships}
+use Rattle.link_graph.proofs.TableRows.{joined_row}
 
 -- ---- where a node stands
 
@@ -68,20 +67,17 @@ standing_at n w (row ∷ rows) m h = elim (Contains-append_cases (map (seated w)
   | inr there ↦ stands_later n w row rows m (standing_at n (w + 1) rows m there)
 ]
 
-pub stands_once : (row : List ℕ) (n p : ℕ) → IsStrictlyIncreasing row → slice_get row p ≡ Some n → StandsOnce row n p
-stands_once row n p rise there = record { there = there; once = λ k at. one_number row k p n (sorted_from_strictly_increasing row rise) at there }
-
 -- ---- what is known of a row in which a node stands
 
--- the row of this number and its unit, and where the node stands in it
+-- the row of this number and its unit, the table of its places, and where the node stands in it
 pub record IsSeated (core : Core) (n w place : ℕ) : Type 0 where
   pub crossing : Crossing
   pub row : List ℕ
   pub is_crossing : slice_get core.crossings.items w ≡ Some crossing
   pub is_row : slice_get (row_list core.rows) w ≡ Some row
-  pub once : StandsOnce row n place
+  pub stands : slice_get row place ≡ Some n
   pub kept : IsRow core row
-  pub whole : IsWholeIn crossing row
+  pub table : IsTableOf crossing row
 
 pub seated_at : (core : Core) (n : ℕ) (m : Membership) → IsSoundCore core → Contains (standings n 0 (row_list core.rows)) m → IsSeated core n m.unit m.place
 seated_at core n m sound h =
@@ -98,30 +94,29 @@ seated_at core n m sound h =
       row = standing.row;
       is_crossing = crossing.1;
       is_row = there;
-      once = stands_once standing.row n m.place kept.rise standing.stands;
+      stands = standing.stands;
       kept = kept;
-      whole = sound.whole m.unit crossing.0 standing.row crossing.1 there;
+      table = sound.tables m.unit crossing.0 standing.row crossing.1 there;
     }
 
 -- ---- how many links
 
-pub others_known : (core : Core) (w : ℕ) (crossing : Crossing) (row : List ℕ) → slice_get core.crossings.items w ≡ Some crossing → slice_get (row_list core.rows) w ≡ Some row → others_in core w ≡ cond crossing.walked (length row - 1) 0
-others_known core w crossing row here there =
-    ap (λ (found : Option Crossing). elim found [ None ↦ 0 | Some c ↦ cond c.walked (length (get_or (row_list core.rows) w []) - 1) 0 ]) here
-    ∙ ap (λ (r : List ℕ). cond crossing.walked (length r - 1) 0) (get_or_from_slice_get (row_list core.rows) w row [] there)
+pub others_known : (core : Core) (w i : ℕ) (crossing : Crossing) → slice_get core.crossings.items w ≡ Some crossing → others_in core w i ≡ cond crossing.walked (length (neighbours crossing.sights i)) 0
+others_known core w i crossing here = ap (λ (found : Option Crossing). elim found [ None ↦ 0 | Some c ↦ cond c.walked (length (neighbours c.sights i)) 0 ]) here
 
 count_of : (b : Bool) (links : List Link) (k : ℕ) → length links ≡ k → length (cond b links []) ≡ cond b k 0
 count_of true links k e = e
 count_of false links k e = refl
 
-pub row_count : (core : Core) (n w place : ℕ) → IsSeated core n w place → others_in core w ≡ length (links_of_row core n w)
+pub row_count : (core : Core) (n w place : ℕ) → IsSeated core n w place → others_in core w place ≡ length (links_of_row core n w)
 row_count core n w place h =
-    let dropped = one_dropped h.row n place h.once in
-    let long = length-map (filter (joined_in h.crossing h.row n) h.row) (link_across core h.crossing n) in
-    let others = ap length (all_in h.crossing h.row n h.whole (member_at h.row place n h.once.there)) in
-    let many : length (links_across_from core h.crossing h.row n) ≡ length h.row - 1 = omega (arith, dropped, long, others) in
-    others_known core w h.crossing h.row h.is_crossing h.is_row
-    ∙ sym (count_of h.crossing.walked (links_across_from core h.crossing h.row n) (length h.row - 1) many)
+    let next = neighbours h.crossing.sights place in
+    let many : length (links_across_from core h.crossing h.row n) ≡ length next =
+    length-map (filter (joined_in h.crossing h.row n) h.row) (link_across core h.crossing n)
+    ∙ ap length (joined_row h.crossing h.row place n h.kept.rise h.table h.stands)
+    ∙ length-map next (λ j. get_or h.row j 0) in
+    others_known core w place h.crossing h.is_crossing
+    ∙ sym (count_of h.crossing.walked (links_across_from core h.crossing h.row n) (length next) many)
     ∙ sym (ap length (row_known core n w h.crossing h.row h.is_crossing h.is_row))
 
 -- ---- the seats
@@ -137,28 +132,28 @@ links_step core n at c m rest some none count e f false more =
     let empty : links_of_row core n m.unit ≡ [] = nil_from_length (links_of_row core n m.unit) (omega (arith, zero', count)) in
     ap (λ (ls : List Link). ls ++ rest) empty ∙ f
 
-seats_links : (core : Core) (n at : ℕ) (ms : List Membership) → ((m : Membership) → Contains ms m → others_in core m.unit ≡ length (links_of_row core n m.unit))
+seats_links : (core : Core) (n at : ℕ) (ms : List Membership) → ((m : Membership) → Contains ms m → others_in core m.unit m.place ≡ length (links_of_row core n m.unit))
     → flat_map (λ (m : Membership). links_of_row core n m.unit) ms ≡ links_of_seats core n (seats_from core at ms)
 seats_links core n at [] h = refl
 seats_links core n at (m ∷ ms) h =
     let later = λ (o : Membership) (i : Contains ms o). h o (Contains-later m ms o i) in
-    links_step core n at (others_in core m.unit) m (flat_map (λ (o : Membership). links_of_row core n o.unit) ms)
-    (seats_from core (at + others_in core m.unit) ms) (seats_from core at ms)
+    links_step core n at (others_in core m.unit m.place) m (flat_map (λ (o : Membership). links_of_row core n o.unit) ms)
+    (seats_from core (at + others_in core m.unit m.place) ms) (seats_from core at ms)
     (h m (Contains-first m ms))
-    (seats_links core n (at + others_in core m.unit) ms later)
+    (seats_links core n (at + others_in core m.unit m.place) ms later)
     (seats_links core n at ms later)
-    (ltb 0 (others_in core m.unit)) refl
+    (ltb 0 (others_in core m.unit m.place)) refl
 
-seats_step : (core : Core) (at : ℕ) (m : Membership) (some none : List Seat) → AreSeats core (at + others_in core m.unit) some → AreSeats core at none
-    → (b : Bool) → ltb 0 (others_in core m.unit) ≡ b → AreSeats core at (cond b (seat_of m at ∷ some) none)
-seats_step core at m some none h k true e = (refl, ltb-true 0 (others_in core m.unit) e, h)
+seats_step : (core : Core) (at : ℕ) (m : Membership) (some none : List Seat) → AreSeats core (at + others_in core m.unit m.place) some → AreSeats core at none
+    → (b : Bool) → ltb 0 (others_in core m.unit m.place) ≡ b → AreSeats core at (cond b (seat_of m at ∷ some) none)
+seats_step core at m some none h k true e = (refl, ltb-true 0 (others_in core m.unit m.place) e, h)
 seats_step core at m some none h k false e = k
 
 are_seats : (core : Core) (at : ℕ) (ms : List Membership) → AreSeats core at (seats_from core at ms)
 are_seats core at [] = tt
 are_seats core at (m ∷ ms) =
-    seats_step core at m (seats_from core (at + others_in core m.unit) ms) (seats_from core at ms)
-    (are_seats core (at + others_in core m.unit) ms) (are_seats core at ms) (ltb 0 (others_in core m.unit)) refl
+    seats_step core at m (seats_from core (at + others_in core m.unit m.place) ms) (seats_from core at ms)
+    (are_seats core (at + others_in core m.unit m.place) ms) (are_seats core at ms) (ltb 0 (others_in core m.unit m.place)) refl
 
 -- a seat is that of a membership
 pub record IsSeatOf (ms : List Membership) (seat : Seat) : Type 0 where
@@ -181,8 +176,8 @@ seat_step m ms at some none seat h k false i = seat_later m ms seat (k i)
 seat_from : (core : Core) (at : ℕ) (ms : List Membership) (seat : Seat) → Contains (seats_from core at ms) seat → IsSeatOf ms seat
 seat_from core at [] seat h = absurd (Contains-nil seat h)
 seat_from core at (m ∷ ms) seat h =
-    seat_step m ms at (seats_from core (at + others_in core m.unit) ms) (seats_from core at ms) seat
-    (seat_from core (at + others_in core m.unit) ms seat) (seat_from core at ms seat) (ltb 0 (others_in core m.unit)) h
+    seat_step m ms at (seats_from core (at + others_in core m.unit m.place) ms) (seats_from core at ms) seat
+    (seat_from core (at + others_in core m.unit m.place) ms seat) (seat_from core at ms seat) (ltb 0 (others_in core m.unit m.place)) h
 
 -- ---- of a node
 
@@ -195,7 +190,13 @@ seat_seated core n seat sound h =
     let at = seated_at core n of.m sound of.there in
     subst (λ p. IsSeated core n seat.row p) (sym of.place) (subst (λ w. IsSeated core n w of.m.place) (sym of.row) at)
 
-pub seat_count : (core : Core) (n : ℕ) (seat : Seat) → IsSoundCore core → Contains (seats_at core n) seat → others_in core seat.row ≡ length (links_of_row core n seat.row)
+-- a seat's place is one of its row
+pub seat_within : (core : Core) (n : ℕ) (seat : Seat) → IsSoundCore core → Contains (seats_at core n) seat → (members : List ℕ) → slice_get (row_list core.rows) seat.row ≡ Some members → seat.place < length members
+seat_within core n seat sound h members there =
+    let at = seat_seated core n seat sound h in
+    subst (λ (row : List ℕ). seat.place < length row) (same_Some at.row members (sym at.is_row ∙ there)) (slice_get_within at.row seat.place n at.stands)
+
+pub seat_count : (core : Core) (n : ℕ) (seat : Seat) → IsSoundCore core → Contains (seats_at core n) seat → others_in core seat.row seat.place ≡ length (links_of_row core n seat.row)
 seat_count core n seat sound h = row_count core n seat.row seat.place (seat_seated core n seat sound h)
 
 across_out : (core : Core) (n : ℕ) → IsSoundCore core → filter (starts_at n) (links_across_all core core.crossings.items (row_list core.rows)) ≡ links_of_seats core n (seats_at core n)

@@ -29,7 +29,7 @@ use Rattle.link_graph.proofs.LeadingEnds.{parts_few}
 -- ---- seats as stretches
 
 abbrev stretch_by : Core → Seat → Crossing → Stretch
-stretch_by core seat crossing = record { way = Inside crossing.via crossing.kind (barred_in core crossing.via); first = seat.first; count = others_in core seat.row }
+stretch_by core seat crossing = record { way = Inside crossing.via crossing.kind (barred_in core crossing.via); first = seat.first; count = others_in core seat.row seat.place }
 
 abbrev pub between : Core → ℕ → Stretch
 between core n = record { way = Between; first = across_count core n; count = length (leaving_at core n) }
@@ -38,10 +38,10 @@ pub stretch_known : (core : Core) (seat : Seat) (crossing : Crossing) → slice_
 stretch_known core seat crossing here =
     ap (λ (found : Option Crossing). let s : Stretch = elim found [
       | None ↦ record { way = Between; first = seat.first; count = 0 }
-      | Some c ↦ record { way = Inside c.via c.kind (barred_in core c.via); first = seat.first; count = others_in core seat.row }
+      | Some c ↦ record { way = Inside c.via c.kind (barred_in core c.via); first = seat.first; count = others_in core seat.row seat.place }
     ] in s) here
 
-pub stretch_parts : (core : Core) (seat : Seat) (crossing : Crossing) (barred : Bool) (count : ℕ) → barred ≡ barred_in core crossing.via → count ≡ others_in core seat.row
+pub stretch_parts : (core : Core) (seat : Seat) (crossing : Crossing) (barred : Bool) (count : ℕ) → barred ≡ barred_in core crossing.via → count ≡ others_in core seat.row seat.place
     → ◌≡◌ {A = Stretch} (record { way = Inside crossing.via crossing.kind barred; first = seat.first; count = count }) (stretch_by core seat crossing)
 stretch_parts core seat crossing barred count e f = rw (e, f) refl
 
@@ -80,12 +80,12 @@ stretch_rest core n k first count nowhere within e f = elim (cases_lt k (length 
 ]
 
 -- a node has few seats: each has a link
-seats_few : (core : Core) (at : ℕ) (seats : List Seat) → AreSeats core at seats → length seats ≤ sum_by (λ (seat : Seat). others_in core seat.row) seats
+seats_few : (core : Core) (at : ℕ) (seats : List Seat) → AreSeats core at seats → length seats ≤ sum_by (λ (seat : Seat). others_in core seat.row seat.place) seats
 seats_few core at [] h = omega arith
 seats_few core at (s ∷ seats) h =
-    let rest = seats_few core (at + others_in core s.row) seats h.2 in
-    let some : 0 < others_in core s.row = h.1 in
-    let sum = sum_by-cons (λ (seat : Seat). others_in core seat.row) s seats in
+    let rest = seats_few core (at + others_in core s.row s.place) seats h.2 in
+    let some : 0 < others_in core s.row s.place = h.1 in
+    let sum = sum_by-cons (λ (seat : Seat). others_in core seat.row seat.place) s seats in
     omega (arith, rest, some, sum)
 
 pub node_few : (core : Core) (n : ℕ) → IsSoundCore core → length (seats_at core n) ≤ 32800000
@@ -97,7 +97,7 @@ node_few core n sound =
 -- ---- they cover
 
 follow_seats : (core : Core) (at : ℕ) (seats : List Seat) (last : Stretch) (end : ℕ) → AreSeats core at seats → ((seat : Seat) → Contains seats seat → (crossing : Crossing) × (slice_get core.crossings.items seat.row ≡ Some crossing))
-    → last.first ≡ at + sum_by (λ (seat : Seat). others_in core seat.row) seats → last.first + last.count ≡ end → Follow at end (map (stretch_of core) seats ++ last ∷ [])
+    → last.first ≡ at + sum_by (λ (seat : Seat). others_in core seat.row seat.place) seats → last.first + last.count ≡ end → Follow at end (map (stretch_of core) seats ++ last ∷ [])
 follow_seats core at [] last end h known first long =
     let begins : last.first ≡ at = omega (arith, first) in
     (begins, let ends : at + last.count ≡ end = omega (arith, begins, long) in ends)
@@ -105,8 +105,8 @@ follow_seats core at (s ∷ seats) last end h known first long =
     let crossing = known s (Contains-first s seats) in
     let is = stretch_known core s crossing.0 crossing.1 in
     let begins : s.first ≡ at = h.0 in
-    let sum = sum_by-cons (λ (seat : Seat). others_in core seat.row) s seats in
-    let rest = follow_seats core (at + others_in core s.row) seats last end h.2 (λ seat i. known seat (Contains-later s seats seat i)) (omega (arith, first, sum)) long in
+    let sum = sum_by-cons (λ (seat : Seat). others_in core seat.row seat.place) s seats in
+    let rest = follow_seats core (at + others_in core s.row s.place) seats last end h.2 (λ seat i. known seat (Contains-later s seats seat i)) (omega (arith, first, sum)) long in
     subst (λ (t : Stretch). (t.first ≡ at) × Follow (at + t.count) end (map (stretch_of core) seats ++ last ∷ [])) (sym is) (begins, rest)
 
 seat_crossing : (core : Core) (n : ℕ) (seat : Seat) → IsSoundCore core → Contains (seats_at core n) seat → (crossing : Crossing) × (slice_get core.crossings.items seat.row ≡ Some crossing)
@@ -137,10 +137,10 @@ sort_of core n stretch sound h = elim (Contains-append_cases (map (stretch_of co
   | inr there ↦ of_rest (Contains-only (between core n) stretch there)
 ]
 
-seat_some : (core : Core) (at : ℕ) (seats : List Seat) (i : ℕ) (seat : Seat) → AreSeats core at seats → slice_get seats i ≡ Some seat → 0 < others_in core seat.row
+pub seat_some : (core : Core) (at : ℕ) (seats : List Seat) (i : ℕ) (seat : Seat) → AreSeats core at seats → slice_get seats i ≡ Some seat → 0 < others_in core seat.row seat.place
 seat_some core at [] i seat h there = absurd (let no : None ≡ Some seat = there in cc)
-seat_some core at (s ∷ seats) zero seat h there = subst (λ (t : Seat). 0 < others_in core t.row) (same_Some s seat there) h.1
-seat_some core at (s ∷ seats) (suc i) seat h there = seat_some core (at + others_in core s.row) seats i seat h.2 there
+seat_some core at (s ∷ seats) zero seat h there = subst (λ (t : Seat). 0 < others_in core t.row t.place) (same_Some s seat there) h.1
+seat_some core at (s ∷ seats) (suc i) seat h there = seat_some core (at + others_in core s.row s.place) seats i seat h.2 there
 
 some_of : (core : Core) (n : ℕ) (stretch : Stretch) → IsSoundCore core → IsSort core n stretch → IsSome stretch.way stretch.count
 some_of core n stretch sound (of_seat i seat crossing there here is) = subst (λ (t : Stretch). IsSome t.way t.count) is (seat_some core 0 (seats_at core n) i seat (node_seats core n sound) there)
@@ -155,7 +155,7 @@ row_made core n w crossing row k link here there at =
     subst (λ (b : ℕ). link_across core crossing n b ≡ link) (ap (λ (l : Link). l.to) made.2) made.2
 
 -- one of the places of a seat is one of its row
-pub seat_link : (core : Core) (n place i : ℕ) (seat : Seat) (link : Link) → IsSoundCore core → slice_get (seats_at core n) i ≡ Some seat → seat.first ≤ place → place < seat.first + others_in core seat.row
+pub seat_link : (core : Core) (n place i : ℕ) (seat : Seat) (link : Link) → IsSoundCore core → slice_get (seats_at core n) i ≡ Some seat → seat.first ≤ place → place < seat.first + others_in core seat.row seat.place
     → slice_get (links_out (network_in core) n) place ≡ Some link → slice_get (links_of_row core n seat.row) (place - seat.first) ≡ Some link
 seat_link core n place i seat link sound there from to at =
     let seats = seats_at core n in
@@ -168,7 +168,7 @@ seat_link core n place i seat link sound there from to at =
     item.1 ∙ ap (λ (l : Link). Some l) (sym same)
 
 seat_way : (core : Core) (n place i : ℕ) (seat : Seat) (crossing : Crossing) (link : Link) → IsSoundCore core → slice_get (seats_at core n) i ≡ Some seat → slice_get core.crossings.items seat.row ≡ Some crossing
-    → seat.first ≤ place → place < seat.first + others_in core seat.row → slice_get (links_out (network_in core) n) place ≡ Some link
+    → seat.first ≤ place → place < seat.first + others_in core seat.row seat.place → slice_get (links_out (network_in core) n) place ≡ Some link
     → GoesBy (network_in core) (Inside crossing.via crossing.kind (barred_in core crossing.via)) link
 unfolding network_in
 seat_way core n place i seat crossing link sound there here from to at =
@@ -194,7 +194,7 @@ goes_of : (core : Core) (n place : ℕ) (stretch : Stretch) (link : Link) → Is
     → GoesBy (network_in core) stretch.way link
 goes_of core n place stretch link sound (of_seat i seat crossing there here is) from to at =
     let first : seat.first ≡ stretch.first = ap (λ (t : Stretch). t.first) is in
-    let count : others_in core seat.row ≡ stretch.count = ap (λ (t : Stretch). t.count) is in
+    let count : others_in core seat.row seat.place ≡ stretch.count = ap (λ (t : Stretch). t.count) is in
     subst (λ (t : Stretch). GoesBy (network_in core) t.way link) is (seat_way core n place i seat crossing link sound there here (omega (arith, first, from)) (omega (arith, first, count, to)) at)
 goes_of core n place stretch link sound (of_rest is) from to at =
     let first : across_count core n ≡ stretch.first = ap (λ (t : Stretch). t.first) is in

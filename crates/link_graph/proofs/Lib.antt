@@ -1,6 +1,9 @@
 pub mod Lengths
 pub mod Items
 pub mod Joined
+pub mod TableRows
+pub mod RoomSpots
+pub mod RoomTables
 pub mod Passages
 pub mod Sorts
 pub mod Ranges
@@ -28,6 +31,7 @@ pub mod AskingDoors
 pub mod AreaLinks
 pub mod RowLinks
 pub mod Detouring
+pub mod NewPlaces
 pub mod NewLinks
 pub use Rattle.venue_nodes.proofs.Places
 pub use Rattle.venue_nodes.proofs.Finding

@@ -1,5 +1,5 @@
 -- What is made of features is sound, and its network is theirs.
-use Rattle.std.proofs.Common.{◌≡◌, ◌≢◌, ℕ, ◌+◌, ◌<◌, ◌≤◌, Bool, true, false, List, [], ◌++◌, Some, None, All, length, map, replicate, get_or, refl, sym, ap, ap₂, ◌∙◌, subst, inl, inr, arith, length-append}
+use Rattle.std.proofs.Common.{◌≡◌, ◌≢◌, ℕ, ◌+◌, ◌<◌, ◌≤◌, Bool, true, false, List, [], ◌++◌, Some, None, All, length, map, replicate, get_or, sym, ap, ap₂, ◌∙◌, subst, inl, inr, arith, length-append}
 use Rattle.std.specs.Prelude.{Contains, slice_get, AllPairs}
 use Rattle.std.specs.List.{enumerate_from}
 use Rattle.std.specs.List.Sorted.{IsStrictlyIncreasing}
@@ -7,7 +7,6 @@ use Rattle.std.specs.Option.{option_map_or}
 use Rattle.std.proofs.lemmas.Bool.{cases_lt}
 use Rattle.std.proofs.lemmas.List.{length-map, length-replicate, get_or_past}
 use Rattle.std.proofs.lemmas.List.Elements.{All-contains, All-contains_itself}
-use Rattle.std.proofs.lemmas.Map.Keys.{IsStrictlyIncreasing-from_sorted}
 use Rattle.std.proofs.lemmas.Option.{slice_get_within, slice_get-get_or}
 use Rattle.venue_types.specs.declared.feature_id.FeatureId.{FeatureId}
 use Rattle.venue_types.specs.declared.features.Features.{Features}
@@ -25,8 +24,8 @@ use Rattle.plane_exact.specs.Plane.{IsCloseDoubled}
 use Rattle.venue_nodes.specs.declared.nodes.Nodes.{Nodes}
 use Rattle.venue_nodes.specs.declared.members.Rows.{Rows}
 use Rattle.venue_nodes.specs.Crowds.{Crowds, IsRoomy}
-use Rattle.venue_nodes.specs.Members.{members, is_member}
-use Rattle.venue_nodes.specs.Nodes.{nodes, node_rows, closables, walkable_units}
+use Rattle.venue_nodes.specs.Members.{members}
+use Rattle.venue_nodes.specs.Nodes.{nodes, closables, walkable_units}
 use Rattle.venue_nodes.specs.Numbering.{number_among}
 use Rattle.venue_nodes.specs.Rows.{AreRowsOf, row_list}
 use Rattle.venue_nodes.specs.Standing.{standings}
@@ -35,22 +34,22 @@ use Rattle.venue_nodes.proofs.Counts.{are_few}
 use Rattle.venue_nodes.proofs.Items.{at_member, from_map}
 use Rattle.venue_nodes.proofs.Limiting.{squares_are}
 use Rattle.venue_nodes.proofs.Once.{closables_once}
-use Rattle.venue_nodes.proofs.Places.{kept_at, places_rise}
+use Rattle.venue_nodes.proofs.Places.{kept_at}
 use Rattle.link_graph.specs.declared.parts.Core.{Core}
 use Rattle.link_graph.specs.declared.parts.Crossing.{Crossing}
 use Rattle.link_graph.specs.Cores.{IsSoundCore, IsCrossing, IsPassage, IsRow, AreDoors, AreSeated, links_in, links_across_all, ends_in, barred_in, seats_from, network_in}
 use Rattle.link_graph.specs.Facts.{facts_at, end_at, unit_by}
 use Rattle.link_graph.specs.Links.{first_unit, links, relationship_links}
-use Rattle.link_graph.specs.Making.{AreClose, AreRoomy, IsMadeOf, crossings_from, passages_from}
+use Rattle.link_graph.specs.Making.{AreClose, AreRoomy, AreTables, IsMadeOf, crossings_from, passages_from}
 use Rattle.link_graph.specs.Networks.{IsNetworkOf, joined_facts, link_facts}
 use Rattle.link_graph.proofs.Items.{from_flat_map, from_enumerate}
 use Rattle.link_graph.proofs.MadeDoors.{asks_are, doors_many, door_own}
 use Rattle.link_graph.proofs.MadeSeats.{seats_same, stands_nowhere}
 use Rattle.link_graph.proofs.MadeTrails.{passages_few}
-use Rattle.link_graph.proofs.MadeUnits.{walks, via_of, vias_rise, via_within, crossings_many, barred_is, units_are}
+use Rattle.link_graph.proofs.MadeUnits.{walks, via_of, vias_rise, via_within, tables_fit, barred_is, units_are}
+use Rattle.link_graph.proofs.RoomTables.{members_rise}
 use Rattle.link_graph.proofs.Passages.{of_relationship}
 use Rattle.link_graph.proofs.Ranges.{member_within, closables_count, passage_range}
-use Rattle.link_graph.proofs.Joined.{whole_in}
 
 -- what holds of each item holds of all
 all_of : {X : Type 0} (P : X → Type 0) (xs : List X) → ((x : X) → Contains xs x → P x) → All P xs
@@ -91,10 +90,6 @@ rows_roomy features settings rows are crowds = record {
   squares = subst (λ n. n ≤ 20000000) (sym (squares_are features settings rows are)) crowds.0.1;
 }
 
-members_rise : (features : Features) (settings : Settings) (u : UnitRow) → IsStrictlyIncreasing (members features settings u)
-unfolding members
-members_rise features settings u = IsStrictlyIncreasing-from_sorted _ (places_rise (is_member settings.border_tol u) 0 (node_rows features settings))
-
 row_within : (features : Features) (settings : Settings) (list : List Node) (row : List ℕ) (m : ℕ) → IsUnitRow features settings row → list ≡ nodes features settings → Contains row m → m < length list
 row_within features settings list row m h same there =
     subst (λ (xs : List Node). m < length xs) (sym same) (member_within features settings h.u m (subst (λ (r : List ℕ). Contains r m) (sym h.is) there))
@@ -108,17 +103,13 @@ row_sound features settings core row made crowds h =
       short = row_short features settings row of_unit crowds;
     }
 
-pub rows_paired : (features : Features) (settings : Settings) (via : ℕ) (units : List UnitRow) (rows : Rows) (crossings read : List Crossing) → AreRowsOf features settings rows → units ≡ features.units → read ≡ crossings
-    → crossings ≡ crossings_from via units → length read ≡ length (row_list rows)
-rows_paired features settings via units rows crossings read are whole same made =
-    ap (λ (cs : List Crossing). length cs) (same ∙ made ∙ ap (crossings_from via) whole)
-    ∙ crossings_many via features.units
-    ∙ sym (length-map (walkable_units features) (members features settings))
-    ∙ ap (λ (rs : List (List ℕ)). length rs) (sym are.members_are)
+pub rows_fit : (features : Features) (settings : Settings) (via : ℕ) (rows : Rows) (crossings : List Crossing) → AreRowsOf features settings rows → crossings ≡ crossings_from features settings via features.units
+    → AreTables crossings (row_list rows)
+rows_fit features settings via rows crossings are made = subst (λ (cs : List Crossing). AreTables cs (row_list rows)) (sym made) (tables_fit features settings rows via are)
 
 crossing_sound : (features : Features) (settings : Settings) (core : Core) (crossing : Crossing) → IsMadeOf features settings core → Contains core.crossings.items crossing → IsCrossing core crossing
 crossing_sound features settings core crossing made h =
-    let within = via_within (first_unit features) features.units crossing (subst (λ (cs : List Crossing). Contains cs crossing) made.crossings h) in
+    let within = via_within features settings (first_unit features) features.units crossing (subst (λ (cs : List Crossing). Contains cs crossing) made.crossings h) in
     let count = closables_count features in
     let first : core.first_unit ≡ first_unit features = made.first_unit_is in
     let low : first_unit features ≤ crossing.via = within.0 in
@@ -225,14 +216,15 @@ pub core_sound : (features : Features) (settings : Settings) (core : Core) → A
 core_sound features settings core sound own crowds few law made =
     let count = closables_count features in
     let ids = made.nodes.closable_ids in
+    let fit = rows_fit features settings (first_unit features) core.rows core.crossings.items made.rows made.crossings in
     record {
       rows = all_of (IsRow core) (row_list core.rows) (λ row h. row_sound features settings core row made crowds h);
       squares = (rows_roomy features settings core.rows made.rows crowds).squares;
-      paired = rows_paired features settings (first_unit features) features.units core.rows core.crossings.items core.crossings.items made.rows refl refl made.crossings;
+      paired = fit.paired;
       crossings = all_of (IsCrossing core) core.crossings.items (λ crossing h. crossing_sound features settings core crossing made h);
-      whole = λ w crossing row unit there. whole_in crossing row;
+      tables = fit.each;
       units_last = subst (λ (xs : List FeatureId). core.first_unit ≤ length xs) (sym ids) (omega (arith, count, made.first_unit_is));
-      apart = subst (λ (cs : List Crossing). IsStrictlyIncreasing (map via_of cs)) (sym made.crossings) (vias_rise (first_unit features) features.units);
+      apart = subst (λ (cs : List Crossing). IsStrictlyIncreasing (map via_of cs)) (sym made.crossings) (vias_rise features settings (first_unit features) features.units);
       passages = all_of (IsPassage core) core.passages.items (λ link h. passage_sound features settings core link made h);
       few_passages = few_passages features settings core.passages.items sound made.passages;
       doors = doors_sound features settings core made;

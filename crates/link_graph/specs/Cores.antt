@@ -1,5 +1,5 @@
 -- What a graph keeps, and the network that it means: the code's own machinery, which no public contract cites.
-use Rattle.std.specs.Prelude.{◌≡◌, ◌≢◌, ℕ, ◌+◌, ◌-◌, ◌<◌, ◌≤◌, ◌==◌, pos, List, [], ◌∷◌, ◌++◌, map, filter, length, All, AllPairs, Contains, sum_by, slice_get, slice_index_or, Option, Some, None, Bool, false, not, IsTrue, nat_lt, if◌then◌else◌}
+use Rattle.std.specs.Prelude.{◌≡◌, ◌≢◌, ℕ, ◌+◌, ◌<◌, ◌≤◌, ◌==◌, pos, List, [], ◌∷◌, ◌++◌, map, filter, length, All, AllPairs, Contains, sum_by, slice_get, slice_index_or, Option, Some, None, Bool, false, nat_lt, if◌then◌else◌}
 use Rattle.std.specs.List.{flat_map}
 use Rattle.std.specs.List.Sorted.{IsStrictlyIncreasing}
 use Rattle.venue_types.specs.declared.feature_id.FeatureId.{FeatureId}

@@ -129,7 +129,7 @@ pub record AreRoomy (rows : List (List ℕ)) : Type 0 where
   pub each : All IsRoomy rows
   pub squares : sum_by square_of rows ≤ 20000000
 
--- each table fits its row: it has a place for each member, and none of its rows has more true values
+-- there is a unit for each row, and its table fits it
 pub record AreTables (crossings : List Crossing) (rows : List (List ℕ)) : Type 0 where
   pub paired : length crossings ≡ length rows
   pub each : (w : ℕ) (crossing : Crossing) (row : List ℕ) → slice_get crossings w ≡ Some crossing → slice_get rows w ≡ Some row → IsTableOf crossing row

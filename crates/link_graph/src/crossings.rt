@@ -1,6 +1,6 @@
 //! The units of a venue, as a graph keeps them.
 
-ghost use Rattle.std.specs.Prelude.{◌≡◌, ◌+◌, ◌≤◌, Contains, IfOk, length};
+ghost use Rattle.std.specs.Prelude.{◌≡◌, ◌+◌, ◌<◌, ◌≤◌, Contains, IfOk, Some, length, slice_get};
 ghost use Rattle.venue_nodes.specs.Members.{members};
 ghost use Rattle.venue_nodes.specs.Rows.{AreRowsOf, row_list};
 ghost use Rattle.link_graph.specs.Making.{AreRoomy, IsRoomGround, crossing_of, crossings_from, barred_from};
@@ -36,6 +36,21 @@ impl Ground<'_> {
         })
     }
 
+    // The unit of a row of members, where the first unit has this number among what can be closed.
+    fn room(&self, alloc: Global, first: u32, rows: &Rows, w: u32) -> Result<Crossing, OutOfMemory>
+        requires ground { IsRoomGround self.now }
+        requires rows { AreRowsOf self.now.features.now self.now.settings.now rows.now }
+        requires roomy { AreRoomy (row_list rows.now) }
+        requires few { first + length self.now.features.now.units ≤ 400000 }
+        requires row { w < length (row_list rows.now) }
+        ensures { IfOk result (λ crossing. slice_get (crossings_from self.now.features.now self.now.settings.now first self.now.features.now.units) w ≡ Some crossing) }
+    {
+        let k = rows.unit_index(w);
+        let row = rows.row(w);
+        let units = self.features.units.as_slice();
+        self.crossing(alloc, first + k, &units[k as usize], row)
+    }
+
     /// The walkable ones of the units, the first of which has this number among what can be closed, and whose rows of members these are.
     pub(crate) fn crossings(
         &self,
@@ -51,10 +66,8 @@ impl Ground<'_> {
     {
         let mut crossings = Vec::new(alloc);
         for w in 0..rows.len() {
-            let k = rows.unit_index(w);
-            if let Some(unit) = self.features.units.get(k as usize) {
-                crossings.push(self.crossing(alloc, first + k, unit, rows.row(w))?)?;
-            }
+            let crossing = self.room(alloc, first, rows, w)?;
+            crossings.push(crossing)?;
         }
         Ok(crossings)
     }

@@ -104,6 +104,7 @@ pub(crate) fn end_across(core: &Core, n: u32, seat: &Seat, k: u32) -> u32
     let crossing = &core.crossings[seat.row as usize];
     match crossing.sights.nth(seat.place, k) {
         Some(place) => core.rows.row(seat.row)[place as usize],
+        // Never: it has more than k.
         None => n,
     }
 }

@@ -112,11 +112,12 @@ fn known_place(core: &Core, row: u32, known: Option<u32>) -> Option<u32>
     ensures some { (a : ℕ) → known ≡ Some a → IfSome result (IsPlaceOf core.now row a) × IsSome result }
 {
     let a = known?;
-    let seats = core.seats[a as usize].as_slice();
-    seats
-        .iter()
-        .find(|seat| seat.row == row)
-        .map(|seat| seat.place)
+    for seat in core.seats[a as usize].as_slice() {
+        if seat.row == row {
+            return Some(seat.place);
+        }
+    }
+    None
 }
 
 // The first by a relationship. None is known from another node.

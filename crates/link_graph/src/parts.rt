@@ -1,8 +1,8 @@
 //! What a graph keeps.
 
 use imdf_access::EndFacts;
-use venue_nodes::{Nodes, Rows};
 use unit_sight::Sights;
+use venue_nodes::{Nodes, Rows};
 use venue_types::{Kind, Link, List};
 
 /// By what links across a unit go.

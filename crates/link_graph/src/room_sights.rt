@@ -6,6 +6,7 @@ ghost use Rattle.venue_types.specs.declared.settings.Inside.TheVariants.{Clear};
 ghost use Rattle.venue_nodes.specs.Members.{members};
 ghost use Rattle.venue_nodes.specs.Nodes.{carries};
 ghost use Rattle.venue_nodes.specs.Views.{node_list};
+ghost use Rattle.link_graph.specs.Links.{wall_tol};
 ghost use Rattle.link_graph.specs.Making.{IsRoomGround, room_table, spot_at};
 
 use crate::trails::Ground;
@@ -13,7 +14,7 @@ use imdf_access::unit_kind;
 use std::alloc::Global;
 use unit_sight::Sights;
 use venue_nodes::Nodes;
-use venue_types::{Inside, Kind, OutOfMemory, Spot, UnitRow};
+use venue_types::{Inside, Kind, OutOfMemory, Settings, Spot, UnitRow};
 
 impl Ground<'_> {
     /// Which members of a unit are joined, by their places in its row. Where ways go straight, or people are carried, nothing is looked at;
@@ -52,7 +53,7 @@ impl Ground<'_> {
     {
         let spots = spots_of(alloc, self.nodes, row)?;
         let settings = self.settings;
-        let tolerance = settings.border_tol.max(settings.contain_tol);
+        let tolerance = wall_tolerance(settings);
         Sights::of(
             alloc,
             &unit.shape,
@@ -62,6 +63,14 @@ impl Ground<'_> {
             settings.ky,
         )
     }
+}
+
+// How far off a wall a place stands at it.
+fn wall_tolerance(settings: &Settings) -> u32
+    ensures value { result ≡ wall_tol settings.now }
+    ensures range { result ≤ 1000000 }
+{
+    settings.border_tol.max(settings.contain_tol)
 }
 
 // Where these nodes are.

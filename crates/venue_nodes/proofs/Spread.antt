@@ -26,22 +26,22 @@ use Rattle.venue_nodes.proofs.CornerRows.{corner_from}
 use Rattle.venue_nodes.proofs.Judged.{Contains-map, amenity_point, anchor_point, opening_point, unit_vertex, unit_display}
 
 -- a spot's coordinates are sums of those of such points
-record IsSummed (points : List Point) (spot : Spot) : Type 0 where
-  a : Point
-  b : Point
-  c : Point
-  d : Point
-  has_a : Contains points a
-  has_b : Contains points b
-  has_c : Contains points c
-  has_d : Contains points d
-  x : spot.x ≡ a.x +ℤ b.x
-  y : spot.y ≡ c.y +ℤ d.y
+pub record IsSummed (points : List Point) (spot : Spot) : Type 0 where
+  pub a : Point
+  pub b : Point
+  pub c : Point
+  pub d : Point
+  pub has_a : Contains points a
+  pub has_b : Contains points b
+  pub has_c : Contains points c
+  pub has_d : Contains points d
+  pub x : spot.x ≡ a.x +ℤ b.x
+  pub y : spot.y ≡ c.y +ℤ d.y
 
 sums_within : (s t a b c d : ℤ) → s ≡ a +ℤ b → t ≡ c +ℤ d → IsWithin 200000000 a c → IsWithin 200000000 b d → IsWithin 400000000 s t
 sums_within s t a b c d e f h k = record { above = omega (arith, ints); below = omega (arith, ints) }
 
-close_sums : (points : List Point) (s t : Spot) → AllClose points → IsSummed points s → IsSummed points t → IsCloseDoubled s t
+pub close_sums : (points : List Point) (s t : Spot) → AllClose points → IsSummed points s → IsSummed points t → IsCloseDoubled s t
 close_sums points s t close h k = record {
   x = sums_within s.x t.x h.a.x h.b.x k.a.x k.b.x h.x k.x (close.close h.a k.a h.has_a k.has_a).x (close.close h.b k.b h.has_b k.has_b).x;
   y = sums_within s.y t.y h.c.y h.d.y k.c.y k.d.y h.y k.y (close.close h.c k.c h.has_c k.has_c).y (close.close h.d k.d h.has_d k.has_d).y;
@@ -159,7 +159,7 @@ corner_summed features settings row h =
     let judged = unit_vertex features at.row at.point own at.vertex in
     subst (λ (r : NodeRow). IsSummed (judged_positions features) (node_of_row r).spot) at.is (middle_summed (judged_positions features) at.point at.point judged judged)
 
-node_summed : (features : Features) (settings : Settings) (node : Node) → AreSound features → Contains (nodes features settings) node → IsSummed (judged_positions features) node.spot
+pub node_summed : (features : Features) (settings : Settings) (node : Node) → AreSound features → Contains (nodes features settings) node → IsSummed (judged_positions features) node.spot
 unfolding nodes node_rows
 node_summed features settings node sound h =
     let at = from_map node_of_row (node_rows features settings) node h in

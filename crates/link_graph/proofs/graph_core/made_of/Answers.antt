@@ -1,7 +1,10 @@
 use Rattle.std.proofs.Common.{◌∙◌}
 use Rattle.venue_nodes.specs.Views.{node_list}
-use Rattle.link_graph.proofs.MadeCore.{nodes_close, rows_roomy, rows_paired, passages_within, few_passages}
+use Rattle.link_graph.proofs.MadeCore.{nodes_close, rows_roomy, rows_fit, passages_within, few_passages}
 use Rattle.link_graph.proofs.graph_core.made_of.Goals as goal
+
+pub crossings-requires-clause-roomy : goal.crossings-requires-clause-roomy
+crossings-requires-clause-roomy c = rows_roomy c.args.features.now c.args.settings.now c.args.rows c.requires.rows c.requires.roomy
 
 pub passages-requires-clause-ground : goal.passages-requires-clause-ground
 passages-requires-clause-ground c = record {
@@ -17,10 +20,9 @@ pub leaving_of-requires-clause-within : goal.leaving_of-requires-clause-within
 leaving_of-requires-clause-within c =
     passages_within c.args.features.now c.args.settings.now (node_list c.args.nodes) c.len-3.result c.deref.result.now (c.deref.ensures.value ∙ c.in_ok-passages.ensures) c.requires.nodes.list c.len-3.ensures.number
 
-pub seats_of-requires-clause-paired : goal.seats_of-requires-clause-paired
-seats_of-requires-clause-paired c =
-    rows_paired c.args.features.now c.args.settings.now _ c.as_slice-units.result.now c.args.rows c.in_ok-crossings.crossings.items c.deref-2.result.now
-    c.requires.rows c.as_slice-units.ensures c.deref-2.ensures.value c.in_ok-crossings.ensures
+pub seats_of-requires-clause-tables : goal.seats_of-requires-clause-tables
+seats_of-requires-clause-tables c =
+    rows_fit c.args.features.now c.args.settings.now _ c.args.rows c.deref-2.result.now c.requires.rows (c.deref-2.ensures.value ∙ c.in_ok-crossings.ensures)
 
 pub seats_of-requires-clause-roomy : goal.seats_of-requires-clause-roomy
 seats_of-requires-clause-roomy c = rows_roomy c.args.features.now c.args.settings.now c.args.rows c.requires.rows c.requires.roomy

@@ -6,6 +6,7 @@ use Rattle.link_graph.specs.Cores.{seats_at}
 use Rattle.link_graph.specs.Leads.{HasNoSeat, IsLastSeat, lead_link}
 use Rattle.link_graph.proofs.LeadingPlaces.{seats_rise, out_long, no_seats_end, end_behind, lead_across, lead_passage}
 use Rattle.link_graph.proofs.LeadingReads.{seats_read}
+use Rattle.link_graph.proofs.LeadingSeats.{seat_within}
 use Rattle.link_graph.proofs.leads.lead_at.Goals as goal
 
 pub last_seat-requires : goal.last_seat-requires
@@ -20,6 +21,14 @@ passage-requires-clause-k c =
     let none : HasNoSeat c.as_slice.result.now c.args.place = c.in-None.ensures in
     let end = no_seats_end core c.args.n c.args.place c.requires.sound (subst (λ (ss : List Seat). HasNoSeat ss c.args.place) e none) in
     omega (arith, end, out_long core c.args.n c.requires.sound, c.requires.place)
+
+pub others-count-requires-clause-place : goal.others-count-requires-clause-place
+others-count-requires-clause-place c =
+    let core = c.args.core.now in
+    let e = seats_read core c.args.n c.index.result.now c.as_slice.result.now c.requires.sound c.requires.node c.index.ensures c.as_slice.ensures in
+    let last : IsLastSeat c.as_slice.result.now c.args.place c.in-Some.seat = c.in-Some.ensures in
+    let here = subst (λ (ss : List Seat). IsLastSeat ss c.args.place c.in-Some.seat) e last in
+    seat_within core c.args.n c.in-Some.seat c.requires.sound (member_at (seats_at core c.args.n) here.k c.in-Some.seat here.there)
 
 pub across-requires-clause-seat : goal.across-requires-clause-seat
 across-requires-clause-seat c =

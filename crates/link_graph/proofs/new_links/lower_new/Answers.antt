@@ -1,9 +1,11 @@
-use Rattle.std.proofs.Common.{◌≡◌, List, None, Some, get_or, refl, sym, subst, arith}
+use Rattle.std.proofs.Common.{◌≡◌, List, None, Some, get_or, refl, sym, ap, ◌∙◌, subst, arith}
 use Rattle.std.specs.Prelude.{slice_get}
 use Rattle.std.proofs.lemmas.Option.{slice_get_read}
 use Rattle.venue_nodes.proofs.Items.{member_at}
 use Rattle.link_graph.specs.declared.parts.Seat.{Seat}
-use Rattle.link_graph.specs.Cores.{network_in, seats_at, stretch_of}
+use Rattle.link_graph.specs.declared.parts.UnitWay.{UnitWay}
+use Rattle.link_graph.specs.Cores.{link_by, network_in, seats_at, stretch_of}
+use Rattle.link_graph.specs.Leads.{lower_than}
 use Rattle.link_graph.specs.Rests.{rest_of}
 use Rattle.link_graph.proofs.LeadingReads.{seats_read}
 use Rattle.link_graph.proofs.LeadingStretches.{crossing_within, stretch_inside, stretch_rest}
@@ -66,7 +68,8 @@ returns-in-Some c = λ link stands.
     let crossing = c.index-in-Some.result.now in
     let unit = slice_get_read core.crossings.items _ seat.row crossing refl (crossing_within core c.args.n seat c.requires.sound member) c.index-in-Some.ensures in
     let new = c.requires.found (stretch_of core seat) (stretch_inside core c.args.n c.args.k seat there) in
-    lower_seat core c.args.n c.args.base (get_or c.args.least.now c.args.found.to 0) seat crossing c.args.found c.args.least.now link c.lower_across.result c.requires.sound member unit new stands refl c.lower_across.ensures
+    lower_seat core c.args.n c.args.base (get_or c.args.least.now c.args.found.to 0) seat crossing c.args.found c.args.least.now link c.lower_across.result c.requires.sound member unit new stands refl
+    (c.lower_across.ensures ∙ ap (λ (way : UnitWay). lower_than (get_or c.args.least.now c.args.found.to 0) c.args.base (link_by core way c.args.n c.args.found.to)) c.way.ensures)
 
 pub returns-in-None : goal.returns-in-None
 unfolding network_in

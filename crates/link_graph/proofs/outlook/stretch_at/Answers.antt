@@ -7,6 +7,7 @@ use Rattle.link_graph.specs.Cores.{seats_at}
 use Rattle.link_graph.proofs.LeadingEnds.{parts_few}
 use Rattle.link_graph.proofs.LeadingReads.{seats_read, leaving_read}
 use Rattle.link_graph.proofs.LeadingStretches.{crossing_within, stretch_inside, stretch_rest}
+use Rattle.link_graph.proofs.LeadingSeats.{seat_within}
 use Rattle.link_graph.proofs.outlook.stretch_at.Goals as goal
 
 pub seat_stretch-requires-clause-row : goal.seat_stretch-requires-clause-row
@@ -16,6 +17,14 @@ seat_stretch-requires-clause-row c =
     let at : Some c.in-Some.seat.now ≡ slice_get c.index.result.now c.args.k = c.in-Some.ensures in
     let there = subst (λ (ss : List Seat). slice_get ss c.args.k ≡ Some c.in-Some.seat.now) e (sym at) in
     crossing_within core c.args.n c.in-Some.seat.now c.requires.sound (member_at (seats_at core c.args.n) c.args.k c.in-Some.seat.now there)
+
+pub seat_stretch-requires-clause-place : goal.seat_stretch-requires-clause-place
+seat_stretch-requires-clause-place c =
+    let core = c.args.core.now in
+    let e = seats_read core c.args.n c.index.result.now c.index.result.now c.requires.sound c.requires.node c.index.ensures refl in
+    let at : Some c.in-Some.seat.now ≡ slice_get c.index.result.now c.args.k = c.in-Some.ensures in
+    let there = subst (λ (ss : List Seat). slice_get ss c.args.k ≡ Some c.in-Some.seat.now) e (sym at) in
+    seat_within core c.args.n c.in-Some.seat.now c.requires.sound (member_at (seats_at core c.args.n) c.args.k c.in-Some.seat.now there)
 
 pub overflow_cast-result : goal.overflow_cast-result
 overflow_cast-result c =

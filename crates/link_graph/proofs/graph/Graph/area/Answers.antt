@@ -43,5 +43,5 @@ returns-clause-there c =
 pub returns-clause-area : goal.returns-clause-area
 returns-clause-area c =
     let graph = c.args.self.now in
-    subst₂ (λ (area : Area) (members : List ℕ). IsArea (network graph) area members) (sym c.unit.ensures) (sym c.walked.ensures)
+    subst₂ (λ (area : Area) (members : List ℕ). IsArea (network graph) area members c.index-crossing.result.now.sights) (sym c.unit.ensures) (sym c.walked.ensures)
     (is_area graph c.index-crossing.result.now c.row.result.now c.args.w (unit_read graph.core.crossings.items c.args.w c.index-crossing.result.now (unit_within graph c.args.w c.requires) c.index-crossing.ensures) c.row.ensures)
