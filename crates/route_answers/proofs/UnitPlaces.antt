@@ -1,6 +1,6 @@
 -- Where the row of a link across a unit stands among those of the unit.
 use Rattle.std.proofs.Common.{◌≡◌, ◌≢◌, ℕ, ◌+◌, ◌*◌, ◌-◌, ◌<◌, ◌≤◌, Bool, true, false, ◌&&◌, List, [], ◌∷◌, length, map, filter, flat_map, Some, refl, sym, ap, ◌∙◌, subst, true≢false, inl, inr}
-use Rattle.std.specs.Prelude.{Contains, IsTrue, slice_get, nat_lt}
+use Rattle.std.specs.Prelude.{Contains, slice_get, nat_lt}
 use Rattle.std.proofs.lemmas.List.Kept.{IsStrictlyIncreasing-filter}
 use Rattle.venue_types.specs.declared.link.Link.{Link}
 use Rattle.venue_types.specs.declared.settings.Profile.{Profile}

@@ -1,4 +1,4 @@
-use Rattle.std.proofs.Common.{◌≡◌, ◌≤◌, ◌<◌, ◌&&◌, ℕ, Bool, true, false, length, take, filter, get_or, sym, ap, ◌∙◌, arith}
+use Rattle.std.proofs.Common.{◌≡◌, ◌<◌, ◌&&◌, ℕ, Bool, true, false, length, take, filter, get_or, sym, ap, ◌∙◌, arith}
 use Rattle.link_graph.specs.Areas.{joined_across}
 use Rattle.link_graph.specs.Graphs.{network}
 use Rattle.route_answers.specs.Passing.{passes_node}

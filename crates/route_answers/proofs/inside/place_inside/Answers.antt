@@ -1,12 +1,9 @@
-use Rattle.std.proofs.Common.{Bool, ◌≡◌, ℕ, List, filter, sym, ◌∙◌, subst, arith}
-use Rattle.std.proofs.lemmas.Option.{same_Some, slice_get_within}
-use Rattle.link_graph.specs.declared.areas.Area.{Area}
-use Rattle.link_graph.specs.Areas.{area_links}
+use Rattle.std.proofs.Common.{List, filter, arith}
+use Rattle.std.proofs.lemmas.Option.{slice_get_within}
 use Rattle.link_graph.specs.Graphs.{network}
 use Rattle.route_certificate.specs.declared.table.TableLink.{TableLink}
 use Rattle.route_answers.specs.Passing.{link_row, passes_node}
 use Rattle.route_answers.specs.Places.{IsFirstPlace}
-use Rattle.route_answers.specs.Placing.{StandsFirst}
 use Rattle.route_answers.proofs.Numbers.{told}
 use Rattle.route_answers.proofs.UnitPlaces.{inside, joined_place, ranks, unit_place}
 use Rattle.route_answers.proofs.inside.place_inside.Goals as goal

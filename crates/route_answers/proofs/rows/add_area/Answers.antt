@@ -1,11 +1,11 @@
 use Rattle.std.proofs.Common.{◌≡◌, ℕ, ◌<◌, List, Bool, length, filter, flat_map, sym, ap, ◌∙◌, subst}
 use Rattle.std.specs.Prelude.{All, OnOk}
 use Rattle.std.proofs.lemmas.List.Elements.{All-filter}
-use Rattle.link_graph.specs.Areas.{area_links, joined_across}
+use Rattle.link_graph.specs.Areas.{joined_across}
 use Rattle.link_graph.specs.Graphs.{network}
 use Rattle.route_certificate.specs.declared.table.TableLink.{TableLink}
 use Rattle.route_answers.specs.Adding.{Adds, rows_from, rows_joined_to}
-use Rattle.route_answers.specs.Passing.{passes_node, rows_of}
+use Rattle.route_answers.specs.Passing.{passes_node}
 use Rattle.route_answers.proofs.Choosing.{crossed_rows, closed_rows}
 use Rattle.route_answers.proofs.Gathering.{adds_none}
 use Rattle.route_answers.proofs.JoinedRows.{joined_rows}

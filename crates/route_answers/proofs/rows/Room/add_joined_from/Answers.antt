@@ -1,4 +1,4 @@
-use Rattle.std.proofs.Common.{◌≡◌, ◌<◌, ◌&&◌, ℕ, Bool, true, false, List, ◌∷◌, [], ◌++◌, length, filter, map, get_or, Vec, Global, sym, ◌∙◌, ap, subst, arith}
+use Rattle.std.proofs.Common.{◌&&◌, ℕ, Bool, true, false, List, ◌∷◌, [], ◌++◌, length, filter, map, get_or, Vec, Global, sym, ◌∙◌, ap, subst, arith}
 use Rattle.std.proofs.lemmas.List.{take_all}
 use Rattle.std.proofs.lemmas.Option.{get_or_from_slice_get, slice_get-get_or}
 use Rattle.link_graph.specs.Areas.{inside_area, joined_across}
