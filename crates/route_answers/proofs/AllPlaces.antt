@@ -35,17 +35,17 @@ use Rattle.route_answers.proofs.Units.{number}
 
 -- ---- the unit of a link
 
-pub via_inside : (graph : Graph) (area : Area × List ℕ × List (List Bool) × List (List Bool)) (link : Link) → Contains (area_links graph area) link → area.0.via ≡ link.via
-via_inside graph area link there = ap (λ (l : Link). l.via) (inside graph area.0 area.1 link there).is
+pub via_inside : (graph : Graph) (area : Area × List ℕ × List (List Bool)) (link : Link) → Contains (area_links graph area) link → area.0.via ≡ link.via
+via_inside graph area link there = ap (λ (l : Link). l.via) (inside graph area.0 area.1 area.2 link there).is
 
 has_item : {X : Type 0} (xs : List X) (k : ℕ) (x : X) → slice_get xs k ≡ Some x → Contains xs x
 has_item xs k x at = (k, slice_get_within xs k x at, get_or_from_slice_get xs k x x at)
 
-number_at : (graph : Graph) (k : ℕ) (area : Area × List ℕ × List (List Bool) × List (List Bool)) → slice_get (areas graph) k ≡ Some area → slice_get (map number (areas graph)) k ≡ Some area.0.via
-number_at graph k area at = slice_get-map number (areas graph) k ∙ ap (λ (found : Option (Area × List ℕ × List (List Bool) × List (List Bool))). option_map number found) at
+number_at : (graph : Graph) (k : ℕ) (area : Area × List ℕ × List (List Bool)) → slice_get (areas graph) k ≡ Some area → slice_get (map number (areas graph)) k ≡ Some area.0.via
+number_at graph k area at = slice_get-map number (areas graph) k ∙ ap (λ (found : Option (Area × List ℕ × List (List Bool))). option_map number found) at
 
 -- units with one number are one
-one_unit : (graph : Graph) (v w : ℕ) (first second : Area × List ℕ × List (List Bool) × List (List Bool)) → IsStrictlyIncreasing (map number (areas graph)) → slice_get (areas graph) v ≡ Some first → slice_get (areas graph) w ≡ Some second → first.0.via ≡ second.0.via → first ≡ second
+one_unit : (graph : Graph) (v w : ℕ) (first second : Area × List ℕ × List (List Bool)) → IsStrictlyIncreasing (map number (areas graph)) → slice_get (areas graph) v ≡ Some first → slice_get (areas graph) w ≡ Some second → first.0.via ≡ second.0.via → first ≡ second
 one_unit graph v w first second rise here there same =
     let up = rises_from (map number (areas graph)) rise in
     let one = number_at graph v first here in
@@ -56,10 +56,10 @@ one_unit graph v w first second rise here there same =
     same_Some first second (sym here ∙ ap (λ (k : ℕ). slice_get (areas graph) k) place ∙ there)
 
 abbrev pub ApartLaw : Graph → Type 0
-ApartLaw graph = (link : Link) (area : Area × List ℕ × List (List Bool) × List (List Bool)) → Contains (passages graph) link → Contains (areas graph) area → link.via < area.0.via
+ApartLaw graph = (link : Link) (area : Area × List ℕ × List (List Bool)) → Contains (passages graph) link → Contains (areas graph) area → link.via < area.0.via
 
 -- a link with the number of a unit leads across it
-pub in_unit : (graph : Graph) (w : ℕ) (area : Area × List ℕ × List (List Bool) × List (List Bool)) (link : Link) → (network graph).links ≡ flat_map (area_links graph) (areas graph) ++ passages graph → IsStrictlyIncreasing (map number (areas graph)) → ApartLaw graph
+pub in_unit : (graph : Graph) (w : ℕ) (area : Area × List ℕ × List (List Bool)) (link : Link) → (network graph).links ≡ flat_map (area_links graph) (areas graph) ++ passages graph → IsStrictlyIncreasing (map number (areas graph)) → ApartLaw graph
     → slice_get (areas graph) w ≡ Some area → area.0.via ≡ link.via → Contains (network graph).links link → Contains (area_links graph area) link
 in_unit graph w area link law rise apart at via there =
     elim (Contains-append_cases (flat_map (area_links graph) (areas graph)) (passages graph) link (subst (λ (ls : List Link). Contains ls link) law there)) [
@@ -67,42 +67,42 @@ in_unit graph w area link law rise apart at via there =
           let found = from_flat_map (area_links graph) (areas graph) link across in
           let place = at_item (areas graph) found.0 found.1 in
           let same : found.0 ≡ area = one_unit graph place.0 w found.0 area rise place.1 at (via_inside graph found.0 link found.2 ∙ sym via) in
-          subst (λ (a : Area × List ℕ × List (List Bool) × List (List Bool)). Contains (area_links graph a) link) same found.2
+          subst (λ (a : Area × List ℕ × List (List Bool)). Contains (area_links graph a) link) same found.2
       | inr between ↦ absurd (let less = apart link area between (has_item (areas graph) w area at) in omega (arith, less, via))
     ]
 
 -- one with the number of none goes by a relationship
-pub in_none : (graph : Graph) (link : Link) → (network graph).links ≡ flat_map (area_links graph) (areas graph) ++ passages graph → AllByRecursion (λ (area : Area × List ℕ × List (List Bool) × List (List Bool)). area.0.via ≢ link.via) (areas graph) → Contains (network graph).links link
+pub in_none : (graph : Graph) (link : Link) → (network graph).links ≡ flat_map (area_links graph) (areas graph) ++ passages graph → AllByRecursion (λ (area : Area × List ℕ × List (List Bool)). area.0.via ≢ link.via) (areas graph) → Contains (network graph).links link
     → Contains (passages graph) link
 in_none graph link law none there =
     elim (Contains-append_cases (flat_map (area_links graph) (areas graph)) (passages graph) link (subst (λ (ls : List Link). Contains ls link) law there)) [
       | inl across ↦
           let found = from_flat_map (area_links graph) (areas graph) link across in
           let place = at_item (areas graph) found.0 found.1 in
-          absurd (of_item (λ (area : Area × List ℕ × List (List Bool) × List (List Bool)). area.0.via ≢ link.via) (areas graph) place.0 found.0 none place.1 (via_inside graph found.0 link found.2))
+          absurd (of_item (λ (area : Area × List ℕ × List (List Bool)). area.0.via ≢ link.via) (areas graph) place.0 found.0 none place.1 (via_inside graph found.0 link found.2))
       | inr between ↦ between
     ]
 
 -- ---- rows of other units
 
-rows_pieces : (graph : Graph) (profile : Profile) (some : List (Area × List ℕ × List (List Bool) × List (List Bool))) → rows_of (network graph) profile (flat_map (area_links graph) some) ≡ flat_map (λ (area : Area × List ℕ × List (List Bool) × List (List Bool)). rows_of (network graph) profile (area_links graph area)) some
+rows_pieces : (graph : Graph) (profile : Profile) (some : List (Area × List ℕ × List (List Bool))) → rows_of (network graph) profile (flat_map (area_links graph) some) ≡ flat_map (λ (area : Area × List ℕ × List (List Bool)). rows_of (network graph) profile (area_links graph area)) some
 unfolding rows_of
 rows_pieces graph profile [] = refl
 rows_pieces graph profile (area ∷ some) = rows_joined (network graph) profile (area_links graph area) (flat_map (area_links graph) some) ∙ ap (λ (rows : List TableLink). rows_of (network graph) profile (area_links graph area) ++ rows) (rows_pieces graph profile some)
 
 -- all links across a unit have its number
-all_inside : (graph : Graph) (P : Link → Type 0) (area : Area × List ℕ × List (List Bool) × List (List Bool)) → ((a b : ℕ) → P (inside_area graph area.0 a b)) → AllByRecursion P (area_links graph area)
+all_inside : (graph : Graph) (P : Link → Type 0) (area : Area × List ℕ × List (List Bool)) → ((a b : ℕ) → P (inside_area graph area.0 a b)) → AllByRecursion P (area_links graph area)
 all_inside graph P area holds =
-    all_pieces P (λ (a : ℕ). map (inside_area graph area.0 a) (filter (joined_across area.0 area.1 a) area.1)) area.1
-    (all_at_all (λ (a : ℕ). AllByRecursion P (map (inside_area graph area.0 a) (filter (joined_across area.0 area.1 a) area.1)))
-    (λ a. all_mapped P (inside_area graph area.0 a) (filter (joined_across area.0 area.1 a) area.1) (all_at_all (λ (b : ℕ). P (inside_area graph area.0 a b)) (holds a) (filter (joined_across area.0 area.1 a) area.1)))
+    all_pieces P (λ (a : ℕ). map (inside_area graph area.0 a) (filter (joined_across area.2 area.1 a) area.1)) area.1
+    (all_at_all (λ (a : ℕ). AllByRecursion P (map (inside_area graph area.0 a) (filter (joined_across area.2 area.1 a) area.1)))
+    (λ a. all_mapped P (inside_area graph area.0 a) (filter (joined_across area.2 area.1 a) area.1) (all_at_all (λ (b : ℕ). P (inside_area graph area.0 a b)) (holds a) (filter (joined_across area.2 area.1 a) area.1)))
     area.1)
 
 via_of : (given : Network) (link other : Link) → link_row given link ≡ link_row given other → id_at given.closables link.via ≡ id_at given.closables other.via
 unfolding link_row
 via_of given link other same = ap (λ (row : TableLink). row.via) same
 
-lacks_row : (graph : Graph) (profile : Profile) (area : Area × List ℕ × List (List Bool) × List (List Bool)) (link : Link) → AllPairs (λ a b. a ≢ b) (network graph).closables → area.0.via < length (network graph).closables → link.via < length (network graph).closables → area.0.via ≢ link.via
+lacks_row : (graph : Graph) (profile : Profile) (area : Area × List ℕ × List (List Bool)) (link : Link) → AllPairs (λ a b. a ≢ b) (network graph).closables → area.0.via < length (network graph).closables → link.via < length (network graph).closables → area.0.via ≢ link.via
     → Lacks (rows_of (network graph) profile (area_links graph area)) (link_row (network graph) link)
 unfolding rows_of
 lacks_row graph profile area link once here there differ =
@@ -114,9 +114,9 @@ lacks_row graph profile area link once here there differ =
     (λ a b same. differ (id_same given.closables area.0.via link.via once here there (via_of given (inside_area graph area.0 a b) link same)))))
 
 -- units that are among what can be closed and have other numbers
-lacks_rows : (graph : Graph) (profile : Profile) (link : Link) (some : List (Area × List ℕ × List (List Bool) × List (List Bool))) → AllPairs (λ a b. a ≢ b) (network graph).closables → link.via < length (network graph).closables
-    → AllByRecursion (λ (area : Area × List ℕ × List (List Bool) × List (List Bool)). area.0.via < length (network graph).closables) some → AllByRecursion (λ (area : Area × List ℕ × List (List Bool) × List (List Bool)). area.0.via ≢ link.via) some
-    → Lacks (flat_map (λ (area : Area × List ℕ × List (List Bool) × List (List Bool)). rows_of (network graph) profile (area_links graph area)) some) (link_row (network graph) link)
+lacks_rows : (graph : Graph) (profile : Profile) (link : Link) (some : List (Area × List ℕ × List (List Bool))) → AllPairs (λ a b. a ≢ b) (network graph).closables → link.via < length (network graph).closables
+    → AllByRecursion (λ (area : Area × List ℕ × List (List Bool)). area.0.via < length (network graph).closables) some → AllByRecursion (λ (area : Area × List ℕ × List (List Bool)). area.0.via ≢ link.via) some
+    → Lacks (flat_map (λ (area : Area × List ℕ × List (List Bool)). rows_of (network graph) profile (area_links graph area)) some) (link_row (network graph) link)
 lacks_rows graph profile link [] once there within differ = tt
 lacks_rows graph profile link (area ∷ some) once there within differ =
     all_joined (λ (r : TableLink). r ≢ link_row (network graph) link) (rows_of (network graph) profile (area_links graph area)) _ (lacks_row graph profile area link once within.0 there differ.0) (lacks_rows graph profile link some once there within.1 differ.1)
@@ -131,25 +131,25 @@ all_rows graph profile law = ap (rows_of (network graph) profile) law ∙ rows_j
 pub record AreLaws (graph : Graph) : Type 0 where
   pub links : (network graph).links ≡ flat_map (area_links graph) (areas graph) ++ passages graph
   pub once : AllPairs (λ a b. a ≢ b) (network graph).closables
-  pub units : All (λ (area : Area × List ℕ × List (List Bool) × List (List Bool)). area.0.via < length (network graph).closables) (areas graph)
+  pub units : All (λ (area : Area × List ℕ × List (List Bool)). area.0.via < length (network graph).closables) (areas graph)
   pub vias : (link : Link) → Contains (network graph).links link → link.via < length (network graph).closables
 
-units_within : (graph : Graph) → AreLaws graph → AllByRecursion (λ (area : Area × List ℕ × List (List Bool) × List (List Bool)). area.0.via < length (network graph).closables) (areas graph)
-units_within graph laws = recursion_from_All (λ (area : Area × List ℕ × List (List Bool) × List (List Bool)). area.0.via < length (network graph).closables) (areas graph) laws.units
+units_within : (graph : Graph) → AreLaws graph → AllByRecursion (λ (area : Area × List ℕ × List (List Bool)). area.0.via < length (network graph).closables) (areas graph)
+units_within graph laws = recursion_from_All (λ (area : Area × List ℕ × List (List Bool)). area.0.via < length (network graph).closables) (areas graph) laws.units
 
 -- behind the rows of the units before its own
-pub stands_across : (graph : Graph) (profile : Profile) (w : ℕ) (area : Area × List ℕ × List (List Bool) × List (List Bool)) (link : Link) (first k : ℕ) → AreLaws graph → IsStrictlyIncreasing (map number (areas graph)) → Contains (network graph).links link
+pub stands_across : (graph : Graph) (profile : Profile) (w : ℕ) (area : Area × List ℕ × List (List Bool)) (link : Link) (first k : ℕ) → AreLaws graph → IsStrictlyIncreasing (map number (areas graph)) → Contains (network graph).links link
     → slice_get (areas graph) w ≡ Some area → area.0.via ≡ link.via → first ≡ rows_before graph profile w → StandsFirst (network graph) profile (area_links graph area) link k → StandsFirst (network graph) profile (network graph).links link (first + k)
 stands_across graph profile w area link first k laws rise there at via first_is stands =
     let given = network graph in
     let row = link_row given link in
     let g : Area × List ℕ × List (List Bool) → List TableLink = λ a. rows_of given profile (area_links graph a) in
-    let before : AllByRecursion (λ (a : Area × List ℕ × List (List Bool) × List (List Bool)). a.0.via ≢ link.via) (take w (areas graph)) =
+    let before : AllByRecursion (λ (a : Area × List ℕ × List (List Bool)). a.0.via ≢ link.via) (take w (areas graph)) =
     all_unmapped (λ (n : ℕ). n ≢ link.via) number (take w (areas graph))
     (subst (AllByRecursion (λ (n : ℕ). n ≢ link.via)) (take-map number w (areas graph))
     (all_by (λ (n : ℕ). n < area.0.via) (λ (n : ℕ). n ≢ link.via) (λ n less same. omega (arith, less, same, via)) (take w (map number (areas graph)))
     (lesser_before (map number (areas graph)) w area.0.via (rises_from (map number (areas graph)) rise) (number_at graph w area at)))) in
-    let lacks = lacks_rows graph profile link (take w (areas graph)) laws.once (laws.vias link there) (all_front (λ (a : Area × List ℕ × List (List Bool) × List (List Bool)). a.0.via < length given.closables) w (areas graph) (units_within graph laws)) before in
+    let lacks = lacks_rows graph profile link (take w (areas graph)) laws.once (laws.vias link there) (all_front (λ (a : Area × List ℕ × List (List Bool)). a.0.via < length given.closables) w (areas graph) (units_within graph laws)) before in
     let piece : IsFirstPlace (flat_map g (areas graph)) row (length (flat_map g (take w (areas graph))) + k) = first_piece g (areas graph) w area row k at lacks stands in
     let here : IsFirstPlace (rows_of given profile (flat_map (area_links graph) (areas graph))) row (first + k) =
     moved (rows_of given profile (flat_map (area_links graph) (areas graph))) row (length (flat_map g (take w (areas graph))) + k) (first + k)
@@ -159,7 +159,7 @@ stands_across graph profile w area link first k laws rise there at via first_is 
     (first_before (rows_of given profile (flat_map (area_links graph) (areas graph))) (rows_of given profile (passages graph)) row (first + k) here)
 
 -- behind the rows of all units
-pub stands_between : (graph : Graph) (profile : Profile) (link : Link) (first k : ℕ) → AreLaws graph → Contains (network graph).links link → AllByRecursion (λ (area : Area × List ℕ × List (List Bool) × List (List Bool)). area.0.via ≢ link.via) (areas graph)
+pub stands_between : (graph : Graph) (profile : Profile) (link : Link) (first k : ℕ) → AreLaws graph → Contains (network graph).links link → AllByRecursion (λ (area : Area × List ℕ × List (List Bool)). area.0.via ≢ link.via) (areas graph)
     → first ≡ length (rows_of (network graph) profile (flat_map (area_links graph) (areas graph))) → StandsFirst (network graph) profile (passages graph) link k → StandsFirst (network graph) profile (network graph).links link (first + k)
 stands_between graph profile link first k laws there none first_is stands =
     let given = network graph in
@@ -193,9 +193,9 @@ of_unit graph profile starts start are there =
     record { is = subst (λ (w : ℕ). IsStart graph profile w start) (sym own) is; within = omega (arith, own, count, within) }
 
 -- a number that no start has is that of no unit
-pub of_none : (graph : Graph) (profile : Profile) (starts : Starts) (via : ℕ) → AreStarts graph profile starts → All (λ (start : AreaStart). start.via ≢ via) starts.units.items → AllByRecursion (λ (area : Area × List ℕ × List (List Bool) × List (List Bool)). area.0.via ≢ via) (areas graph)
+pub of_none : (graph : Graph) (profile : Profile) (starts : Starts) (via : ℕ) → AreStarts graph profile starts → All (λ (start : AreaStart). start.via ≢ via) starts.units.items → AllByRecursion (λ (area : Area × List ℕ × List (List Bool)). area.0.via ≢ via) (areas graph)
 of_none graph profile starts via are none =
-    recursion_from_All (λ (area : Area × List ℕ × List (List Bool) × List (List Bool)). area.0.via ≢ via) (areas graph) (λ k d within same.
+    recursion_from_All (λ (area : Area × List ℕ × List (List Bool)). area.0.via ≢ via) (areas graph) (λ k d within same.
     let area : Area × List ℕ × List (List Bool) = get_or (areas graph) k d in
     let count = are.count in
     let start = at_place starts.units.items k (omega (arith, count, within)) in
@@ -233,7 +233,7 @@ stands_known graph profile firsts starts link k known found =
 
 pub across : (graph : Graph) (profile : Profile) (starts : Starts) (start : AreaStart) (link : Link) (k : ℕ) → AreLaws graph → IsStrictlyIncreasing (map number (areas graph)) → AreStarts graph profile starts → Contains starts.units.items start
     → start.via ≡ link.via → Contains (network graph).links link
-    → ((area : Area × List ℕ × List (List Bool) × List (List Bool)) → slice_get (areas graph) start.area ≡ Some area → StandsFirst (network graph) profile (area_links graph area) link k) → StandsFirst (network graph) profile (network graph).links link (start.first + k)
+    → ((area : Area × List ℕ × List (List Bool)) → slice_get (areas graph) start.area ≡ Some area → StandsFirst (network graph) profile (area_links graph area) link k) → StandsFirst (network graph) profile (network graph).links link (start.first + k)
 across graph profile starts start link k laws rise are of via there stands =
     let unit = of_unit graph profile starts start are of in
     let at = at_place (areas graph) start.area unit.within in

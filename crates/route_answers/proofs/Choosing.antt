@@ -40,13 +40,13 @@ from_step mk r t j x ys zs false true jx tx rest = rest ∙ sym (ap (λ (v : Boo
 from_step mk r t j x ys zs false false jx tx rest = rest
 
 -- the links to those that pass, where the test is that of their ends
-from_one : (mk : ℕ → Link) (r : Link → TableLink) (t : Link → Bool) (j ok : ℕ → Bool) → ((b : ℕ) → t (mk b) ≡ ok b) → (xs : List ℕ)
+pub from_one : (mk : ℕ → Link) (r : Link → TableLink) (t : Link → Bool) (j ok : ℕ → Bool) → ((b : ℕ) → t (mk b) ≡ ok b) → (xs : List ℕ)
     → map r (filter t (map mk (filter j xs))) ≡ map (λ (b : ℕ). r (mk b)) (filter j (filter ok xs))
 from_one mk r t j ok same [] = refl
 from_one mk r t j ok same (x ∷ xs) = from_step mk r t j x (filter j xs) (filter ok xs) (j x) (ok x) refl (same x) (from_one mk r t j ok same xs)
 
 -- none, where none passes
-from_none : (mk : ℕ → Link) (r : Link → TableLink) (t : Link → Bool) → ((b : ℕ) → t (mk b) ≡ false) → (ys : List ℕ) → map r (filter t (map mk ys)) ≡ []
+pub from_none : (mk : ℕ → Link) (r : Link → TableLink) (t : Link → Bool) → ((b : ℕ) → t (mk b) ≡ false) → (ys : List ℕ) → map r (filter t (map mk ys)) ≡ []
 from_none mk r t fail [] = refl
 from_none mk r t fail (y ∷ ys) = ap (λ (v : Bool). map r (cond v (mk y ∷ filter t (map mk ys)) (filter t (map mk ys)))) (fail y) ∙ from_none mk r t fail ys
 
@@ -56,7 +56,7 @@ all_step : (h : ℕ → List TableLink) (ok : ℕ → Bool) (x : ℕ) (ys : List
 all_step h ok x ys piece true e pass fail = ap (λ (rows : List TableLink). rows ++ flat_map h ys) (pass e)
 all_step h ok x ys piece false e pass fail = ap (λ (rows : List TableLink). rows ++ flat_map h ys) (fail e)
 
-from_all : (r : Link → TableLink) (t : Link → Bool) (g : ℕ → List Link) (h : ℕ → List TableLink) (ok : ℕ → Bool) → ((a : ℕ) → ok a ≡ true → map r (filter t (g a)) ≡ h a) → ((a : ℕ) → ok a ≡ false → map r (filter t (g a)) ≡ [])
+pub from_all : (r : Link → TableLink) (t : Link → Bool) (g : ℕ → List Link) (h : ℕ → List TableLink) (ok : ℕ → Bool) → ((a : ℕ) → ok a ≡ true → map r (filter t (g a)) ≡ h a) → ((a : ℕ) → ok a ≡ false → map r (filter t (g a)) ≡ [])
     → (xs : List ℕ) → map r (filter t (flat_map g xs)) ≡ flat_map h (filter ok xs)
 from_all r t g h ok pass fail [] = refl
 from_all r t g h ok pass fail (x ∷ xs) =
@@ -71,7 +71,7 @@ none_all r t g fail (x ∷ xs) = chosen_joined r t (g x) (flat_map g xs) ∙ ap 
 -- ---- across a unit
 
 -- whether the profile allows the link across a unit from node to node
-across_test : PartsLaw → (graph : Graph) (profile : Profile) (area : Area) → (network graph).barred area.via ≡ area.restricted → (way from : Bool) (a : ℕ) → passes_by profile area.kind area.restricted ≡ way
+pub across_test : PartsLaw → (graph : Graph) (profile : Profile) (area : Area) → (network graph).barred area.via ≡ area.restricted → (way from : Bool) (a : ℕ) → passes_by profile area.kind area.restricted ≡ way
     → passes_node (network graph) profile a ≡ from → (b : ℕ) → passes_link (network graph) profile (inside_area graph area a b) ≡ (way && (from && passes_node (network graph) profile b))
 across_test law graph profile area barred way from a crossed start b =
     let to = passes_node (network graph) profile b in
@@ -80,26 +80,26 @@ across_test law graph profile area barred way from a crossed start b =
     ∙ ap (λ (v : Bool). v && (passes_node (network graph) profile a && to)) crossed
     ∙ ap (λ (v : Bool). way && (v && to)) start
 
-pub crossed_rows : PartsLaw → (graph : Graph) (profile : Profile) (area : Area) (members : List ℕ) → IsWholeAcross area members → (network graph).barred area.via ≡ area.restricted → passes_by profile area.kind area.restricted ≡ true
-    → rows_of (network graph) profile (area_links graph (area, members))
+pub crossed_rows : PartsLaw → (graph : Graph) (profile : Profile) (area : Area) (members : List ℕ) (table : List (List Bool)) → IsWholeAcross table members → (network graph).barred area.via ≡ area.restricted → passes_by profile area.kind area.restricted ≡ true
+    → rows_of (network graph) profile (area_links graph (area, members, table))
     ≡ flat_map (rows_from graph area (filter (passes_node (network graph) profile) members)) (filter (passes_node (network graph) profile) members)
 unfolding rows_of rows_from
-crossed_rows law graph profile area members whole barred crossed =
+crossed_rows law graph profile area members table whole barred crossed =
     let r = link_row (network graph) in
     let t = passes_link (network graph) profile in
     let ok = passes_node (network graph) profile in
-    ap (λ (links : List Link). map r (filter t links)) (whole_links graph area members whole)
+    ap (λ (links : List Link). map r (filter t links)) (whole_links graph area members table whole)
     ∙ from_all r t (λ (a : ℕ). map (inside_area graph area a) (filter (other_than a) members)) (λ (a : ℕ). map (pair_row graph area a) (filter (other_than a) (filter ok members))) ok
     (λ a start. from_one (inside_area graph area a) r t (other_than a) ok (across_test law graph profile area barred true true a crossed start) members)
     (λ a start. from_none (inside_area graph area a) r t (across_test law graph profile area barred true false a crossed start) (filter (other_than a) members))
     members
 
-pub closed_rows : PartsLaw → (graph : Graph) (profile : Profile) (area : Area) (members : List ℕ) → (network graph).barred area.via ≡ area.restricted → passes_by profile area.kind area.restricted ≡ false
-    → rows_of (network graph) profile (area_links graph (area, members)) ≡ []
+pub closed_rows : PartsLaw → (graph : Graph) (profile : Profile) (area : Area) (members : List ℕ) (table : List (List Bool)) → (network graph).barred area.via ≡ area.restricted → passes_by profile area.kind area.restricted ≡ false
+    → rows_of (network graph) profile (area_links graph (area, members, table)) ≡ []
 unfolding rows_of
-closed_rows law graph profile area members barred closed =
+closed_rows law graph profile area members table barred closed =
     let r = link_row (network graph) in
     let t = passes_link (network graph) profile in
-    none_all r t (λ (a : ℕ). map (inside_area graph area a) (filter (joined_across area members a) members))
-    (λ a. from_none (inside_area graph area a) r t (across_test law graph profile area barred false (passes_node (network graph) profile a) a closed refl) (filter (joined_across area members a) members))
+    none_all r t (λ (a : ℕ). map (inside_area graph area a) (filter (joined_across table members a) members))
+    (λ a. from_none (inside_area graph area a) r t (across_test law graph profile area barred false (passes_node (network graph) profile a) a closed refl) (filter (joined_across table members a) members))
     members

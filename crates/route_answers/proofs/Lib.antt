@@ -12,6 +12,9 @@ pub mod Everywhere
 pub mod FirstRows
 pub mod Rising
 pub mod PairPlaces
+pub mod JoinedRows
+pub mod MemberPlaces
+pub mod JoinedPlaces
 pub mod Keys
 pub mod UnitPlaces
 pub mod Units

@@ -27,7 +27,7 @@ number_at f is a [] j row at = absurd (let no_item : None ≡ Some row = at in c
 number_at f is a (y ∷ ys) zero row at = ap (λ (v : ℕ). Some v) (sym (is.to a y) ∙ ap (λ (r : TableLink). r.to) (same_Some (f a y) row at))
 number_at f is a (y ∷ ys) (suc j) row at = number_at f is a ys j row at
 
-first_to : (f : ℕ → ℕ → TableLink) → IsRowOf f → (a : ℕ) (ys : List ℕ) (k b : ℕ) → Rises ys → slice_get ys k ≡ Some b → IsFirstPlace (map (f a) ys) (f a b) k
+pub first_to : (f : ℕ → ℕ → TableLink) → IsRowOf f → (a : ℕ) (ys : List ℕ) (k b : ℕ) → Rises ys → slice_get ys k ≡ Some b → IsFirstPlace (map (f a) ys) (f a b) k
 first_to f is a ys k b up at = record {
   there = slice_get-map (f a) ys k ∙ ap (λ (v : Option ℕ). option_map (f a) v) at;
   first = λ j here. one_place ys k j b up at (number_at f is a ys j (f a b) here ∙ ap (λ (v : ℕ). Some v) (is.to a b));
@@ -36,15 +36,14 @@ first_to f is a ys k b up at = record {
 -- ---- all pairs
 
 -- the pairs from lesser numbers start elsewhere
-lacks_pairs : (f : ℕ → ℕ → TableLink) → IsRowOf f → (xs front : List ℕ) (a b : ℕ) → AllByRecursion (λ (y : ℕ). y < a) front
-    → Lacks (flat_map (λ (c : ℕ). map (f c) (filter (other_than c) xs)) front) (f a b)
-lacks_pairs f is xs front a b less =
-    all_pieces (λ (row : TableLink). row ≢ f a b) (λ (c : ℕ). map (f c) (filter (other_than c) xs)) front
-    (all_by (λ (c : ℕ). c < a) (λ (c : ℕ). Lacks (map (f c) (filter (other_than c) xs)) (f a b))
-    (λ c below. all_mapped (λ (row : TableLink). row ≢ f a b) (f c) (filter (other_than c) xs)
+pub lacks_pairs : (f : ℕ → ℕ → TableLink) → IsRowOf f → (h : ℕ → List ℕ) (front : List ℕ) (a b : ℕ) → AllByRecursion (λ (y : ℕ). y < a) front → Lacks (flat_map (λ (c : ℕ). map (f c) (h c)) front) (f a b)
+lacks_pairs f is h front a b less =
+    all_pieces (λ (row : TableLink). row ≢ f a b) (λ (c : ℕ). map (f c) (h c)) front
+    (all_by (λ (c : ℕ). c < a) (λ (c : ℕ). Lacks (map (f c) (h c)) (f a b))
+    (λ c below. all_mapped (λ (row : TableLink). row ≢ f a b) (f c) (h c)
     (all_at_all (λ (d : ℕ). f c d ≢ f a b)
     (λ d e. let same : c ≡ a = sym (is.from c d) ∙ ap (λ (row : TableLink). row.from) e ∙ is.from a b in omega (arith, below, same))
-    (filter (other_than c) xs)))
+    (h c)))
     front less)
 
 -- by the place of its first, and of its second among the others
@@ -57,7 +56,7 @@ pair_by f is xs i a b k rise here there =
     moved (flat_map g xs) (f a b) (length (flat_map g (take i xs)) + k) (i * (length xs - 1) + k)
     (ap (λ (n : ℕ). n + k) (front ∙ ap (λ (n : ℕ). n * (length xs - 1)) count))
     (first_piece g xs i a (f a b) k here
-    (lacks_pairs f is xs (take i xs) a b (lesser_before xs i a (rises_from xs rise) here))
+    (lacks_pairs f is (λ (c : ℕ). filter (other_than c) xs) (take i xs) a b (lesser_before xs i a (rises_from xs rise) here))
     (first_to f is a (filter (other_than a) xs) k b (rises_from (filter (other_than a) xs) (IsStrictlyIncreasing-filter (other_than a) xs rise)) there))
 
 -- numbers that differ stand at places that do

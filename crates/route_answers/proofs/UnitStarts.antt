@@ -25,11 +25,11 @@ pushed_cases (z ∷ xs) y (suc k) x at = elim (pushed_cases xs y k x at) [
   | inr last ↦ let count = last.0 in inr (omega (arith, count), last.1)
 ]
 
-pub start_is : (graph : Graph) (profile : Profile) (w : ℕ) (start : AreaStart) (unit : Area) (members : List ℕ) → slice_get (areas graph) w ≡ Some (unit, members) → start.area ≡ w → start.via ≡ unit.via → start.first ≡ rows_before graph profile w
+pub start_is : (graph : Graph) (profile : Profile) (w : ℕ) (start : AreaStart) (unit : Area) (members : List ℕ) (table : List (List Bool)) → slice_get (areas graph) w ≡ Some (unit, members, table) → start.area ≡ w → start.via ≡ unit.via → start.first ≡ rows_before graph profile w
     → IsStart graph profile w start
-start_is graph profile w start unit members there own via first = record {
+start_is graph profile w start unit members table there own via first = record {
   area = own;
-  via = λ area at. via ∙ ap (λ (a : Area × List ℕ × List (List Bool) × List (List Bool)). a.0.via) (same_Some (unit, members) area (sym there ∙ at));
+  via = λ area at. via ∙ ap (λ (a : Area × List ℕ × List (List Bool)). a.0.via) (same_Some (unit, members, table) area (sym there ∙ at));
   first = first;
 }
 
@@ -49,7 +49,7 @@ via_at graph profile starts count are k d within =
     let start = get_or starts k d in
     let is : IsStart graph profile k start = are k start (slice_get-get_or starts k d within) in
     let area = at_place (areas graph) k (omega (arith, within, count)) in
-    slice_get-map number (areas graph) k ∙ ap (λ (found : Option (Area × List ℕ × List (List Bool) × List (List Bool))). option_map number found) area.1 ∙ ap (λ (n : ℕ). Some n) (sym (is.via area.0 area.1))
+    slice_get-map number (areas graph) k ∙ ap (λ (found : Option (Area × List ℕ × List (List Bool))). option_map number found) area.1 ∙ ap (λ (n : ℕ). Some n) (sym (is.via area.0 area.1))
 
 pub starts_rise : (graph : Graph) (profile : Profile) (starts : List AreaStart) → length starts ≡ length (areas graph) → ((k : ℕ) (s : AreaStart) → slice_get starts k ≡ Some s → IsStart graph profile k s) → IsStrictlyIncreasing (map number (areas graph))
     → IsNonDecreasingBy (λ (start : AreaStart). start.via) starts

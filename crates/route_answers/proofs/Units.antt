@@ -32,7 +32,7 @@ numbers_rise graph =
     subst IsStrictlyIncreasing (sym (numbers_are graph.core graph.core.crossings.items (row_list graph.core.rows) graph.sound.paired)) graph.sound.apart
 
 -- what holds of the numbers of all crossings does of those of all units
-of_numbers : (graph : Graph) (P : ℕ → Type 0) → ((crossing : Crossing) → IsCrossing graph.core crossing → P crossing.via) → AllByRecursion (λ (area : Area × List ℕ × List (List Bool) × List (List Bool)). P area.0.via) (areas graph)
+of_numbers : (graph : Graph) (P : ℕ → Type 0) → ((crossing : Crossing) → IsCrossing graph.core crossing → P crossing.via) → AllByRecursion (λ (area : Area × List ℕ × List (List Bool)). P area.0.via) (areas graph)
 unfolding areas
 of_numbers graph P holds =
     all_unmapped P number (areas graph)
@@ -40,16 +40,16 @@ of_numbers graph P holds =
     (all_mapped P (λ (crossing : Crossing). crossing.via) graph.core.crossings.items
     (all_by (IsCrossing graph.core) (λ (crossing : Crossing). P crossing.via) holds graph.core.crossings.items (recursion_from_All (IsCrossing graph.core) graph.core.crossings.items graph.sound.crossings))))
 
-pub numbers_within : (graph : Graph) → AllByRecursion (λ (area : Area × List ℕ × List (List Bool) × List (List Bool)). area.0.via < length (network graph).closables) (areas graph)
+pub numbers_within : (graph : Graph) → AllByRecursion (λ (area : Area × List ℕ × List (List Bool)). area.0.via < length (network graph).closables) (areas graph)
 unfolding network network_in
 numbers_within graph = of_numbers graph (λ (v : ℕ). v < length (closable_list graph.core.nodes)) (λ crossing is. is.within)
 
-pub numbers_apart : (graph : Graph) (link : Link) (area : Area × List ℕ × List (List Bool) × List (List Bool)) → Contains (passages graph) link → Contains (areas graph) area → link.via < area.0.via
+pub numbers_apart : (graph : Graph) (link : Link) (area : Area × List ℕ × List (List Bool)) → Contains (passages graph) link → Contains (areas graph) area → link.via < area.0.via
 unfolding passages
 numbers_apart graph link area there here =
     let passage = at_item graph.core.passages.items link there in
     let is : IsPassage graph.core link = of_item (IsPassage graph.core) graph.core.passages.items passage.0 link (recursion_from_All (IsPassage graph.core) graph.core.passages.items graph.sound.passages) passage.1 in
     let unit = at_item (areas graph) area here in
-    let above : graph.core.first_unit ≤ area.0.via = of_item (λ (a : Area × List ℕ × List (List Bool) × List (List Bool)). graph.core.first_unit ≤ a.0.via) (areas graph) unit.0 area (of_numbers graph (λ (v : ℕ). graph.core.first_unit ≤ v) (λ crossing cross. cross.unit)) unit.1 in
+    let above : graph.core.first_unit ≤ area.0.via = of_item (λ (a : Area × List ℕ × List (List Bool)). graph.core.first_unit ≤ a.0.via) (areas graph) unit.0 area (of_numbers graph (λ (v : ℕ). graph.core.first_unit ≤ v) (λ crossing cross. cross.unit)) unit.1 in
     let below = is.via in
     omega (arith, below, above)

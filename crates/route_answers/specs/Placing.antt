@@ -31,7 +31,7 @@ rows_before graph profile w = length (rows_of (network graph) profile (flat_map 
 -- the rows of the unit begin there
 pub record IsStart (graph : Graph) (profile : Profile) (w : ℕ) (start : AreaStart) : Type 0 where
   pub area : start.area ≡ w
-  pub via : (area : Area × List ℕ × List (List Bool) × List (List Bool)) → slice_get (areas graph) w ≡ Some area → start.via ≡ area.0.via
+  pub via : (area : Area × List ℕ × List (List Bool)) → slice_get (areas graph) w ≡ Some area → start.via ≡ area.0.via
   pub first : start.first ≡ rows_before graph profile w
 
 -- for each unit where its rows begin, and where those of relationships do

@@ -1,9 +1,8 @@
 //! How many rows a table has, before any is made.
 
-ghost use Rattle.std.specs.Prelude.{◌≡◌, ◌*◌, ◌-◌, ◌<◌, ◌≤◌, ◌&&◌, ℕ, List, All, Contains, Some, filter, length, take, slice_get};
+ghost use Rattle.std.specs.Prelude.{◌≡◌, ◌*◌, ◌-◌, ◌<◌, ◌≤◌, ◌&&◌, ℕ, List, All, Contains, Some, filter, length, take, slice_get, Bool};
 ghost use Rattle.std.specs.List.Sorted.{IsStrictlyIncreasing};
 ghost use Rattle.std.specs.List.{flat_map};
-ghost use Rattle.std.specs.Prelude.{Bool};
 ghost use Rattle.link_graph.specs.declared.areas.Area.{Area as AnArea};
 ghost use Rattle.link_graph.specs.Areas.{area_links, areas, joined_across};
 ghost use Rattle.link_graph.specs.Graphs.{network};

@@ -1,10 +1,9 @@
 //! Where the rows of a unit's links stand among each other.
 
-ghost use Rattle.std.specs.Prelude.{◌≡◌, ℕ, ◌+◌, ◌*◌, ◌-◌, ◌<◌, ◌≤◌, ◌&&◌, nat_lt, List, All, Contains, Some, filter, length, slice_get};
+ghost use Rattle.std.specs.Prelude.{◌≡◌, ℕ, ◌+◌, ◌*◌, ◌-◌, ◌<◌, ◌≤◌, ◌&&◌, nat_lt, List, All, Contains, Some, filter, length, slice_get, Bool};
 ghost use Rattle.std.specs.List.{flat_map};
 ghost use Rattle.std.specs.List.Sorted.{IsStrictlyIncreasing};
 ghost use Rattle.imdf_access.specs.Access.{IsAllowed};
-ghost use Rattle.std.specs.Prelude.{Bool};
 ghost use Rattle.link_graph.specs.declared.areas.Area.{Area as AnArea};
 ghost use Rattle.link_graph.specs.Areas.{area_links, areas, joined_across};
 ghost use Rattle.link_graph.specs.Graphs.{network};

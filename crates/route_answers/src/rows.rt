@@ -1,8 +1,7 @@
 //! The rows of a table, by the units and the relationships that links go by.
 
-ghost use Rattle.std.specs.Prelude.{◌≡◌, ◌<◌, ◌≤◌, ℕ, List, OnOk, All, Contains, Some, length, slice_get};
+ghost use Rattle.std.specs.Prelude.{◌≡◌, ◌<◌, ◌≤◌, ℕ, List, OnOk, All, Contains, Some, length, slice_get, Bool};
 ghost use Rattle.std.specs.List.{flat_map};
-ghost use Rattle.std.specs.Prelude.{Bool};
 ghost use Rattle.link_graph.specs.declared.areas.Area.{Area as AnArea};
 ghost use Rattle.link_graph.specs.Areas.{area_links, areas, passages};
 ghost use Rattle.link_graph.specs.Graphs.{network};
@@ -14,8 +13,8 @@ use crate::ids::way_id;
 use crate::passes::{may_cross, may_pass, may_use, passing};
 use link_graph::{Area, Graph, network_parts_law};
 use route_certificate::TableLink;
-use unit_sight::Sights;
 use std::alloc::Global;
+use unit_sight::Sights;
 use venue_types::{FeatureId, Link, OutOfMemory, Profile};
 
 /// Adds a row for each link across a unit that the profile allows.

@@ -1,9 +1,8 @@
 //! Where the rows of each unit begin in a table.
 
-ghost use Rattle.std.specs.Prelude.{◌≡◌, ◌≢◌, ℕ, ◌<◌, IfOk, List, All, Contains, MatchOption, length, map};
+ghost use Rattle.std.specs.Prelude.{◌≡◌, ◌≢◌, ℕ, ◌<◌, IfOk, List, All, Contains, MatchOption, length, map, Bool};
 ghost use Rattle.std.specs.List.Sorted.{IsNonDecreasingBy, IsStrictlyIncreasing};
 ghost use Rattle.venue_types.specs.declared.link.Link.{Link as ALink};
-ghost use Rattle.std.specs.Prelude.{Bool};
 ghost use Rattle.link_graph.specs.declared.areas.Area.{Area as AnArea};
 ghost use Rattle.link_graph.specs.Areas.{areas, passages};
 ghost use Rattle.link_graph.specs.Graphs.{network};

@@ -1,52 +1,60 @@
-use Rattle.std.proofs.Common.{◌≡◌, ℕ, ◌<◌, List, [], Bool, length, filter, flat_map, Some, sym, ap, ◌∙◌, subst}
-use Rattle.std.specs.Prelude.{All, slice_get}
+use Rattle.std.proofs.Common.{◌≡◌, ℕ, ◌<◌, List, Bool, length, filter, flat_map, sym, ap, ◌∙◌, subst}
+use Rattle.std.specs.Prelude.{All, OnOk}
 use Rattle.std.proofs.lemmas.List.Elements.{All-filter}
-use Rattle.std.proofs.lemmas.Option.{same_Some}
-use Rattle.venue_types.specs.declared.settings.Profile.{Profile}
-use Rattle.link_graph.specs.declared.areas.Area.{Area}
-use Rattle.link_graph.specs.declared.graph.Graph.{Graph}
-use Rattle.link_graph.specs.Areas.{areas, area_links}
+use Rattle.link_graph.specs.Areas.{joined_across}
 use Rattle.link_graph.specs.Graphs.{network}
 use Rattle.route_certificate.specs.declared.table.TableLink.{TableLink}
-use Rattle.route_answers.specs.Adding.{Adds, rows_from}
-use Rattle.route_answers.specs.Passing.{passes_node, rows_of}
+use Rattle.route_answers.specs.Adding.{Adds, rows_from, rows_joined_to}
+use Rattle.route_answers.specs.Passing.{passes_node}
 use Rattle.route_answers.proofs.Choosing.{crossed_rows, closed_rows}
 use Rattle.route_answers.proofs.Gathering.{adds_none}
+use Rattle.route_answers.proofs.JoinedRows.{joined_rows}
+use Rattle.route_answers.proofs.Numbers.{told}
 use Rattle.route_answers.proofs.rows.add_area.Goals as goal
 
 some_within : (bound : ℕ) (ok : ℕ → Bool) (members passed given : List ℕ) → given ≡ passed → passed ≡ filter ok members → All (λ (m : ℕ). m < bound) members → All (λ (m : ℕ). m < bound) given
 some_within bound ok members passed given same chosen within = subst (All (λ (m : ℕ). m < bound)) (sym (same ∙ chosen)) (All-filter ok (λ (m : ℕ). m < bound) members within)
-
--- the rows of an area, told of the area that stands in the list
-told : (graph : Graph) (profile : Profile) (w : ℕ) (area : Area) (members : List ℕ) (pair : Area × List ℕ × List (List Bool) × List (List Bool)) (count : ℕ) (start end rows : List TableLink) → slice_get (areas graph) w ≡ Some (area, members) → slice_get (areas graph) w ≡ Some pair
-    → rows_of (network graph) profile (area_links graph (area, members)) ≡ rows → Adds count start end rows → Adds count start end (rows_of (network graph) profile (area_links graph pair))
-told graph profile w area members pair count start end rows here there are added =
-    let same : (area, members) ≡ pair = same_Some (area, members) pair (sym here ∙ there) in
-    subst (Adds count start end) (sym are ∙ ap (λ (p : Area × List ℕ × List (List Bool) × List (List Bool)). rows_of (network graph) profile (area_links graph p)) same) added
 
 pub add_pairs-requires-clause-within : goal.add_pairs-requires-clause-within
 add_pairs-requires-clause-within c =
     some_within (length (network c.args.graph.now).nodes) (passes_node (network c.args.graph.now) c.args.profile.now) c.area.result.1.now c.in_ok-passed.passed.items c.deref.result.now
     c.deref.ensures.value c.in_ok-passed.ensures c.area.ensures.area.within
 
-pub returns-in_ok-add_pairs : goal.returns-in_ok-add_pairs
-returns-in_ok-add_pairs c = λ pair there.
+pub returns-then-not-may_cross : goal.returns-then-not-may_cross
+returns-then-not-may_cross c = λ listed there.
     let graph = c.args.graph.now in
     let profile = c.args.profile.now in
     let area = c.area.result.0 in
     let members = c.area.result.1.now in
-    told graph profile c.args.w area members pair (length (network graph).nodes) c.args.rows.now.items c.add_pairs.new.rows.items (flat_map (rows_from graph area c.deref.result.now) c.deref.result.now)
-    c.area.ensures.there there
-    (crossed_rows c.network_parts_law.ensures graph profile area members (c.area.ensures.area.whole c.area.ensures.whole) c.area.ensures.area.barred (sym c.may_cross.ensures ∙ c.if-may_cross.true)
-    ∙ ap (λ (xs : List ℕ). flat_map (rows_from graph area xs) xs) (sym (c.deref.ensures.value ∙ c.in_ok-passed.ensures)))
-    c.in_ok-add_pairs.ensures
+    let table = c.area.result.2.now in
+    let added : List TableLink → Type 0 = Adds (length (network graph).nodes) c.args.rows.now.items c.args.rows.now.items in
+    told graph profile c.args.w area members table listed added c.area.ensures.there there
+    (subst added (sym (closed_rows c.network_parts_law.ensures graph profile area members table c.area.ensures.area.barred (sym c.may_cross.ensures ∙ c.if-not-may_cross.true)))
+    (adds_none (length (network graph).nodes) c.args.rows.now.items))
 
-pub returns-else-may_cross : goal.returns-else-may_cross
-returns-else-may_cross c = λ pair there.
+pub returns-in_ok-passed : goal.returns-in_ok-passed
+returns-in_ok-passed c = λ listed there.
     let graph = c.args.graph.now in
     let profile = c.args.profile.now in
     let area = c.area.result.0 in
     let members = c.area.result.1.now in
-    told graph profile c.args.w area members pair (length (network graph).nodes) c.args.rows.now.items c.args.rows.now.items [] c.area.ensures.there there
-    (closed_rows c.network_parts_law.ensures graph profile area members c.area.ensures.area.barred (sym c.may_cross.ensures ∙ c.if-may_cross.false))
-    (adds_none (length (network graph).nodes) c.args.rows.now.items)
+    let table = c.area.result.2.now in
+    let is = c.area.ensures.area in
+    let added : List TableLink → Type 0 = λ rows. OnOk c.add_pairs.result (Adds (length (network graph).nodes) c.args.rows.now.items c.add_pairs.new.rows.items rows) in
+    told graph profile c.args.w area members table listed added c.area.ensures.there there
+    (subst added
+    (ap (λ (xs : List ℕ). flat_map (rows_from graph area xs) xs) (c.deref.ensures.value ∙ c.in_ok-passed.ensures)
+    ∙ sym (crossed_rows c.network_parts_law.ensures graph profile area members table (is.whole (c.is_whole.ensures.0 c.if-is_whole.true)) is.barred (sym c.may_cross.ensures ∙ c.if-not-may_cross.false)))
+    c.add_pairs.ensures)
+
+pub returns-else-is_whole : goal.returns-else-is_whole
+unfolding rows_joined_to
+returns-else-is_whole c = λ listed there.
+    let graph = c.args.graph.now in
+    let profile = c.args.profile.now in
+    let area = c.area.result.0 in
+    let members = c.area.result.1.now in
+    let table = c.area.result.2.now in
+    let added : List TableLink → Type 0 = λ rows. OnOk c.add_joined.result (Adds (length (network graph).nodes) c.args.rows.now.items c.add_joined.new.rows.items rows) in
+    told graph profile c.args.w area members table listed added c.area.ensures.there there
+    (subst added (sym (joined_rows c.network_parts_law.ensures graph profile area members (joined_across table members) c.area.ensures.area.barred (sym c.may_cross.ensures ∙ c.if-not-may_cross.false))) c.add_joined.ensures)

@@ -14,7 +14,7 @@ use Rattle.route_answers.proofs.Choosing.{rows_joined}
 use Rattle.route_answers.proofs.Gathering.{at_place, adds_none, adds_both, joined_more}
 use Rattle.route_answers.proofs.rows.add_areas.Goals as goal
 
-areas_more : (graph : Graph) (profile : Profile) (w : ℕ) (area : Area × List ℕ × List (List Bool) × List (List Bool)) (count : ℕ) (start old new : List TableLink) → slice_get (areas graph) w ≡ Some area
+areas_more : (graph : Graph) (profile : Profile) (w : ℕ) (area : Area × List ℕ × List (List Bool)) (count : ℕ) (start old new : List TableLink) → slice_get (areas graph) w ≡ Some area
     → Adds count start old (rows_of (network graph) profile (flat_map (area_links graph) (take w (areas graph)))) → Adds count old new (rows_of (network graph) profile (area_links graph area))
     → Adds count start new (rows_of (network graph) profile (flat_map (area_links graph) (take (w + 1) (areas graph))))
 areas_more graph profile w area count start old new there before added =
@@ -23,7 +23,7 @@ areas_more graph profile w area count start old new there before added =
     let front : List Link = flat_map f (take w (areas graph)) in
     let joined : flat_map f (take (w + 1) (areas graph)) ≡ front ++ f area =
     joined_more f (areas graph) w area (slice_get_within (areas graph) w area there)
-    ∙ ap (λ (x : Area × List ℕ × List (List Bool) × List (List Bool)). front ++ f x) (get_or_from_slice_get (areas graph) w area area there) in
+    ∙ ap (λ (x : Area × List ℕ × List (List Bool)). front ++ f x) (get_or_from_slice_get (areas graph) w area area there) in
     subst (Adds count start new) (sym (ap (rows_of given profile) joined ∙ rows_joined given profile front (f area)))
     (adds_both count start old new (rows_of given profile front) (rows_of given profile (f area)) before added)
 

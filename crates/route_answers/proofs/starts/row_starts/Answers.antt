@@ -49,7 +49,7 @@ loop-w-preserved c =
     record {
       number = omega (arith, all, sum, number);
       units = starts_more graph profile old new w start number before.units c.in_ok-push.ensures.items
-          (start_is graph profile w start c.area.result.0 c.area.result.1.now c.area.ensures.there refl refl before.rows);
+          (start_is graph profile w start c.area.result.0 c.area.result.1.now c.area.result.2.now c.area.ensures.there refl refl before.rows);
       rows = areas_counted graph profile w at.0 c.loop-w.count c.area_count-count.result _ at.1 before.rows (c.area_count-count.ensures at.0 at.1) refl;
     }
 
@@ -67,5 +67,5 @@ returns c =
       units = c.loop-w.invariant.units;
       rise = starts_rise graph profile c.loop-w.units.items all c.loop-w.invariant.units c.units_law.ensures.rise;
       passages = c.loop-w.invariant.rows
-          ∙ ap (λ (some : List (Area × List ℕ × List (List Bool) × List (List Bool))). length (rows_of (network graph) profile (flat_map (area_links graph) some))) (take_all c.loop-w.w (areas graph) (omega (arith, last, count)));
+          ∙ ap (λ (some : List (Area × List ℕ × List (List Bool))). length (rows_of (network graph) profile (flat_map (area_links graph) some))) (take_all c.loop-w.w (areas graph) (omega (arith, last, count)));
     }

@@ -9,7 +9,7 @@ use Rattle.route_answers.proofs.starts.units_law.Goals as goal
 pub returns-clause-within : goal.returns-clause-within
 returns-clause-within c =
     let graph = c.args.graph.now in
-    All-from_recursion (λ (area : Area × List ℕ × List (List Bool) × List (List Bool)). area.0.via < length (network graph).closables) (areas graph) (numbers_within graph)
+    All-from_recursion (λ (area : Area × List ℕ × List (List Bool)). area.0.via < length (network graph).closables) (areas graph) (numbers_within graph)
 
 pub returns-clause-rise : goal.returns-clause-rise
 returns-clause-rise c = numbers_rise c.args.graph.now
