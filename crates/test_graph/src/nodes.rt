@@ -4,7 +4,7 @@
 use crate::station::{id, venue_of};
 use std::process::Abort;
 use std::test::Fail;
-use venue_build::every_name;
+use venue_build::{every_name, every_venue};
 use venue_nodes::Nodes;
 
 /// A feature, its node, and its number among what can be closed.
@@ -37,6 +37,7 @@ fn judge(rt: &impl Abort, nodes: &Nodes) {
 #[test]
 fn a_station_has_its_nodes(rt: HostRuntime) -> Result<(), Fail> {
     let venue = venue_of(rt.alloc(), &[])?;
+    every_venue(&venue);
     every_name(&venue);
     let nodes = Nodes::of(rt.alloc(), venue.features(), venue.settings())?;
     judge(&rt, &nodes);
