@@ -2,8 +2,8 @@
 # `check` over a sound folder of 100,000 features and 1,000,000 judged positions, beside `ogrinfo -al -so` over its sixteen
 # feature files in one run, which a virtual source lists; then the same over six folders at limits of the rules on the plane.
 # The time of a phase of rules is taken from folders with one fault each, after which the check stops: a feature of a wrong type
-# (phase 1), an identifier twice (phase 2), a ring that crosses itself (phase 4). What corners of rooms add is taken from a folder of eight
-# buildings and one of 1,000 rooms of 300 corners, ways being straight or going round walls. Wants python3 and `ogrinfo` of Debian's gdal-bin.
+# (phase 1), an identifier twice (phase 2), a ring that crosses itself (phase 4). What walls in rooms add is taken from a folder of eight
+# buildings and one of 1,000 rooms of 300 corners, ways being straight or going round them. Wants python3 and `ogrinfo` of Debian's gdal-bin.
 . "$(dirname "$0")/begin.sh"
 need python3 ogrinfo
 need_program
@@ -93,8 +93,8 @@ limit "$work/limits" comb 4881 "a comb, and 980,000 vertices in it"
 limit "$work/limits" all_rings 54 "49 rings of 20,000 positions"
 limit "$work/limits" comb_turned 106 "a comb turned by 22.5 degrees, and 20,000 vertices in it"
 
-# What corners add to `check`, in processor time. usage: with_corners BASE NAME TITLE STRAIGHT CLEAR, the last two being how what is printed begins
-with_corners() {
+# What walls add to `check`, in processor time: corners, and who sees whom. usage: with_walls BASE NAME TITLE STRAIGHT CLEAR, the last two being how what is printed begins
+with_walls() {
     variants "$1" "$2"
     mkdir "$1-clear"
     { echo 'inside = "clear"'; cat "$1/venue.toml"; } >"$1-clear/venue.toml"
@@ -104,13 +104,13 @@ with_corners() {
     python3 bench/measure.py 3 clear "$program check $1-clear $2" straight "$program check $1 $2" mistyped "$program check $1 $2-mistyped" |
         awk '{ sub(":", "", $1); busy[$1] = $(NF - 1) } END { printf "%.3f %.3f %.3f %.2f\n", busy["clear"] - busy["straight"], busy["mistyped"], busy["straight"], (busy["clear"] - busy["straight"]) / busy["mistyped"] }' >"$work/added"
     read -r added reading straight ratio <"$work/added"
-    echo "$3: straight $straight s, corners add $added s, $ratio of reading"
-    row "corners, $3" "$added s" "reading $reading s" "$ratio" 'at most 0.10'
+    echo "$3: straight $straight s, walls add $added s, $ratio of reading"
+    row "walls, $3" "$added s" "reading $reading s" "$ratio" "$6"
     rm -r "$1-clear"
 }
 
-echo "corners of rooms as nodes; wanted: at most a tenth of reading"
+echo "rooms with walls; wanted: half of a straight check where their members are looked through, a tenth of reading where corners are only counted"
 python3 bench/folder.py "$work/eight" 8
-with_corners "$work/eight" sound "eight buildings" "accepted " "accepted "
-with_corners "$work/limits" stairs "1,000 rooms of 300 corners" "accepted 1006 " "rejected 1 finding S6 unit.geojson 0 0 "
+with_walls "$work/eight" sound "eight buildings" "accepted " "accepted " 'at most half of a straight check'
+with_walls "$work/limits" stairs "1,000 rooms of 300 corners" "accepted 1006 " "rejected 1 finding S6 unit.geojson 0 0 " 'at most 0.10'
 uptime
