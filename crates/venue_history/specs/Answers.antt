@@ -10,6 +10,7 @@ use Rattle.venue_types.specs.declared.query.Ask.{Ask}
 use Rattle.venue_types.specs.declared.query.Ask.TheVariants as ask
 use Rattle.venue_types.specs.declared.query.Query.{Query}
 use Rattle.venue_types.specs.declared.reply.Mark.{Mark}
+use Rattle.venue_types.specs.declared.reply.NodeName.{NodeName}
 use Rattle.venue_types.specs.declared.reply.PlaceRow.{PlaceRow}
 use Rattle.venue_types.specs.declared.reply.Reply.{Reply}
 use Rattle.venue_types.specs.declared.reply.Reply.TheVariants as reply
@@ -59,7 +60,7 @@ pub record AreShown (v : Version) (number : ℕ) (profile : Profile) (a b cost :
   pub certificate : IsCertificate link_view (Usable v number profile) a b cost (potential potential_view cost listed)
 
 -- the names are those of exactly the nodes to which a walk from a leads, and rise by node
-pub record AreReached (v : Version) (number : ℕ) (profile : Profile) (a : ℕ) (names : List FeatureId) : Type 0 where
+pub record AreReached (v : Version) (number : ℕ) (profile : Profile) (a : ℕ) (names : List NodeName) : Type 0 where
   pub listed : List ℕ
   pub told : names ≡ map (name_of v) listed
   pub rising : IsStrictlyIncreasing listed
@@ -76,11 +77,11 @@ pub record IsRoute (v : Version) (from to : FeatureId) (name : List ℕ) (certif
   pub walk : List Link
   pub least : IsLeast link_view (Usable v number profile) a b walk cost
   pub stepped : steps ≡ map (step_of v) walk
-  pub started : start ≡ name_of v a
+  pub started : start ≡ (name_of v a).id
   pub shown : IfAsked certificate (AreShown v number profile a b cost) potentials
 
 -- no walk of what may be used leads from place to place
-pub record IsNoRoute (v : Version) (from to : FeatureId) (name : List ℕ) (certificate : Bool) (reached : Option (List FeatureId)) : Type 0 where
+pub record IsNoRoute (v : Version) (from to : FeatureId) (name : List ℕ) (certificate : Bool) (reached : Option (List NodeName)) : Type 0 where
   pub number : ℕ
   pub profile : Profile
   pub a : ℕ

@@ -32,7 +32,7 @@ pub record IsNearTrip (v : Version) (asked : Nearest) (number : ℕ) (profile : 
 
 -- a row as a reply tells it
 abbrev pub near_row_of : Version → Row Link → NearRow
-near_row_of v row = record { id = name_of v row.node; cost = row.cost; steps = map (step_of v) row.walk }
+near_row_of v row = record { id = (name_of v row.node).id; cost = row.cost; steps = map (step_of v) row.walk }
 
 -- told where it was asked for
 abbrev pub if_asked : {A : Type 0} → Bool → Option A → Option A
@@ -51,7 +51,7 @@ pub record AreNearest (v : Version) (asked : Nearest) (it : NearTold) : Type 0 w
   pub listed : List Potential
   pub reached : Option (List ℕ)
   pub nearest : IsNearest link_view potential_view (Usable v number profile) (length (nodes v.features v.settings)) a candidates asked.limit rows listed reached
-  pub started : it.start ≡ name_of v a
+  pub started : it.start ≡ (name_of v a).id
   pub rowed : it.places ≡ map (near_row_of v) rows
   pub shown : it.potentials ≡ if_asked asked.certificate (Some (map (mark_of v) listed))
   pub reaches : it.reached ≡ if_asked asked.certificate (option_map (map (name_of v)) reached)

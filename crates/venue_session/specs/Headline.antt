@@ -58,7 +58,7 @@ IsRight shelf worker before _ _ seen = ⊥
 abbrev pub TellsTheWay : List Entry → Response → Type 0
 TellsTheWay seen (Of (reply.Route number from to name start cost steps potentials)) =
     (v : Version) × (place : ℕ) × (profile : Profile) × (a : ℕ) × (b : ℕ) × Replays seen v × (number ≡ v.number) × IsTrip v from to name place profile a b
-    × (walk : List Link) × IsLeast link_view (Usable v place profile) a b walk cost × (start ≡ name_of v a) × (steps ≡ map (step_of v) walk)
+    × (walk : List Link) × IsLeast link_view (Usable v place profile) a b walk cost × (start ≡ (name_of v a).id) × (steps ≡ map (step_of v) walk)
 TellsTheWay seen (Of (reply.NoRoute number from to name reached)) =
     (v : Version) × (place : ℕ) × (profile : Profile) × (a : ℕ) × (b : ℕ) × Replays seen v × (number ≡ v.number) × IsTrip v from to name place profile a b
     × HasNoWalk link_view (Usable v place profile) a b

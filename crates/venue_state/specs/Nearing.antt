@@ -25,7 +25,7 @@ told_row v row = near_row_of v (row_of row)
 pub record TellsNear (v : Version) (asked : Nearest) (a : ℕ) (near : Near) (it : NearTold) : Type 0 where
   pub numbered : it.number ≡ v.number
   pub repeats : RepeatsNear asked it
-  pub started : it.start ≡ name_of v a
+  pub started : it.start ≡ (name_of v a).id
   pub rowed : it.places ≡ map (told_row v) near.rows
   pub shown : it.potentials ≡ if_asked asked.certificate (Some (map (mark_of v) near.potentials))
   pub reaches : it.reached ≡ if_asked asked.certificate (option_map (map (name_of v)) near.reached)

@@ -1,26 +1,52 @@
 //! Numbers of the graph, as replies name them.
 
 ghost use Rattle.std.specs.Prelude.{◌≡◌, IfOk, map};
-ghost use Rattle.venue_history.specs.Ways.{name_of, way_name, step_of, mark_of};
+ghost use Rattle.venue_history.specs.Ways.{node_name, name_of, way_name, step_of, mark_of};
 
 use crate::board::Board;
 use std::alloc::Global;
-use venue_types::{FeatureId, Link, List, Mark, OutOfMemory, Potential, StepRow};
+use venue_types::{
+    Class, FeatureId, Link, List, Mark, Node, NodeName, OutOfMemory, Potential, StepRow,
+};
 
 // It stands for no feature.
 const NO_NAME: FeatureId = FeatureId(0);
 
+// How a reply names a node: a corner with its number.
+fn name_of(node: Node) -> NodeName
+    ensures { result ≡ node_name node }
+{
+    let corner = match node.class {
+        Class::Corner => Some(node.corner),
+        _ => None,
+    };
+    NodeName {
+        id: node.id,
+        corner,
+    }
+}
+
 impl Board {
-    /// The identifier of a node.
-    pub(crate) fn name(&self, n: u32) -> FeatureId
+    /// The name of a node.
+    pub(crate) fn name(&self, n: u32) -> NodeName
         ensures { result ≡ name_of self.now n }
     {
         let graph = self.graph();
         if n < graph.nodes() {
-            graph.node(n).id
+            name_of(graph.node(n))
         } else {
-            NO_NAME
+            NodeName {
+                id: NO_NAME,
+                corner: None,
+            }
         }
+    }
+
+    /// The identifier of a node.
+    pub(crate) fn id(&self, n: u32) -> FeatureId
+        ensures { result ≡ (name_of self.now n).id }
+    {
+        self.name(n).id
     }
 
     // The identifier of what a link goes by.
@@ -38,8 +64,10 @@ impl Board {
     fn step(&self, link: &Link) -> StepRow
         ensures { result ≡ step_of self.now link.now }
     {
+        let NodeName { id, corner } = self.name(link.to);
         StepRow {
-            to: self.name(link.to),
+            corner,
+            to: id,
             via: self.way_name(link.via),
             cost: link.cost,
             kind: link.kind,
@@ -57,6 +85,17 @@ impl Board {
         Ok(List::from_vec(steps))
     }
 
+    fn mark(&self, p: &Potential) -> Mark
+        ensures { result ≡ mark_of self.now p.now }
+    {
+        let NodeName { id, corner } = self.name(p.node);
+        Mark {
+            corner,
+            node: id,
+            value: p.value,
+        }
+    }
+
     /// Potentials as marks.
     pub(crate) fn potentials(
         &self,
@@ -67,16 +106,13 @@ impl Board {
     {
         let mut marks = Vec::with_capacity(alloc, listed.len())?;
         for p in listed {
-            marks.push(Mark {
-                node: self.name(p.node),
-                value: p.value,
-            })?;
+            marks.push(self.mark(p))?;
         }
         Ok(List::from_vec(marks))
     }
 
-    /// Nodes as their identifiers.
-    pub(crate) fn names(&self, alloc: Global, nodes: &[u32]) -> Result<List<FeatureId>, OutOfMemory>
+    /// Nodes by their names.
+    pub(crate) fn names(&self, alloc: Global, nodes: &[u32]) -> Result<List<NodeName>, OutOfMemory>
         ensures { IfOk result (λ names. names ≡ map (name_of self.now) nodes.now) }
     {
         let mut names = Vec::with_capacity(alloc, nodes.len())?;

@@ -17,7 +17,7 @@ use route_search::passable_law;
 use std::alloc::Global;
 use std::marker::Brand;
 use std::sync::ledger::{Blank, Ledger};
-use venue_types::{FeatureId, List, NearQuery, NearRow, NearTold, OutOfMemory, Reply, Text, Which};
+use venue_types::{List, NearQuery, NearRow, NearTold, NodeName, OutOfMemory, Reply, Text, Which};
 use walk_laws::Steps;
 
 impl Board {
@@ -90,7 +90,7 @@ impl Board {
         Ok(NearTold {
             number: self.number(),
             from: asked.from(),
-            start: self.name(a),
+            start: self.id(a),
             category: asked.category().copy(alloc)?,
             profile: asked.profile().copy(alloc)?,
             places: self.near_rows(alloc, near.rows.as_slice())?,
@@ -115,7 +115,7 @@ impl Board {
         ensures { IfOk result (λ told. told ≡ told_row self.now row.now) }
     {
         Ok(NearRow {
-            id: self.name(row.node),
+            id: self.id(row.node),
             cost: row.cost,
             steps: self.steps(alloc, row.walk.as_slice())?,
         })
@@ -127,7 +127,7 @@ impl Board {
         alloc: Global,
         certificate: bool,
         reached: &Option<List<u32>>,
-    ) -> Result<Option<List<FeatureId>>, OutOfMemory>
+    ) -> Result<Option<List<NodeName>>, OutOfMemory>
         ensures { IfOk result (λ told. told ≡ if_asked certificate (option_map (map (name_of self.now)) reached.now)) }
     {
         match reached {

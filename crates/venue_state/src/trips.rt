@@ -15,7 +15,9 @@ use route_search::{Found, least, passable_law};
 use std::alloc::Global;
 use std::marker::Brand;
 use std::sync::ledger::{Blank, Ledger};
-use venue_types::{FeatureId, List, Mark, OutOfMemory, Potential, Profile, Reply, Text, Which};
+use venue_types::{
+    FeatureId, List, Mark, NodeName, OutOfMemory, Potential, Profile, Reply, Text, Which,
+};
 use walk_laws::Steps;
 
 // Between which places a way is asked for, and for whom, as the reply repeats it.
@@ -129,7 +131,7 @@ impl Board {
                 from,
                 to,
                 profile,
-                start: self.name(a),
+                start: self.id(a),
                 cost,
                 steps: self.steps(alloc, walk.as_slice())?,
                 potentials: self.shown(alloc, certificate, potentials.as_slice())?,
@@ -167,7 +169,7 @@ impl Board {
         alloc: Global,
         certificate: bool,
         nodes: &[u32],
-    ) -> Result<Option<List<FeatureId>>, OutOfMemory>
+    ) -> Result<Option<List<NodeName>>, OutOfMemory>
         ensures { IfOk result (IfAsked certificate (λ names. names ≡ map (name_of self.now) nodes.now)) }
     {
         if certificate {

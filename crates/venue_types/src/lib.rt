@@ -39,8 +39,8 @@ pub use point::{Line, Part, Point, Ring, Shape, Spot};
 pub use profile_set::{ProfileSet, profile_set_law};
 pub use query::{Ask, Change, Closure, Query};
 pub use reply::{
-    ClosedRow, ClosureDone, ClosuresTold, Leg, Mark, NearRow, NearTold, NoTourTold, PlaceRow,
-    PlaceTold, Reply, StepRow, TourTold, Which,
+    ClosedRow, ClosureDone, ClosuresTold, Leg, Mark, NearRow, NearTold, NoTourTold, NodeName,
+    PlaceRow, PlaceTold, Reply, StepRow, TourTold, Which,
 };
 pub use room::{push_reserved, reserve};
 pub use settings::{Extras, Inside, Profile, Settings};

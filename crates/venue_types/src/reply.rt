@@ -12,9 +12,18 @@ pub struct PlaceRow {
     pub name: List<Label>,
 }
 
+/// How a reply names a node: by its feature's identifier, and a corner by its unit's and its number among the unit's corners, from 1.
+#[derive(Clone, Copy, Debug, PartialEq, Eq)]
+pub struct NodeName {
+    pub id: FeatureId,
+    pub corner: Option<u32>,
+}
+
 /// A step of a walk: where it leads, over what, and its cost in centimetres.
 #[derive(Clone, Copy, Debug, PartialEq, Eq)]
 pub struct StepRow {
+    /// Where it leads to a corner of `to`, its number there.
+    pub corner: Option<u32>,
     pub to: FeatureId,
     pub via: FeatureId,
     pub cost: u32,
@@ -24,6 +33,8 @@ pub struct StepRow {
 /// A potential of a certificate, in centimetres.
 #[derive(Clone, Copy, Debug, PartialEq, Eq)]
 pub struct Mark {
+    /// At a corner of `node`, its number there.
+    pub corner: Option<u32>,
     pub node: FeatureId,
     pub value: u64,
 }
@@ -86,7 +97,7 @@ pub struct NearTold {
     pub profile: Text,
     pub places: List<NearRow>,
     pub potentials: Option<List<Mark>>,
-    pub reached: Option<List<FeatureId>>,
+    pub reached: Option<List<NodeName>>,
 }
 
 /// A place as a reply tells it: whether it is closed for everybody, and where it is closed for some alone, the names of their profiles.

@@ -17,6 +17,7 @@ use Rattle.venue_types.specs.declared.reply.Mark.{Mark}
 use Rattle.venue_types.specs.declared.reply.NearRow.{NearRow}
 use Rattle.venue_types.specs.declared.reply.NearTold.{NearTold}
 use Rattle.venue_types.specs.declared.reply.NoTourTold.{NoTourTold}
+use Rattle.venue_types.specs.declared.reply.NodeName.{NodeName}
 use Rattle.venue_types.specs.declared.reply.PlaceRow.{PlaceRow}
 use Rattle.venue_types.specs.declared.reply.PlaceTold.{PlaceTold}
 use Rattle.venue_types.specs.declared.reply.Reply.{Reply}
@@ -57,15 +58,32 @@ name_data (label ∷ labels) = object (label_members (label ∷ labels))
 abbrev pub step_data : StepRow → Data
 step_data step =
     object
+    (where_there (codes "corner") (option_map count step.corner)
     (member (codes "cost") (count step.cost)
     (member (codes "kind") (string (kind_name step.kind))
     (member (codes "to") (id_data step.to)
     (member (codes "via") (id_data step.via)
-    no_members))))
+    no_members)))))
 
 -- a node's potential
 abbrev pub mark_data : Mark → Data
-mark_data mark = object (member (codes "node") (id_data mark.node) (member (codes "value") (count mark.value) no_members))
+mark_data mark =
+    object
+    (where_there (codes "corner") (option_map count mark.corner)
+    (member (codes "node") (id_data mark.node)
+    (member (codes "value") (count mark.value)
+    no_members)))
+
+-- a corner by its number and its unit
+abbrev pub corner_data : ℕ → FeatureId → Data
+corner_data corner id = object (member (codes "corner") (count corner) (member (codes "node") (id_data id) no_members))
+
+-- a node: its identifier, and a corner with its number
+abbrev pub node_data : NodeName → Data
+node_data name = elim name.corner [
+  | None ↦ id_data name.id
+  | Some corner ↦ corner_data corner name.id
+]
 
 -- a place, as one of a list
 abbrev pub row_data : PlaceRow → Data
@@ -155,12 +173,12 @@ route_data version from to profile start cost steps potentials =
     no_members)))))))))
 
 -- that there is no walk
-abbrev pub no_route_data : ℕ → FeatureId → FeatureId → List ℕ → Option (List FeatureId) → Data
+abbrev pub no_route_data : ℕ → FeatureId → FeatureId → List ℕ → Option (List NodeName) → Data
 no_route_data version from to profile reached =
     object
     (member (codes "from") (id_data from)
     (member (codes "profile") (string profile)
-    (where_there (codes "reached") (option_map (list_data id_data) reached)
+    (where_there (codes "reached") (option_map (list_data node_data) reached)
     (member (codes "result") (string (codes "none"))
     (member (codes "to") (id_data to)
     (member (codes "version") (count version)
@@ -214,7 +232,7 @@ nearest_data told =
     (member (codes "places") (list_data near_row_data told.places)
     (where_there (codes "potentials") (option_map (list_data mark_data) told.potentials)
     (member (codes "profile") (string told.profile)
-    (where_there (codes "reached") (option_map (list_data id_data) told.reached)
+    (where_there (codes "reached") (option_map (list_data node_data) told.reached)
     (member (codes "start") (id_data told.start)
     (member (codes "version") (count told.number)
     no_members))))))))

@@ -1,15 +1,17 @@
-//! The rows of lists: steps, potentials, legs, closed features, places and findings.
+//! The rows of lists: steps, potentials, nodes, legs, closed features, places and findings.
 
 ghost use Rattle.std.specs.Prelude.{OnOk};
-ghost use Rattle.wire_replies.specs.Bodies.{closed_for_data};
+ghost use Rattle.wire_replies.specs.Bodies.{closed_for_data, corner_data};
 ghost use Rattle.wire_replies.specs.Tokens.{Adds, data_tokens};
 
 use crate::labels::Name;
 use crate::words::{FileNumber, RuleNumber};
-use crate::written::{Written, begin, end, member};
+use crate::written::{Written, begin, end, member, member_where_there};
 use json::Writer;
 use std::alloc::{AllocError, Global};
-use venue_types::{ClosedRow, FeatureId, Finding, Leg, List, Mark, PlaceRow, StepRow, Text};
+use venue_types::{
+    ClosedRow, FeatureId, Finding, Leg, List, Mark, NodeName, PlaceRow, StepRow, Text,
+};
 
 impl Written for StepRow {
     ghost use Rattle.wire_replies.specs.Bodies.{step_data};
@@ -18,6 +20,7 @@ impl Written for StepRow {
 
     fn write_to(&self, alloc: Global, out: &mut Writer) -> Result<(), AllocError> {
         begin(out)?;
+        member_where_there(alloc, out, "corner", &self.corner)?;
         member(alloc, out, "cost", &self.cost)?;
         member(alloc, out, "kind", &self.kind)?;
         member(alloc, out, "to", &self.to)?;
@@ -33,9 +36,38 @@ impl Written for Mark {
 
     fn write_to(&self, alloc: Global, out: &mut Writer) -> Result<(), AllocError> {
         begin(out)?;
+        member_where_there(alloc, out, "corner", &self.corner)?;
         member(alloc, out, "node", &self.node)?;
         member(alloc, out, "value", &self.value)?;
         end(out)
+    }
+}
+
+// Writes a corner by its number and its unit.
+fn write_corner(
+    alloc: Global,
+    out: &mut Writer,
+    corner: u32,
+    id: FeatureId,
+) -> Result<(), AllocError>
+    ensures { OnOk result (Adds (data_tokens (corner_data corner id)) out.old out.new) }
+{
+    begin(out)?;
+    member(alloc, out, "corner", &corner)?;
+    member(alloc, out, "node", &id)?;
+    end(out)
+}
+
+impl Written for NodeName {
+    ghost use Rattle.wire_replies.specs.Bodies.{node_data};
+
+    ghost shown = { node_data };
+
+    fn write_to(&self, alloc: Global, out: &mut Writer) -> Result<(), AllocError> {
+        match self.corner {
+            None => self.id.write_to(alloc, out),
+            Some(corner) => write_corner(alloc, out, corner, self.id),
+        }
     }
 }
 

@@ -7,7 +7,7 @@ ghost use Rattle.wire_replies.specs.Tokens.{Adds, data_tokens};
 use crate::written::{begin, end, member, member_where_there};
 use json::Writer;
 use std::alloc::{AllocError, Global};
-use venue_types::{FeatureId, List, Mark, StepRow, Text};
+use venue_types::{FeatureId, List, Mark, NodeName, StepRow, Text};
 
 /// What was asked, and of which version.
 #[derive(Clone, Copy)]
@@ -47,7 +47,7 @@ pub(crate) fn write_no_route(
     alloc: Global,
     out: &mut Writer,
     asked: &Asked<'_>,
-    reached: &Option<List<FeatureId>>,
+    reached: &Option<List<NodeName>>,
 ) -> Result<(), AllocError>
     ensures { OnOk result (Adds (data_tokens (no_route_data asked.now.version asked.now.from asked.now.to
         asked.now.profile.now reached.now)) out.old out.new) }
