@@ -166,7 +166,7 @@ pub enum Reply {
         from: FeatureId,
         to: FeatureId,
         profile: Text,
-        reached: Option<List<FeatureId>>,
+        reached: Option<List<NodeName>>,
     },
     /// A cheapest tour.
     Tour(TourTold),
