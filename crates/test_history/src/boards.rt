@@ -12,7 +12,8 @@ use test_venues::{id, tail, venue_of};
 use venue_history::Act;
 use venue_state::{Board, Unready};
 use venue_types::{
-    Ask, Class, ClosedRow, FeatureId, Kind, PlaceRow, Query, Reply, Settings, StepRow, Text, Which,
+    Ask, Class, ClosedRow, FeatureId, Kind, NodeName, PlaceRow, Query, Reply, Settings, StepRow,
+    Text, Which,
 };
 
 // A feature is named by the last digits of its identifier. A step: where it leads, over what, its cost and its kind.
@@ -186,7 +187,7 @@ fn closed_in(reply: &Reply) -> &[ClosedRow] {
     }
 }
 
-fn listed_in(reply: &Reply) -> &[FeatureId] {
+fn listed_in(reply: &Reply) -> &[NodeName] {
     match reply {
         Reply::NoRoute {
             reached: Some(reached),
@@ -210,9 +211,9 @@ fn judge_closed(rt: &impl Abort, found: &[ClosedRow], listed: &[u128]) {
     }
 }
 
-fn judge_listed(rt: &impl Abort, found: &[FeatureId], listed: &[u128]) {
+fn judge_listed(rt: &impl Abort, found: &[NodeName], listed: &[u128]) {
     for (found, tail) in found.iter().zip(listed) {
-        assert!(rt; *found == id(*tail));
+        assert!(rt; found.id == id(*tail) && found.corner.is_none());
     }
 }
 
@@ -220,6 +221,7 @@ fn judge_steps(rt: &impl Abort, found: &[StepRow], steps: &[Step]) {
     assert!(rt; found.len() == steps.len());
     for (found, (to, via, cost, kind)) in found.iter().zip(steps) {
         let step = StepRow {
+            corner: None,
             to: id(*to),
             via: id(*via),
             cost: *cost,

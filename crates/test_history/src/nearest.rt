@@ -11,8 +11,8 @@ use test_venues::{id, tail, venue_of};
 use venue_history::Act;
 use venue_state::Board;
 use venue_types::{
-    Ask, FeatureId, Kind, List, Mark, NearQuery, NearRow, NearTold, Query, Reply, StepRow, Text,
-    Which,
+    Ask, FeatureId, Kind, List, Mark, NearQuery, NearRow, NearTold, NodeName, Query, Reply,
+    StepRow, Text, Which,
 };
 
 // A step: where it leads, over what, its cost and its kind.
@@ -265,6 +265,7 @@ fn judge_steps(rt: &impl Abort, found: &[StepRow], steps: &[Step]) {
     assert!(rt; found.len() == steps.len());
     for (found, (to, via, cost, kind)) in found.iter().zip(steps) {
         let step = StepRow {
+            corner: None,
             to: id(*to),
             via: id(*via),
             cost: *cost,
@@ -317,7 +318,7 @@ fn potential(marks: &[Mark], last: u64, node: FeatureId) -> u64 {
 fn judge_listed(rt: &impl Abort, marks: &[Mark], last: u64) {
     let mut before = 0u128;
     for mark in marks {
-        assert!(rt; mark.node.0 > before && mark.value < last);
+        assert!(rt; mark.node.0 > before && mark.corner.is_none() && mark.value < last);
         before = mark.node.0;
     }
 }
@@ -343,19 +344,19 @@ fn judge_marks(rt: &impl Abort, told: &NearTold, marks: &[Mark], row: &Row) {
     }
 }
 
-fn judge_nodes(rt: &impl Abort, reached: &[FeatureId], row: &Row) {
+fn judge_nodes(rt: &impl Abort, reached: &[NodeName], row: &Row) {
     assert!(rt; !reached.is_empty() && reached.len() == row.reached);
     let mut before = 0u128;
     for node in reached {
-        assert!(rt; node.0 > before);
-        before = node.0;
+        assert!(rt; node.id.0 > before && node.corner.is_none());
+        before = node.id.0;
     }
     for (node, tail) in reached.iter().zip(row.nodes) {
-        assert!(rt; *node == id(*tail));
+        assert!(rt; node.id == id(*tail));
     }
 }
 
-fn judge_reached(rt: &impl Abort, reached: &Option<List<FeatureId>>, row: &Row) {
+fn judge_reached(rt: &impl Abort, reached: &Option<List<NodeName>>, row: &Row) {
     match reached {
         Some(reached) => judge_nodes(rt, reached.as_slice(), row),
         None => assert!(rt; row.reached == 0),

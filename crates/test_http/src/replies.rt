@@ -5,8 +5,8 @@ use std::process::Abort;
 use std::test::Fail;
 use venue_types::{
     Class, ClosedRow, ClosureDone, ClosuresTold, FeatureId, Finding, Kind, Label, Leg, List, Mark,
-    NearRow, NearTold, NoTourTold, PlaceRow, PlaceTold, Reply, Report, StepRow, Text, TourTold,
-    Which,
+    NearRow, NearTold, NoTourTold, NodeName, PlaceRow, PlaceTold, Reply, Report, StepRow, Text,
+    TourTold, Which,
 };
 use wire_frames::{Methods, Refusal};
 use wire_replies::{bare_bytes, refusal_bytes, reply_bytes, want_of_memory};
@@ -52,6 +52,7 @@ fn step(cost: u32, kind: Kind, to: u16, via: u16) -> StepRow {
     let to = id(to);
     let via = id(via);
     StepRow {
+        corner: None,
         to,
         via,
         cost,
@@ -61,7 +62,25 @@ fn step(cost: u32, kind: Kind, to: u16, via: u16) -> StepRow {
 
 fn mark(node: u16, value: u64) -> Mark {
     let node = id(node);
-    Mark { node, value }
+    Mark {
+        corner: None,
+        node,
+        value,
+    }
+}
+
+fn node(last: u16) -> NodeName {
+    NodeName {
+        id: id(last),
+        corner: None,
+    }
+}
+
+fn corner(last: u16, corner: u32) -> NodeName {
+    NodeName {
+        corner: Some(corner),
+        ..node(last)
+    }
 }
 
 fn place(last: u16, class: Class, ordinal: i16, name: Vec<Label>) -> PlaceRow {
@@ -97,7 +116,7 @@ fn route(alloc: Global, potentials: Option<List<Mark>>) -> Result<Reply, AllocEr
     })
 }
 
-fn no_route(alloc: Global, reached: Option<List<FeatureId>>) -> Result<Reply, AllocError> {
+fn no_route(alloc: Global, reached: Option<List<NodeName>>) -> Result<Reply, AllocError> {
     let profile = text(alloc, "wheelchair")?;
     Ok(Reply::NoRoute {
         number: 3,
@@ -166,7 +185,7 @@ fn nearest(
     number: u32,
     places: Vec<NearRow>,
     potentials: Option<List<Mark>>,
-    reached: Option<List<FeatureId>>,
+    reached: Option<List<NodeName>>,
 ) -> Result<Reply, AllocError> {
     let category = text(alloc, "restroom")?;
     let profile = text(alloc, "wheelchair")?;
@@ -338,10 +357,60 @@ fn sees_that_none_is(rt: &impl Abort, alloc: Global) -> Result<(), AllocError> {
     let body =
         r#"{"from":"@0051","profile":"wheelchair","result":"none","to":"@0052","version":3}"#;
     reads(rt, alloc, no_route(alloc, None)?, 142, body)?;
-    let reached = List::from_vec(vec![in alloc; id(0x31), id(0x41)]?);
+    let reached = List::from_vec(vec![in alloc; node(0x31), node(0x41)]?);
     let body =
         r#"{"from":"@0051","profile":"wheelchair","reached":["@0031","@0041"],"result":"none","to":"@0052","version":3}"#;
     reads(rt, alloc, no_route(alloc, Some(reached))?, 232, body)
+}
+
+// Round the corner of a hall that is an L, with the potentials that show it.
+fn round_the_corner(alloc: Global) -> Result<Reply, AllocError> {
+    let at_corner = StepRow {
+        corner: Some(1),
+        ..step(2550, Kind::Floor, 0x300, 0x300)
+    };
+    let steps = vec![in alloc; at_corner, step(2550, Kind::Floor, 0x42, 0x300)]?;
+    let corner = Mark {
+        corner: Some(1),
+        ..mark(0x300, 2550)
+    };
+    let marks = vec![in alloc; mark(0x41, 0), mark(0x300, 3965), corner]?;
+    let profile = text(alloc, "wheelchair")?;
+    Ok(Reply::Route {
+        number: 1,
+        from: id(0x41),
+        to: id(0x42),
+        profile,
+        start: id(0x41),
+        cost: 5100,
+        steps: List::from_vec(steps),
+        potentials: Some(List::from_vec(marks)),
+    })
+}
+
+// A corner is told by its number and its unit; another node of the unit by its identifier alone.
+fn sees_corners(rt: &impl Abort, alloc: Global) -> Result<(), AllocError> {
+    let body =
+        r#"{"cost":5100,"from":"@0041","potentials":[{"node":"@0041","value":0},{"node":"@0300","value":3965},{"corner":1,"node":"@0300","value":2550}],"profile":"wheelchair","result":"route","start":"@0041","steps":[{"corner":1,"cost":2550,"kind":"floor","to":"@0300","via":"@0300"},{"cost":2550,"kind":"floor","to":"@0042","via":"@0300"}],"to":"@0042","version":1}"#;
+    reads(rt, alloc, round_the_corner(alloc)?, 665, body)?;
+    let nodes = vec![in alloc; node(0x41), node(0x42), corner(0x300, 1)]?;
+    let profile = text(alloc, "wheelchair")?;
+    let reply = Reply::NoRoute {
+        number: 2,
+        from: id(0x42),
+        to: id(0x43),
+        profile,
+        reached: Some(List::from_vec(nodes)),
+    };
+    let body =
+        r#"{"from":"@0042","profile":"wheelchair","reached":["@0041","@0042",{"corner":1,"node":"@0300"}],"result":"none","to":"@0043","version":2}"#;
+    reads(rt, alloc, reply, 291, body)?;
+    let nodes = vec![in alloc; node(0x41), corner(0x305, u32::MAX)]?;
+    let reached = Some(List::from_vec(nodes));
+    let reply = nearest(alloc, 2, Vec::new(alloc), None, reached)?;
+    let body =
+        r#"{"category":"restroom","from":"@0051","places":[],"profile":"wheelchair","reached":["@0041",{"corner":4294967295,"node":"@0305"}],"start":"@0041","version":2}"#;
+    reads(rt, alloc, reply, 282, body)
 }
 
 fn sees_tours(rt: &impl Abort, alloc: Global) -> Result<(), AllocError> {
@@ -358,8 +427,8 @@ fn restroom_marks(alloc: Global) -> Result<Option<List<Mark>>, AllocError> {
     Ok(Some(List::from_vec(marks)))
 }
 
-fn reached(alloc: Global, first: u16, second: u16) -> Result<Option<List<FeatureId>>, AllocError> {
-    let nodes = vec![in alloc; id(first), id(second)]?;
+fn reached(alloc: Global, first: u16, second: u16) -> Result<Option<List<NodeName>>, AllocError> {
+    let nodes = vec![in alloc; node(first), node(second)]?;
     Ok(Some(List::from_vec(nodes)))
 }
 
@@ -682,6 +751,7 @@ fn ways_have_their_bytes(rt: HostRuntime) -> Result<(), Fail> {
 #[test]
 fn the_nearest_have_their_bytes(rt: HostRuntime) -> Result<(), Fail> {
     let alloc = rt.alloc();
+    sees_corners(&rt, alloc)?;
     sees_the_nearest(&rt, alloc)?;
     sees_what_is_reached(&rt, alloc)?;
     Ok(())

@@ -8,6 +8,7 @@ pub mod Listed
 pub mod Naming
 pub mod Fitting
 pub mod Once
+pub mod NodeNames
 pub mod Touring
 pub mod Sorting
 pub mod Changing

@@ -1,6 +1,6 @@
 //! What holds of every history, of every answer and of every change.
 
-ghost use Rattle.std.specs.Prelude.{◌≡◌, ◌≢◌, ℕ, ◌+◌, List, [], ◌∷◌, ◌++◌, length, All, AllPairs, Contains, Option, Some, IsTrue, ◌↔◌, ◌||◌, ◌&&◌, not, if◌then◌else◌};
+ghost use Rattle.std.specs.Prelude.{◌≡◌, ◌≢◌, ℕ, ◌+◌, ◌<◌, List, [], ◌∷◌, ◌++◌, length, All, AllPairs, Contains, Option, Some, IsTrue, ◌↔◌, ◌||◌, ◌&&◌, not, if◌then◌else◌};
 ghost use mathlib.Core.List.{IsPrefix};
 ghost use Rattle.std.specs.Arc.{arc_value};
 ghost use Rattle.std.specs.declared.sync.Arc.{Arc};
@@ -12,7 +12,7 @@ ghost use Rattle.venue_types.specs.declared.reply.Reply.{Reply as AReply};
 ghost use Rattle.venue_types.specs.declared.reply.Reply.TheVariants as reply;
 ghost use Rattle.venue_types.specs.ProfileSets.{has, nobody, is_empty};
 ghost use Rattle.venue_build.specs.Identity.{is_same};
-ghost use Rattle.venue_build.specs.Nodes.{closables};
+ghost use Rattle.venue_build.specs.Nodes.{closables, nodes};
 ghost use Rattle.venue_build.specs.Venues.{SeenVenue as AVenue};
 ghost use Rattle.venue_build.specs.Report.{AreValid};
 ghost use Rattle.venue_folder.specs.Shelves.{Shelf};
@@ -25,6 +25,7 @@ ghost use Rattle.venue_history.specs.Histories.{IsPublished, IsLegal, Replays};
 ghost use Rattle.venue_history.specs.Answers.{Answers};
 ghost use Rattle.venue_history.specs.Replies.{told, kind_of, IsOutsideFault};
 ghost use Rattle.venue_history.specs.Changes.{Changes};
+ghost use Rattle.venue_history.specs.Ways.{name_of};
 
 use venue_build::{one_outcome, own_ids_law};
 use venue_types::profile_set_law;
@@ -60,6 +61,13 @@ pub fn version_law()
     ensures once { (h : List AnEntry) (v : Version) → Replays h v → AllPairs (λ a b. a ≢ b) (closed_ids v) }
     ensures in_order { (h : List AnEntry) (v : Version) → Replays h v → v.closed ≡ closings (closed_set v) (closables v.features) }
     ensures profiles { (h : List AnEntry) (v : Version) → Replays h v → All (λ (it : Closing). AreProfiles v.settings it.profiles) v.closed }
+{
+    own_ids_law();
+}
+
+/// At every version to which a history leads two nodes of one name are one node: so the steps of a reply tell which walk it is.
+pub fn name_law()
+    ensures { (h : List AnEntry) (v : Version) (m n : ℕ) → Replays h v → m < length (nodes v.features v.settings) → n < length (nodes v.features v.settings) → name_of v m ≡ name_of v n → m ≡ n }
 {
     own_ids_law();
 }

@@ -8,6 +8,7 @@ use Rattle.venue_types.specs.declared.query.Change.TheVariants as change
 use Rattle.venue_types.specs.declared.reply.Mark.{Mark}
 use Rattle.venue_types.specs.declared.reply.NearTold.{NearTold}
 use Rattle.venue_types.specs.declared.reply.NoTourTold.{NoTourTold}
+use Rattle.venue_types.specs.declared.reply.NodeName.{NodeName}
 use Rattle.venue_types.specs.declared.reply.Reply.TheVariants as reply
 use Rattle.venue_types.specs.declared.reply.StepRow.{StepRow}
 use Rattle.venue_types.specs.declared.reply.TourTold.{TourTold}
@@ -56,7 +57,7 @@ route_told seen v (ask.Route from' to' name' certificate) number cost from to st
 )
 route_told seen v _ number cost from to start name steps potentials stands is = absurd is
 
-none_told : (seen : List Entry) (v : Version) (asked : Ask) (number : ℕ) (from to : FeatureId) (name : List ℕ) (reached : Option (List FeatureId))
+none_told : (seen : List Entry) (v : Version) (asked : Ask) (number : ℕ) (from to : FeatureId) (name : List ℕ) (reached : Option (List NodeName))
     → Replays seen v → AnswersAsk v asked (reply.NoRoute number from to name reached) → TellsTheWay seen (Of (reply.NoRoute number from to name reached))
 none_told seen v (ask.Route from' to' name' certificate) number from to name reached stands is = (
   v,
@@ -91,7 +92,7 @@ no_route shelf v (change.Closure closure) number cost from to start name steps p
 no_route shelf v (change.Publish folder) number cost from to start name steps potentials is = is.1
 
 -- nor by that there is none
-no_none : (shelf : Option Shelf) (v : Version) (asked : Change) (number : ℕ) (from to : FeatureId) (name : List ℕ) (reached : Option (List FeatureId))
+no_none : (shelf : Option Shelf) (v : Version) (asked : Change) (number : ℕ) (from to : FeatureId) (name : List ℕ) (reached : Option (List NodeName))
     → Refuses shelf v asked (reply.NoRoute number from to name reached) → ⊥
 no_none shelf v (change.Closure closure) number from to name reached is = is.1
 no_none shelf v (change.Publish folder) number from to name reached is = is.1

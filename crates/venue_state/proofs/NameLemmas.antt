@@ -8,15 +8,15 @@ use Rattle.venue_types.specs.declared.feature_id.FeatureId.{FeatureId}
 use Rattle.venue_types.specs.declared.link.Node.{Node}
 use Rattle.route_search.specs.Nodes.{nodes, closables}
 use Rattle.venue_history.specs.Closed.{Version}
-use Rattle.venue_history.specs.Ways.{no_name, name_of, way_name}
+use Rattle.venue_history.specs.Ways.{no_name, node_name, name_of, way_name}
 
-pub named : (v : Version) (list : List Node) (n : ℕ) (node : Node) → list ≡ nodes v.features v.settings → slice_get list n ≡ Some node → node.id ≡ name_of v n
+pub named : (v : Version) (list : List Node) (n : ℕ) (node : Node) → list ≡ nodes v.features v.settings → slice_get list n ≡ Some node → node_name node ≡ name_of v n
 unfolding name_of
 named v list n node same at =
     let there : slice_get (nodes v.features v.settings) n ≡ Some node = subst (λ (ns : List Node). slice_get ns n ≡ Some node) same at in
     rw (there, name_of) refl
 
-pub nameless : (v : Version) (list : List Node) (n : ℕ) → list ≡ nodes v.features v.settings → length list ≤ n → no_name ≡ name_of v n
+pub nameless : (v : Version) (list : List Node) (n : ℕ) → list ≡ nodes v.features v.settings → length list ≤ n → record { id = no_name; corner = None } ≡ name_of v n
 unfolding name_of
 nameless v list n same past =
     let none : slice_get (nodes v.features v.settings) n ≡ None = subst (λ (ns : List Node). slice_get ns n ≡ None) same (slice_get_past list n past) in

@@ -3,6 +3,7 @@ use Rattle.std.proofs.Common.{◌≡◌, ◌∙◌, ◌↔◌, ℕ, List, [], �
 use Rattle.venue_types.specs.declared.feature_id.FeatureId.{FeatureId}
 use Rattle.venue_types.specs.declared.link.Link.{Link}
 use Rattle.venue_types.specs.declared.profile_set.ProfileSet.{ProfileSet}
+use Rattle.venue_types.specs.declared.reply.NodeName.{NodeName}
 use Rattle.venue_types.specs.declared.settings.Profile.{Profile}
 use Rattle.walk_laws.specs.Walks.{IsWalk, HasWalk}
 use Rattle.venue_types.specs.declared.features.Features.{Features}
@@ -94,7 +95,7 @@ asked_so false None P Q so p = p
 asked_so false (Some x) P Q so p = absurd p
 
 -- what is told where there is none
-pub cut_told : (v : Version) (from to : FeatureId) (name : List ℕ) (certificate : Bool) (a : ℕ) (nodes : List ℕ) (names : Option (List FeatureId))
+pub cut_told : (v : Version) (from to : FeatureId) (name : List ℕ) (certificate : Bool) (a : ℕ) (nodes : List ℕ) (names : Option (List NodeName))
     → IfAsked certificate (λ told. told ≡ map (name_of v) nodes) names
     → (number : ℕ) (profile : Profile) (b : ℕ) → IsTrip v from to name number profile a b → search.IsNoRoute (Usable v number profile) a b nodes
     → IsNoRoute v from to name certificate names

@@ -13,7 +13,7 @@ use venue_types::{
 const NO_NAME: FeatureId = FeatureId(0);
 
 // How a reply names a node: a corner with its number.
-fn name_of(node: Node) -> NodeName
+fn node_name(node: Node) -> NodeName
     ensures { result ≡ node_name node }
 {
     let corner = match node.class {
@@ -33,7 +33,7 @@ impl Board {
     {
         let graph = self.graph();
         if n < graph.nodes() {
-            name_of(graph.node(n))
+            node_name(graph.node(n))
         } else {
             NodeName {
                 id: NO_NAME,
