@@ -5,9 +5,9 @@ compares each answer with plain rounds over the table of all links that `links` 
 usage: random_ways.py [PROGRAM [VENUES [FIRST]]]   (without PROGRAM what is built in crates/venue_cli/out, else the launcher ./venue, which builds it)
 Venues are judged side by side, as many as there are processors.
 The venues have one to three levels of square rooms with doors in their walls, halls that lie over several rooms and share their doors,
-restricted rooms, rooms with a pillar, doors that a wheelchair can't pass, amenities in two units, and passages between units and doors of neighbouring
-levels: directed or not, with an intermediary, twice between one pair, and without anything beside their way. In half of the venues ways go round the
-pillars. It prints one line, and ends with status 1 at a difference.
+restricted rooms, rooms with a wall in them, doors that a wheelchair can't pass, amenities in two units, and passages between units and doors of neighbouring
+levels: directed or not, with an intermediary, twice between one pair, and without anything beside their way. In most venues ways go round the walls. It
+prints one line, and ends with status 1 at a difference.
 """
 import concurrent.futures
 import json
@@ -40,10 +40,9 @@ def box(x1, y1, x2, y2):
     return {"type": "Polygon", "coordinates": [[position(p) for p in [(x1, y1), (x2, y1), (x2, y2), (x1, y2), (x1, y1)]]]}
 
 
-def with_pillar(shape, x, y):
-    """The polygon less a pillar of 60 centimetres in the room from here on, between whole metres."""
-    low, high = 5.2, 5.8
-    ring = [position((x + a, y + b)) for a, b in [(low, low), (low, high), (high, high), (high, low), (low, low)]]
+def with_wall(shape, x, y):
+    """The polygon less a wall across the room from here on, with gaps at both ends. It has no whole metre from west to east."""
+    ring = [position((x + a, y + b)) for a, b in [(5.2, 1.2), (5.2, 8.8), (5.8, 8.8), (5.8, 1.2), (5.2, 1.2)]]
     return shape | {"coordinates": shape["coordinates"] + [ring]}
 
 
@@ -91,8 +90,8 @@ def venue_of(draw):
                 if draw.random() < 0.1:
                     properties["restriction"] = draw.choice(["employeesonly", "restricted"])
                 shape = box(i * ROOM, j * ROOM, (i + 1) * ROOM, (j + 1) * ROOM)
-                if draw.random() < 0.4:
-                    shape = with_pillar(shape, i * ROOM, j * ROOM)
+                if draw.random() < 0.7:
+                    shape = with_wall(shape, i * ROOM, j * ROOM)
                 here.append(venue.add("unit", shape, properties))
         if draw.random() < 0.5:
             i, j = draw.randint(0, wide - 1), draw.randint(0, deep - 1)
@@ -147,7 +146,7 @@ def venue_of(draw):
 def settings(draw):
     extras = draw.choice([(3000, 800, 2000, 1500), (0, 0, 0, 0), (1, 1, 1, 1)])
     names = ["elevator_extra", "escalator_extra", "ramp_extra", "stairs_extra"]
-    text = draw.choice(["", 'inside = "clear"\n']) + "kx = 10000000\nky = 10000000\n" + "".join(f"{name} = {extra}\n" for name, extra in zip(names, extras))
+    text = draw.choice(["", 'inside = "clear"\n', 'inside = "clear"\n']) + "kx = 10000000\nky = 10000000\n" + "".join(f"{name} = {extra}\n" for name, extra in zip(names, extras))
     return text + f'staff_keys = ["{KEY}"]\n[[profile]]\nname = "{PROFILES[2]}"\nelevator = true\nramp = true\nrevolving = true\n'
 
 
