@@ -1,11 +1,12 @@
 #!/usr/bin/env python3
 """Asks `venue session` for routes over the example station and over rooms with walls with their certificates, before and after closures for all and for
 some, and has examples/route_reply.py judge each reply, over the table of links and over the same in parts: it is `proved`, and with one number or
-identifier exchanged it isn't, nor with the number of a corner. Then 200 closures for profiles that are drawn, each with a route after it: that is `proved` for the profile asked for,
-and where the profiles of the closure's row are changed so that it matters, it `fails`; where there is node, examples/web/check.js judges the same.
+identifier, or the number of a corner, exchanged it isn't. Then 200 closures in the station for profiles that are drawn, each with a route after it: that is
+`proved` for the profile asked for, and where the profiles of the closure's row are changed so that it matters, it `fails`; where there is node,
+examples/web/check.js judges the same.
 It asks for tours too, with the same closed, and compares each with the least costs that it finds itself over the table, in all orders of the stops.
-And it asks for the nearest of a category, in the station, and with amenities put into it and among columns, and has examples/nearest_reply.py judge each reply as it is and
-with one number, identifier, row or member exchanged, taken away or added.
+And it asks for the nearest of a category, in the station and with amenities put into it and among columns, and has examples/nearest_reply.py judge each
+reply as it is and with one number, identifier, row or member exchanged, taken away or added.
 
 usage: route_replies.py [PROGRAM]   (without PROGRAM the launcher ./venue, which builds the program if need be)
 It prints one line, and ends with status 1 at a difference.
@@ -37,7 +38,8 @@ PLACES = [0x31, 0x41, 0x42, 0x51, 0x52, 0x101, 0x107, 0x203, 0x204, 0x300, 0x301
 CLOSED = [{}, {0x301: None}, {0x301: None, 0x24: None}, {0x305: None}, {0x400: None, 0x102: None}, {0x301: ["wheelchair"], 0x22: ["walk"]}, {0x301: ["walk"], 0x24: None}]
 STATION = Venue(EXAMPLES, "station", PLACES, CLOSED)
 WALLS = os.path.join(EXAMPLES, "walls")
-CONCOURSE = Venue(WALLS, "concourse", [0x43, 0x51, 0x52, 0x53, 0x54, 0x55, 0x56, 0x101, 0x106, 0x300, 0x304], [{}, {0x105: None, 0x101: None}, {0x300: None}, {0x105: ["walk"], 0x302: None}])
+CONCOURSE = Venue(WALLS, "concourse", [0x43, 0x51, 0x52, 0x53, 0x54, 0x55, 0x56, 0x101, 0x106, 0x300, 0x304],
+                  [{}, {0x105: None, 0x101: None}, {0x300: None}, {0x105: ["walk"], 0x302: None}])
 FOLDERS = [STATION, CONCOURSE, Venue(WALLS, "ell", [0x41, 0x42, 0x300], [{}, {0x300: None}]),
            Venue(WALLS, "ell_room", [0x41, 0x42, 0x43, 0x101, 0x300, 0x301], [{}, {0x101: None}, {0x301: ["wheelchair"]}, {0x300: ["walk"]}])]
 PAIRS = 4
@@ -139,8 +141,8 @@ def spoiled(chance, reply):
 
 
 def spoiled_corners(reply, links):
-    """The reply with something else in the place of a corner's number, or of a node that is reached, and with a corner listed twice or that the table hasn't. Another
-    corner of the unit stands there only where the steps are then no way, or where it is listed already."""
+    """The reply with something else in the place of a corner's number, or of a node that is reached, and with a corner listed twice or that the table hasn't.
+    Another corner of the unit stands there only where the steps are then no way, or where it is listed already."""
     start, end = links.node(reply["from"]), links.node(reply["to"])
     for key, name in (("steps", "to"), ("potentials", "node"), ("reached", "node")):
         rows = reply.get(key, [])
@@ -335,8 +337,8 @@ def anchors_of(occupants):
 
 
 class Links:
-    """The links of a printed table, less what is closed for the profile, and the least costs over them, which are found once. A node is its identifier and its corner, which
-    is 0 of the first line with the identifier."""
+    """The links of a printed table, less what is closed for the profile, and the least costs over them, which are found once. A node is its identifier and
+    the number of its corner, 0 where it is none. `corners` has how many there are by their unit."""
 
     def __init__(self, table, profile, closures, occupants):
         shut = {it if isinstance(it, str) else it["feature"] for it in closures["closures"] if isinstance(it, str) or profile in it["profiles"]}
