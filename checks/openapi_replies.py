@@ -2,8 +2,8 @@
 """Checks docs/openapi.json: that it is whole, that its examples stand in examples/sessions, and that the program keeps to it. Each
 operation is sent through `venue session` with each parameter and each member of its body right and wrong, without a key, and with heads that
 are refused, and every reply is judged by the schemas. A member that a schema doesn't name is a mistake, a status that the operation doesn't
-list is one, and so is what is listed and no reply was. Only want of memory isn't asked for. What changes something is sent once more with a journal
-whose file may not grow.
+list is one, and so is what is listed and no reply was, or had. Only want of memory isn't asked for. What changes something is sent once more with a journal
+whose file may not grow. Ways round walls are asked for over examples/walls.
 
 usage: openapi_replies.py [PROGRAM]   (without PROGRAM the launcher ./venue, which builds the program if need be)
 It prints each mistake and a line at the end, and ends with status 1 at a mistake.
@@ -116,7 +116,8 @@ def faults_of(document, schema, value, where="body", others_pass=False):
     if "$ref" in schema:
         faults = faults_of(document, resolve(document, schema), value, where, others_pass)
         if not faults:
-            used.add(schema["$ref"].split("/")[-1])
+            name = schema["$ref"].split("/")[-1]
+            used.update([name], (f"{name}.{member}" for member in value) if isinstance(value, dict) else ())
         return faults
     if "oneOf" in schema:
         fitting = [it for it in schema["oneOf"] if not faults_of(document, it, value, where, others_pass)]
@@ -213,9 +214,11 @@ def bodies(document, operation):
     yield from ((text, False) for text in ("", "{", compact(example) + "x", "\ufeff" + compact(example)))
 
 
-def run_session(program, base, sent):
-    """What a session writes: without a journal, or with the base's own, whose file may not grow. The signal of that limit is passed over, as Python does."""
-    words, path = [program, "session", base, "station"], os.path.join(base, JOURNAL + ".journal")
+def run_session(program, venue, sent):
+    """What a session over a folder writes: without a journal, or with its base's own, whose file may not grow. The signal of that limit is passed over, as Python
+    does."""
+    base, folder = os.path.split(venue)
+    words, path = [program, "session", base, folder], os.path.join(base, JOURNAL + ".journal")
     if not os.path.exists(path):
         return subprocess.run(words, input=sent, capture_output=True, timeout=50).stdout
 
@@ -224,9 +227,9 @@ def run_session(program, base, sent):
     return subprocess.run([*words, JOURNAL], input=sent, capture_output=True, timeout=50, preexec_fn=limit, restore_signals=False).stdout
 
 
-def replies(program, base, requests):
+def replies(program, venue, requests):
     """The replies to requests of one session, as (status, fields, body)."""
-    rest = run_session(program, base, b"".join(requests))
+    rest = run_session(program, venue, b"".join(requests))
     count = 0
     while rest:
         head, _, rest = rest.partition(b"\r\n\r\n")
@@ -238,11 +241,11 @@ def replies(program, base, requests):
     need(count == len(requests), f"{count} replies to {len(requests)} requests, the first of which is {requests[0][:80]!r}")
 
 
-def serve(document, program, base, responses, cases, closes=False):
+def serve(document, program, venue, responses, cases, closes=False):
     """Sends requests in one session, each with a test of the status, and judges the replies by what is listed; the pairs of status and error."""
     global judged
     seen = set()
-    for (sent, wanted), (status, fields, text) in zip(cases, list(replies(program, base, [it for it, _ in cases]))):
+    for (sent, wanted), (status, fields, text) in zip(cases, list(replies(program, venue, [it for it, _ in cases]))):
         where, body, listed = f"{sent[:110]!r}: {status} {text[:110]}", json.loads(text), resolve(document, responses.get(status, {}))
         seen.add((status, body.get("error")))
         judged += 1
@@ -266,42 +269,60 @@ def listed_in(document, responses):
             yield from ((status, name) for name in error.get("enum", [error.get("const")]))
 
 
-def check_operation(document, program, bases, path, method, operation, parameters):
+def check_operation(document, program, venues, path, method, operation, parameters):
     responses, key = operation["responses"], [KEY] if method == "post" else []
     forms = [(request("post", path, key, body), right) for body, right in bodies(document, operation)] if key else [
         (request("get", target), right) for target, right in targets(document, path, parameters)]
     cases = [(sent, lambda status, right=right: (status != "400") == right) for sent, right in forms]
-    seen = serve(document, program, bases[0], responses, cases)
+    seen = serve(document, program, venues[0], responses, cases)
     if key:
-        for base in bases[1:]:
-            seen |= serve(document, program, base, responses, cases)
+        for venue in venues[1:]:
+            seen |= serve(document, program, venue, responses, cases)
         cases = [(request("post", path, fields), lambda status: status == "403") for fields in ([], [KEY + "x"], [KEY, KEY])]
-        seen |= serve(document, program, bases[0], responses, cases)
+        seen |= serve(document, program, venues[0], responses, cases)
     for fields, wanted in ((["host: b"], "400"), (["content-length: 65537"], "413"), (["transfer-encoding: chunked"], "501"), (["x: a"] * 64, "431")):
-        seen |= serve(document, program, bases[0], responses, [(request(method, path, key + fields), lambda status: status == wanted)], closes=True)
+        seen |= serve(document, program, venues[0], responses, [(request(method, path, key + fields), lambda status: status == wanted)], closes=True)
     unseen = set(listed_in(document, responses)) - seen - {("503", "want_of_memory")}
     need(not unseen, f"{operation['operationId']}: listed, and no reply was {sorted(unseen, key=str)}")
 
 
-def check_closed(document, program, base):
+def serve_paths(document, program, venue, schemas, requests):
+    """Sends requests of several paths in one session. Each reply is of one of these schemas."""
+    listed = {"oneOf": [{"$ref": f"#/components/schemas/{name}"} for name in schemas]}
+    serve(document, program, venue, {"200": {"content": {"application/json": {"schema": listed}}}}, [(it, lambda status: status == "200") for it in requests])
+
+
+def closing(**body):
+    return request("post", "/v1/closures", [KEY], compact({"closed": True} | body))
+
+
+def check_closed(document, program, venue):
     """What is closed, for some and then for all: as it is answered, as a list, and as a place."""
     lift, ramp = ("00000000-0000-4000-8000-000000000" + digits for digits in ("301", "024"))
-    bodies = [{"feature": lift, "closed": True, "profiles": ["wheelchair"]}, {"feature": ramp, "closed": True}]
     asked = [request("get", "/v1/closures"), request("get", f"/v1/place/{lift}")]
-    sent = [it for body in bodies for it in [request("post", "/v1/closures", [KEY], compact(body)), *asked]]
-    schemas = [{"$ref": f"#/components/schemas/{name}"} for name in ("ClosureDone", "Closures", "Place")]
-    serve(document, program, base, {"200": {"content": {"application/json": {"schema": {"oneOf": schemas}}}}}, [(it, lambda status: status == "200") for it in sent])
+    sent = [it for change in (closing(feature=lift, profiles=["wheelchair"]), closing(feature=ramp)) for it in [change, *asked]]
+    serve_paths(document, program, venue, ("ClosureDone", "Closures", "Place"), sent)
 
 
-def check_others(document, program, base):
+def check_corners(document, program):
+    """Ways round walls: steps and potentials with corners, and corners that are reached, where a door is closed and where nothing is of a category."""
+    start, end, stop, door = ("00000000-0000-4000-8000-000000000" + digits for digits in ("053", "055", "051", "105"))
+    route = request("get", f"/v1/route?from={start}&to={end}&profile=walk&certificate=yes")
+    tour = request("get", f"/v1/tour?from={start}&to={end}&stops={stop}&profile=walk")
+    nearest = request("get", f"/v1/nearest?from={start}&category=restroom&profile=walk&certificate=yes")
+    venue = os.path.join(EXAMPLES, "walls", "concourse")
+    serve_paths(document, program, venue, ("ClosureDone", "Route", "NoRoute", "Tour", "Nearest"), [route, tour, nearest, closing(feature=door), route])
+
+
+def check_others(document, program, venue):
     """Other methods and other paths."""
     for path, item in document["paths"].items():
         has = [method.upper() for method in ("get", "post") if method in item]
         allowed = {**resolve(document, item["x-other-methods"]), "headers": {"allow": {"schema": {"const": ", ".join(has)}}}}
         sent = [request("get", re.sub(r"{\w+}", "x", path)).replace(b"GET", method.encode(), 1) for method in ("GET", "POST", "PUT", "OPTIONS", "get") if method not in has]
-        serve(document, program, base, {"405": allowed}, [(it, lambda status: status == "405") for it in sent])
+        serve(document, program, venue, {"405": allowed}, [(it, lambda status: status == "405") for it in sent])
     paths = ("/", "/v2", "/v1/version/", "/V1/version", "/v1/place/", "/v1/place/a/b", "*", "http://a/v1/version")
-    serve(document, program, base, {"404": document["x-other-paths"]}, [(request("get", path), lambda status: status == "404") for path in paths])
+    serve(document, program, venue, {"404": document["x-other-paths"]}, [(request("get", path), lambda status: status == "404") for path in paths])
 
 
 def make_base(folder, name, more):
@@ -335,12 +356,15 @@ def main():
         used.clear()
         with tempfile.TemporaryDirectory() as folder:
             bases = [make_base(folder, "any", ""), make_base(folder, "last", "\nlast_version = 1\n"), make_full(program, folder)]
+            venues = [os.path.join(base, "station") for base in bases]
             for path, method, operation, parameters in operations(document):
-                check_operation(document, program, bases, path, method, operation, parameters)
-            check_closed(document, program, bases[0])
-            check_others(document, program, bases[0])
-        unused = set(document["components"]["schemas"]) - used - NO_REPLY
-        need(not unused, f"no reply was of the schemas {sorted(unused)}")
+                check_operation(document, program, venues, path, method, operation, parameters)
+            check_closed(document, program, venues[0])
+            check_corners(document, program)
+            check_others(document, program, venues[0])
+        schemas = {name: it for name, it in document["components"]["schemas"].items() if name not in NO_REPLY}
+        listed = {*schemas, *(f"{name}.{member}" for name, it in schemas.items() for member in it.get("properties", {}))}
+        need(listed <= used, f"no reply was, or had, {sorted(listed - used)}")
     for mistake in mistakes:
         print(mistake, file=sys.stderr)
     print(f"openapi_replies: {judged} replies, {len(mistakes)} mistakes")

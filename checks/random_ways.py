@@ -5,9 +5,9 @@ compares each answer with plain rounds over the table of all links that `links` 
 usage: random_ways.py [PROGRAM [VENUES [FIRST]]]   (without PROGRAM what is built in crates/venue_cli/out, else the launcher ./venue, which builds it)
 Venues are judged side by side, as many as there are processors.
 The venues have one to three levels of square rooms with doors in their walls, halls that lie over several rooms and share their doors,
-restricted rooms, doors that a wheelchair can't pass, amenities in two units, and passages between units and doors of neighbouring levels:
-directed or not, with an intermediary, twice between one pair, and without anything beside their way. It prints one line, and ends with
-status 1 at a difference.
+restricted rooms, rooms with a wall in them, doors that a wheelchair can't pass, amenities in two units, and passages between units and doors of neighbouring
+levels: directed or not, with an intermediary, twice between one pair, and without anything beside their way. In most venues ways go round the walls. It
+prints one line, and ends with status 1 at a difference.
 """
 import concurrent.futures
 import json
@@ -38,6 +38,12 @@ def line(a, b):
 
 def box(x1, y1, x2, y2):
     return {"type": "Polygon", "coordinates": [[position(p) for p in [(x1, y1), (x2, y1), (x2, y2), (x1, y2), (x1, y1)]]]}
+
+
+def with_wall(shape, x, y):
+    """The polygon less a wall across the room from here on, with gaps at both ends. It has no whole metre from west to east."""
+    ring = [position((x + a, y + b)) for a, b in [(5.2, 1.2), (5.2, 8.8), (5.8, 8.8), (5.8, 1.2), (5.2, 1.2)]]
+    return shape | {"coordinates": shape["coordinates"] + [ring]}
 
 
 class Venue:
@@ -83,7 +89,10 @@ def venue_of(draw):
                 properties = {"level_id": level, "category": word}
                 if draw.random() < 0.1:
                     properties["restriction"] = draw.choice(["employeesonly", "restricted"])
-                here.append(venue.add("unit", box(i * ROOM, j * ROOM, (i + 1) * ROOM, (j + 1) * ROOM), properties))
+                shape = box(i * ROOM, j * ROOM, (i + 1) * ROOM, (j + 1) * ROOM)
+                if draw.random() < 0.7:
+                    shape = with_wall(shape, i * ROOM, j * ROOM)
+                here.append(venue.add("unit", shape, properties))
         if draw.random() < 0.5:
             i, j = draw.randint(0, wide - 1), draw.randint(0, deep - 1)
             shape = box(i * ROOM, j * ROOM, draw.randint(i + 1, wide) * ROOM, draw.randint(j + 1, deep) * ROOM)
@@ -137,19 +146,31 @@ def venue_of(draw):
 def settings(draw):
     extras = draw.choice([(3000, 800, 2000, 1500), (0, 0, 0, 0), (1, 1, 1, 1)])
     names = ["elevator_extra", "escalator_extra", "ramp_extra", "stairs_extra"]
-    text = "kx = 10000000\nky = 10000000\n" + "".join(f"{name} = {extra}\n" for name, extra in zip(names, extras))
+    text = draw.choice(["", 'inside = "clear"\n', 'inside = "clear"\n']) + "kx = 10000000\nky = 10000000\n" + "".join(f"{name} = {extra}\n" for name, extra in zip(names, extras))
     return text + f'staff_keys = ["{KEY}"]\n[[profile]]\nname = "{PROFILES[2]}"\nelevator = true\nramp = true\nrevolving = true\n'
 
 
 def table_of(text):
-    nodes, links = [], []
+    """The names of a table's nodes, as a reply has them in its rows, and its links. The k-th further line of an identifier is a corner, number k."""
+    nodes, links, lines = [], [], {}
     for row in text.splitlines():
         words = row.split(" ")
         if words[0] == "node":
-            nodes.append(words[1])
+            corner = lines[words[1]] = lines.get(words[1], -1) + 1
+            nodes.append({"node": words[1]} | ({"corner": corner} if corner else {}))
         elif words[0] == "link":
             links.append((int(words[1]), int(words[2]), int(words[3]), words[4]))
     return nodes, links
+
+
+def places_of(nodes):
+    """The numbers of the nodes that are no corners."""
+    return [n for n, name in enumerate(nodes) if "corner" not in name]
+
+
+def number_of(nodes, row, key):
+    """The number of the node that a row of a reply names."""
+    return nodes.index({"node": row[key]} | ({"corner": row["corner"]} if "corner" in row else {}))
 
 
 def rounds(count, links, start):
@@ -188,7 +209,7 @@ class Check:
     def judge_route(self, profile, nodes, links, a, b):
         """`route` from node to node: its cost, its steps and its certificate; and what `verify` says of it."""
         self.asked += 1
-        status, text = self.run("route", self.base, "venue", profile, nodes[a], nodes[b])
+        status, text = self.run("route", self.base, "venue", profile, nodes[a]["node"], nodes[b]["node"])
         rows = [row.split(" ") for row in text.decode().splitlines()]
         costs = rounds(len(nodes), links, a)
         if rows[1:3] != [["from", str(a)], ["to", str(b)]]:
@@ -229,7 +250,7 @@ class Check:
             else:
                 profile = draw.choice(sorted(tables))
                 nodes = tables[profile][0]
-                a, b = draw.choice(nodes), draw.choice(nodes)
+                a, b = (nodes[draw.choice(places_of(nodes))]["node"] for _ in range(2))
                 requests.append(
                     f"GET /v1/route?from={a}&to={b}&profile={profile}&certificate=yes HTTP/1.1\r\nhost: a\r\n\r\n"
                 )
@@ -270,11 +291,11 @@ class Check:
     def judge_reply(self, table, shut, what, reply):
         self.asked += 1
         nodes, links = table
-        usable = [link for link in links if link[3] not in shut and nodes[link[0]] not in shut and nodes[link[1]] not in shut]
-        a, b = nodes.index(what[2]), nodes.index(what[3])
+        usable = [link for link in links if not shut & {link[3], nodes[link[0]]["node"], nodes[link[1]]["node"]}]
+        a, b = (nodes.index({"node": it}) for it in what[2:])
         costs = rounds(len(nodes), usable, a)
         if costs[b] == FREE:
-            reached = [nodes[n] for n, cost in enumerate(costs) if cost < FREE]
+            reached = [name if "corner" in name else name["node"] for name, cost in zip(nodes, costs) if cost < FREE]
             if reply.get("result") != "none" or reply.get("reached") != reached:
                 self.wrong("reply none", what, shut, reply)
             return
@@ -282,11 +303,11 @@ class Check:
             return self.wrong("reply route", what, shut, costs[b], reply)
         at = a
         for step in reply["steps"]:
-            link = (at, nodes.index(step["to"]), step["cost"], step["via"])
+            link = (at, number_of(nodes, step, "to"), step["cost"], step["via"])
             if link not in usable:
                 return self.wrong("reply step", what, shut, link)
             at = link[1]
-        potentials = {nodes.index(p["node"]): p["value"] for p in reply["potentials"]}
+        potentials = {number_of(nodes, p, "node"): p["value"] for p in reply["potentials"]}
         steep = [l for l in usable if potentials.get(l[1], costs[b]) > potentials.get(l[0], costs[b]) + l[2]]
         if at != b or potentials.get(a, costs[b]) != 0 or potentials.get(b, costs[b]) != costs[b] or steep:
             self.wrong("reply certificate", what, shut, reply)
@@ -308,7 +329,7 @@ class Check:
                 file.write(text)
             nodes, links = tables[profile] = table_of(text.decode())
             for _ in range(4 if nodes and profile != PROFILES[2] else 0):
-                self.judge_route(profile, nodes, links, draw.randrange(len(nodes)), draw.randrange(len(nodes)))
+                self.judge_route(profile, nodes, links, *draw.choices(places_of(nodes), k=2))
         closables = [row["id"] for kind in ("opening", "relationship", "unit") for row in venue.rows.get(kind, [])]
         if tables["walk"][0]:
             self.judge_session(draw, tables, closables)

@@ -1,15 +1,17 @@
 #!/usr/bin/env python3
-"""Asks `venue session` for routes over the example station with their certificates, before and after closures for all and for some, and has
-examples/route_reply.py judge each reply, over the table of links and over the same in parts: it is `proved`, and with one number or
-identifier exchanged it isn't. Then 200 closures for profiles that are drawn, each with a route after it: that is `proved` for the profile asked for,
-and where the profiles of the closure's row are changed so that it matters, it `fails`; where there is node, examples/web/check.js judges the same.
+"""Asks `venue session` for routes over the example station and over rooms with walls with their certificates, before and after closures for all and for
+some, and has examples/route_reply.py judge each reply, over the table of links and over the same in parts: it is `proved`, and with one number or
+identifier, or the number of a corner, exchanged it isn't. Then 200 closures in the station for profiles that are drawn, each with a route after it: that is
+`proved` for the profile asked for, and where the profiles of the closure's row are changed so that it matters, it `fails`; where there is node,
+examples/web/check.js judges the same.
 It asks for tours too, with the same closed, and compares each with the least costs that it finds itself over the table, in all orders of the stops.
-And it asks for the nearest of a category, in the station and with amenities put into it, and has examples/nearest_reply.py judge each reply as it is and
-with one number, identifier, row or member exchanged, taken away or added.
+And it asks for the nearest of a category, in the station and with amenities put into it and among columns, and has examples/nearest_reply.py judge each
+reply as it is and with one number, identifier, row or member exchanged, taken away or added.
 
 usage: route_replies.py [PROGRAM]   (without PROGRAM the launcher ./venue, which builds the program if need be)
 It prints one line, and ends with status 1 at a difference.
 """
+import collections
 import contextlib
 import glob
 import heapq
@@ -29,11 +31,17 @@ EXAMPLES = os.path.join(HERE, "..", "examples")
 sys.path.append(EXAMPLES)  # one checker takes what it shares from the other
 CHECKER = os.path.join(EXAMPLES, "route_reply.py")
 NEAREST_CHECKER = os.path.join(EXAMPLES, "nearest_reply.py")
-OCCUPANTS = os.path.join(EXAMPLES, "station", "occupant.geojson")
 NODE = "00000000-0000-4000-8000-{:012x}"
-# Places of the station, and what is closed in each session and for whom, by the last digits of their identifiers.
+# A folder of examples, its places, and what is closed in each session and for whom, by the last digits of their identifiers.
+Venue = collections.namedtuple("Venue", "base folder places closed")
 PLACES = [0x31, 0x41, 0x42, 0x51, 0x52, 0x101, 0x107, 0x203, 0x204, 0x300, 0x301, 0x305, 0x404]
 CLOSED = [{}, {0x301: None}, {0x301: None, 0x24: None}, {0x305: None}, {0x400: None, 0x102: None}, {0x301: ["wheelchair"], 0x22: ["walk"]}, {0x301: ["walk"], 0x24: None}]
+STATION = Venue(EXAMPLES, "station", PLACES, CLOSED)
+WALLS = os.path.join(EXAMPLES, "walls")
+CONCOURSE = Venue(WALLS, "concourse", [0x43, 0x51, 0x52, 0x53, 0x54, 0x55, 0x56, 0x101, 0x106, 0x300, 0x304],
+                  [{}, {0x105: None, 0x101: None}, {0x300: None}, {0x105: ["walk"], 0x302: None}])
+FOLDERS = [STATION, CONCOURSE, Venue(WALLS, "ell", [0x41, 0x42, 0x300], [{}, {0x300: None}]),
+           Venue(WALLS, "ell_room", [0x41, 0x42, 0x43, 0x101, 0x300, 0x301], [{}, {0x101: None}, {0x301: ["wheelchair"]}, {0x300: ["walk"]}])]
 PAIRS = 4
 # How many tours are drawn where so much is closed, of how many stops at most, and tours of which the costs are known.
 TOURS = 6
@@ -41,13 +49,17 @@ MOST_STOPS = 5
 EIGHT = [0x109, 0x31, 0x102, 0x104, 0x106, 0x110, 0x111, 0x108]
 KNOWN = [("wheelchair", [0x109, 0x31], 18986), ("walk", [0x109, 0x31], 17474), ("wheelchair", [0x31, 0x106], 13233), ("wheelchair", EIGHT[:3], 20237),
          ("wheelchair", EIGHT, 25245), ("walk", EIGHT, 22662), ("wheelchair", [0x31], 9536), ("wheelchair", [0x31, 0x31], 9536), ("wheelchair", [0x51], 9040)]
-# What is put behind the station's restroom in each venue that is asked for the nearest: identifier, category, metres east and north, and units. Three stand
-# in one place; two on a border, of which the first is reached by the second; one has a category that only begins as that of others; one stands in a column.
-VENUES = [[], [(0x32, "atm", 30, 30, [0x300]), (0x33, "atm", 30, 30, [0x300]), (0x34, "atm", 30, 30, [0x300])],
-          [(0x32, "atm", 45, 10, [0x306]), (0x33, "atm", 45, 10, [0x300, 0x306])],
-          [(0x32, "restroom", 12, 12, [0x300]), (0x33, "restroom.wheelchair", 88, 38, [0x300]), (0x34, "restroom", 50, 20, [0x400])],
-          [(0x32, "atm", 61, 21, [0x307])]]
+# What is put behind the amenities of a folder that is asked for the nearest: identifier, category, metres east and north, and units. In the station three
+# stand in one place; two on a border, of which the first is reached by the second; one has a category that only begins as that of others; one stands in a
+# column. In the concourse two stand between columns, at one place, and one in a shop.
+VENUES = [(STATION, []), (STATION, [(0x32, "atm", 30, 30, [0x300]), (0x33, "atm", 30, 30, [0x300]), (0x34, "atm", 30, 30, [0x300])]),
+          (STATION, [(0x32, "atm", 45, 10, [0x306]), (0x33, "atm", 45, 10, [0x300, 0x306])]),
+          (STATION, [(0x32, "restroom", 12, 12, [0x300]), (0x33, "restroom.wheelchair", 88, 38, [0x300]), (0x34, "restroom", 50, 20, [0x400])]),
+          (STATION, [(0x32, "atm", 61, 21, [0x307])]),
+          (CONCOURSE, [(0x31, "restroom", 45, 24, [0x300]), (0x32, "atm", 25, 24, [0x300]), (0x33, "atm", 25, 24, [0x300]), (0x34, "restroom", 75, 35, [0x306])])]
 CATEGORIES = ["restroom", "restroom", "atm", "restroom.wheelchair", "Restroom"]
+# In how many ways each reply about a route is spoiled by its corners at most.
+CORNERS = 8
 # How many questions for the nearest are drawn where so much is closed, in how many ways each reply is spoiled, and what is known: the venue, what is closed,
 # the start, the category, the profile, the limit, the nearest with their costs, and how many nodes are reached where there are fewer than the limit.
 NEAREST = 2
@@ -89,9 +101,9 @@ console.log(JSON.stringify(rows.judged.map(([reply, closures]) => {
 """
 
 
-def bodies(program, base, requests):
+def bodies(program, base, requests, folder="station"):
     """The bodies of the replies to requests of one session."""
-    ran = subprocess.run(program + ["session", base, "station"], input="".join(requests).encode(), capture_output=True, timeout=50)
+    ran = subprocess.run(program + ["session", base, folder], input="".join(requests).encode(), capture_output=True, timeout=50)
     found = ran.stdout.decode().split("HTTP/1.1 200 OK\r\n")[1:]
     assert len(found) == len(requests), ran.stdout
     return [text.split("\r\n\r\n")[1] for text in found]
@@ -116,7 +128,7 @@ def spoiled(chance, reply):
     if reply["result"] == "none":
         reply["reached"].remove(chance.choice(reply["reached"]))
         return reply
-    kind = chance.randrange(4) if reply["steps"] else 0
+    kind = chance.randrange(4 if reply["potentials"] else 3) if reply["steps"] else 0
     if kind == 0:
         reply["cost"] += 1
     elif kind == 1:
@@ -124,19 +136,43 @@ def spoiled(chance, reply):
     elif kind == 2:
         reply["steps"].pop()
     else:
-        next(mark for mark in reply["potentials"] if mark["node"] == reply["start"])["value"] += 1
+        next(mark for mark in reply["potentials"] if mark["node"] == reply["start"] and "corner" not in mark)["value"] += 1
     return reply
 
 
-def parts_of(program, base, site):
+def spoiled_corners(reply, links):
+    """The reply with something else in the place of a corner's number, or of a node that is reached, and with a corner listed twice or that the table hasn't.
+    Another corner of the unit stands there only where the steps are then no way, or where it is listed already."""
+    start, end = links.node(reply["from"]), links.node(reply["to"])
+    for key, name in (("steps", "to"), ("potentials", "node"), ("reached", "node")):
+        rows = reply.get(key, [])
+        listed = {(row[name], row.get("corner")) for row in rows if isinstance(row, dict)}
+        for place, row in enumerate(rows):
+            if isinstance(row, str):
+                yield from (exchanged(reply, (key, place), {"node": row} | more) for more in ({}, {"corner": 0}, {"corner": None}))
+            if isinstance(row, str) or "corner" not in row:
+                continue
+            number, last = row["corner"], links.corners[row[name]]
+            yield from (exchanged(reply, (key, place, "corner"), other) for other in (0, None, True, str(number), float(number), last + 1))
+            for other in set(range(1, last + 1)) - {number}:
+                it = exchanged(reply, (key, place, "corner"), other)
+                if not links.is_walk(start, end, it["steps"]) if key == "steps" else (row[name], other) in listed:
+                    yield it
+            if key != "steps":
+                yield from (exchanged(reply, (key,), [*rows, other]) for other in (row, row | {"corner": last + 1}))
+            if key == "reached":
+                yield exchanged(reply, (key, place), row["node"])
+
+
+def parts_of(program, base, site, folder="station"):
     """The folder of the table in parts, as site.py writes it."""
-    words = [sys.executable, os.path.join(EXAMPLES, "web", "site.py"), base, "station", site]
+    words = [sys.executable, os.path.join(EXAMPLES, "web", "site.py"), base, folder, site]
     subprocess.run(words, check=True, stdout=subprocess.DEVNULL, env=os.environ | {"VENUE": os.path.abspath(program[0])})
     return glob.glob(os.path.join(site, "data", "*", "links"))[0]
 
 
-def table_of(program, base, profile):
-    return subprocess.run(program + ["links", base, "station", profile], capture_output=True, text=True).stdout
+def table_of(program, base, profile, folder="station"):
+    return subprocess.run(program + ["links", base, folder, profile], capture_output=True, text=True).stdout
 
 
 def printed(words, checker=CHECKER):
@@ -149,34 +185,46 @@ def printed(words, checker=CHECKER):
     return said.getvalue()
 
 
+def occupants_of(base, folder):
+    """The words that name the folder's occupants to a checker, none where it has none."""
+    path = os.path.join(base, folder, "occupant.geojson")
+    return [path] if os.path.exists(path) else []
+
+
 class Judge:
-    def __init__(self, folder, parts):
-        self.files, self.parts = [os.path.join(folder, name) for name in ("reply.json", "links.txt", "closures.json")], parts
+    def __init__(self, folder, parts, occupants):
+        self.files, self.parts, self.occupants = [os.path.join(folder, name) for name in ("reply.json", "links.txt", "closures.json")], parts, occupants
 
     def says(self, reply, closures, table):
         """The two verdicts, or where they are the same, that one."""
         for path, text in zip(self.files, (json.dumps(reply), table, json.dumps(closures))):
             with open(path, "w", encoding="utf-8") as file:
                 file.write(text)
-        said = [printed([self.files[0], it, self.files[2], OCCUPANTS]) for it in (self.files[1], os.path.join(self.parts, reply["profile"]))]
-        return said[0] if len({it.startswith("proved") for it in said}) == 1 else " and ".join(said)
+        said = [printed([self.files[0], it, self.files[2], *self.occupants]) for it in (self.files[1], os.path.join(self.parts, reply["profile"]))]
+        return said[0] if len({it.startswith("proved") for it in said}) == 1 else "unlike " + " and ".join(said)
 
 
-def judge_some(program, folder, chance):
+def judge_some(program, folder, chance, venue):
     """A few replies in sessions with something closed, as they are and spoiled: how many, and the differences."""
-    judge, judged, wrong = Judge(folder, parts_of(program, EXAMPLES, os.path.join(folder, "site"))), 0, []
+    base, name, places, shut = venue
+    occupants = occupants_of(base, name)
+    judge, judged, wrong = Judge(folder, parts_of(program, base, os.path.join(folder, name), name), occupants), 0, []
     for profile in ("wheelchair", "walk"):
-        table = table_of(program, EXAMPLES, profile)
-        for closed in CLOSED:
-            pairs = [chance.sample(PLACES, 2) for _ in range(PAIRS)]
-            asked = [way(NODE.format(a), NODE.format(b), profile) for a, b in pairs]
-            closures, *replies = map(json.loads, bodies(program, EXAMPLES, [closing(NODE.format(it), names) for it, names in closed.items()] + [question("/v1/closures")] + asked)[len(closed):])
+        table = table_of(program, base, profile, name)
+        for closed in shut:
+            asked = [way(NODE.format(a), NODE.format(b), profile) for a, b in (chance.sample(places, 2) for _ in range(PAIRS))]
+            requests = [closing(NODE.format(it), names) for it, names in closed.items()] + [question("/v1/closures")] + asked
+            closures, *replies = map(json.loads, bodies(program, base, requests, name)[len(closed):])
+            links = Links(table, profile, closures, occupants)
             for reply in replies:
                 judged += 1
-                other = spoiled(chance, reply)
-                said, said_of_other = judge.says(reply, closures, table), judge.says(other, closures, table)
-                if said != "proved\n" or not said_of_other.startswith("fails "):
-                    wrong.append(f"{json.dumps(reply)}: {said}, and of {json.dumps(other)}: {said_of_other}")
+                said, others = judge.says(reply, closures, table), list(spoiled_corners(reply, links))
+                if said != "proved\n":
+                    wrong.append(f"{json.dumps(reply)}: {said}")
+                for other in [spoiled(chance, reply), *chance.sample(others, min(CORNERS, len(others)))]:
+                    said = judge.says(other, closures, table)
+                    if not said.startswith("fails "):
+                        wrong.append(f"of {json.dumps(other)}: {said}")
         for row in BAD_ROWS:
             said = judge.says(reply, closures | {"closures": closures["closures"] + [row]}, table)
             if said != "fails closures\n":
@@ -257,7 +305,7 @@ def judge_drawn(program, folder, chance):
     for row in BAD_ROWS:
         rows.append([after, closures | {"closures": [row]}])
         wanted.append("fails closures")
-    judge, wrong = Judge(folder, parts), []
+    judge, wrong = Judge(folder, parts, occupants_of(base, "station")), []
     said = [[judge.says(reply, closures, tables[reply["profile"]]).strip() for reply, closures in rows]]
     if shutil.which("node"):
         said.append(in_node(folder, parts, rows))
@@ -273,27 +321,37 @@ def in_node(folder, parts, rows):
     shutil.copy(os.path.join(EXAMPLES, "web", "check.js"), os.path.join(folder, "check.mjs"))
     with open(os.path.join(folder, "judge.mjs"), "w", encoding="utf-8") as file:
         file.write(JUDGE)
-    with open(OCCUPANTS, encoding="utf-8") as file:
-        anchors = [[it["id"], it["properties"]["anchor_id"]] for it in json.load(file)["features"]]
+    anchors = list(anchors_of(occupants_of(EXAMPLES, "station")).items())
     ran = subprocess.run(["node", os.path.join(folder, "judge.mjs"), parts], input=json.dumps({"anchors": anchors, "judged": rows}), capture_output=True, text=True, timeout=50)
     assert ran.returncode == 0, ran.stderr
     return json.loads(ran.stdout)
 
 
-class Links:
-    """The links of a printed table, less what is closed for the profile, and the least costs over them, which are found once."""
+def anchors_of(occupants):
+    """The anchor of each occupant of the files that these words name."""
+    features = []
+    for path in occupants:
+        with open(path, encoding="utf-8") as file:
+            features += json.load(file)["features"]
+    return {it["id"]: it["properties"]["anchor_id"] for it in features}
 
-    def __init__(self, table, profile, closures):
+
+class Links:
+    """The links of a printed table, less what is closed for the profile, and the least costs over them, which are found once. A node is its identifier and
+    the number of its corner, 0 where it is none. `corners` has how many there are by their unit."""
+
+    def __init__(self, table, profile, closures, occupants):
         shut = {it if isinstance(it, str) else it["feature"] for it in closures["closures"] if isinstance(it, str) or profile in it["profiles"]}
         words = [line.split(" ") for line in table.splitlines()]
-        nodes = [it[1] for it in words if it[0] == "node"]
+        nodes, self.corners = [], {}
+        for id in (it[1] for it in words if it[0] == "node"):
+            self.corners[id] = self.corners.get(id, -1) + 1
+            nodes.append((id, self.corners[id]))
         links = [(nodes[int(it[1])], nodes[int(it[2])], int(it[3]), it[4]) for it in words if it[0] == "link"]
-        self.links = {it for it in links if not shut & {it[0], it[1], it[3]}}
-        self.out, self.found = {}, {}
+        self.links = {it for it in links if not shut & {it[0][0], it[1][0], it[3]}}
+        self.out, self.found, self.anchors = {}, {}, anchors_of(occupants)
         for start, end, cost, _ in self.links:
             self.out.setdefault(start, []).append((end, cost))
-        with open(OCCUPANTS, encoding="utf-8") as file:
-            self.anchors = {it["id"]: it["properties"]["anchor_id"] for it in json.load(file)["features"]}
 
     def costs_from(self, start):
         """The least cost of a way from a node to each that it leads to (Dijkstra 1959)."""
@@ -309,7 +367,7 @@ class Links:
         return self.found[start]
 
     def node(self, place):
-        return self.anchors.get(place, place)
+        return self.anchors.get(place, place), 0
 
     def legs(self, places):
         """The least costs from place to place, or None where one of them leads nowhere."""
@@ -320,9 +378,10 @@ class Links:
     def is_walk(self, start, end, steps):
         """Whether the steps are open links that lead from node to node."""
         for step in steps:
-            if (start, step["to"], step["cost"], step["via"]) not in self.links:
+            end_of_step = step["to"], step.get("corner", 0)
+            if (start, end_of_step, step["cost"], step["via"]) not in self.links:
                 return False
-            start = step["to"]
+            start = end_of_step
         return start == end
 
 
@@ -363,17 +422,19 @@ def spoiled_tours(reply):
     return ([stepless] if steps is not None else []) + [dearer, shorter]
 
 
-def judge_tours(program, chance):
-    """Tours that are drawn, in sessions with something closed, and those of known costs: how many, and the differences."""
-    judged, walked, wrong = 0, 0, []
+def judge_tours(program, chance, venue):
+    """Tours that are drawn, in sessions with something closed, and in the station those of known costs: how many, and the differences."""
+    base, folder, places, shut = venue
+    occupants, judged, walked, wrong = occupants_of(base, folder), 0, 0, []
     for profile in ("wheelchair", "walk"):
-        table = table_of(program, EXAMPLES, profile)
-        for closed in CLOSED:
-            asked = [(*(NODE.format(it) for it in chance.choices(PLACES, k=2)), [NODE.format(it) for it in chance.choices(PLACES, k=chance.randint(1, MOST_STOPS))]) for _ in range(TOURS)]
-            asked += [] if closed else [(NODE.format(0x51), NODE.format(0x52), [NODE.format(it) for it in stops]) for name, stops, _ in KNOWN if name == profile]
+        table = table_of(program, base, profile, folder)
+        for closed in shut:
+            asked = [(*(NODE.format(it) for it in chance.choices(places, k=2)), [NODE.format(it) for it in chance.choices(places, k=chance.randint(1, MOST_STOPS))]) for _ in range(TOURS)]
+            known = [] if closed or venue != STATION else [(stops, cost) for name, stops, cost in KNOWN if name == profile]
+            asked += [(NODE.format(0x51), NODE.format(0x52), [NODE.format(it) for it in stops]) for stops, _ in known]
             requests = [closing(NODE.format(it), names) for it, names in closed.items()] + [question("/v1/closures")] + [tour(*it, profile) for it in asked]
-            closures, *replies = map(json.loads, bodies(program, EXAMPLES, requests)[len(closed):])
-            links = Links(table, profile, closures)
+            closures, *replies = map(json.loads, bodies(program, base, requests, folder)[len(closed):])
+            links = Links(table, profile, closures, occupants)
             for (start, end, stops), reply in zip(asked, replies):
                 judged, fault = judged + 1, fault_of_tour(links, start, end, stops, reply)
                 if fault:
@@ -381,12 +442,10 @@ def judge_tours(program, chance):
                 elif reply["result"] == "tour":
                     walked += 1
                     wrong += [f"no fault is found in {json.dumps(it)}" for it in spoiled_tours(reply) if not fault_of_tour(links, start, end, stops, it)]
-            if not closed:
-                known = [cost for name, _, cost in KNOWN if name == profile]
-                told = [it.get("cost") for it in replies[-len(known):]]
-                wrong += [] if told == known else [f"for {profile} the known tours cost {told}, and not {known}"]
+            costs, told = [cost for _, cost in known], [it.get("cost") for it in replies[TOURS:]]
+            wrong += [] if told == costs else [f"for {profile} the known tours cost {told}, and not {costs}"]
     if not walked or walked == judged:
-        wrong.append(f"of {judged} tours {walked} can be walked")
+        wrong.append(f"of {judged} tours in {folder} {walked} can be walked")
     return judged, wrong
 
 
@@ -394,13 +453,14 @@ def nearest(start, category, profile, limit, certificate="yes"):
     return question(f"/v1/nearest?from={start}&category={category}&profile={profile}&limit={limit}&certificate={certificate}")
 
 
-def with_amenities(base, amenities):
-    """A base with the station and these amenities behind its own."""
-    shutil.copytree(os.path.join(EXAMPLES, "station"), os.path.join(base, "station"))
-    shutil.copy(os.path.join(EXAMPLES, "venue.toml"), base)
-    path = os.path.join(base, "station", "amenity.geojson")
-    with open(path, encoding="utf-8") as file:
-        rows = json.load(file)
+def with_amenities(base, venue, amenities):
+    """A base with a copy of the folder and these amenities behind its own."""
+    shutil.copytree(os.path.join(venue.base, venue.folder), os.path.join(base, venue.folder))
+    shutil.copy(os.path.join(venue.base, "venue.toml"), base)
+    path, rows = os.path.join(base, venue.folder, "amenity.geojson"), {"type": "FeatureCollection", "features": []}
+    if os.path.exists(path):
+        with open(path, encoding="utf-8") as file:
+            rows = json.load(file)
     for number, category, east, north, units in amenities:
         place = {"type": "Point", "coordinates": [10 + east / 100_000, 50 + north / 100_000]}
         properties = {"category": category, "unit_ids": [NODE.format(it) for it in units]}
@@ -431,7 +491,7 @@ def exchanged(reply, path, other):
 
 def spoiled_nearest(reply):
     """The reply with each of its numbers and identifiers exchanged, and with a row, a potential or a member too few or too many. Some identifiers are exchanged
-    for one that nothing has, since another way by other doors may be as right; a potential for the last cost, below which all are."""
+    for one that nothing has, and so are corners, since another way by other doors may be as right; a potential for the last cost, below which all are."""
     rows, spoiled = reply["places"], []
     for path, value in leaves(reply):
         if path[-1] in ("kind", "profile") or path == ("category",) and not rows:
@@ -439,7 +499,7 @@ def spoiled_nearest(reply):
         if path[-1] == "value":
             other = rows[-1]["cost"]
         elif isinstance(value, int):
-            other = value + 1
+            other = value + (999 if path[-1] == "corner" else 1)
         else:
             other = NODE.format(0x999 if path[-1] in ("to", "via", "node") else 0x106 if value != NODE.format(0x106) else 0x108)
         spoiled.append(exchanged(reply, path, other))
@@ -464,27 +524,27 @@ def judge_nearest(program, folder, chance):
     judged, shown, wrong = 0, 0, []
     files = [os.path.join(folder, name) for name in ("reply.json", "links.txt", "closures.json")]
 
-    def says(reply, limit, table, closures, base):
+    def says(reply, limit, table, closures, venue):
         for path, text in zip(files, (json.dumps(reply), table, json.dumps(closures))):
             with open(path, "w", encoding="utf-8") as file:
                 file.write(text)
-        return printed([files[0], str(limit), *files[1:], os.path.join(base, "station", "amenity.geojson"), OCCUPANTS], NEAREST_CHECKER).strip()
+        return printed([files[0], str(limit), *files[1:], os.path.join(*venue, "amenity.geojson"), *occupants_of(*venue)], NEAREST_CHECKER).strip()
 
-    for number, amenities in enumerate(VENUES):
-        base = with_amenities(os.path.join(folder, f"venue{number}"), amenities)
+    for number, (venue, amenities) in enumerate(VENUES):
+        base = with_amenities(os.path.join(folder, f"venue{number}"), venue, amenities)
         for profile in ("wheelchair", "walk"):
-            table = table_of(program, base, profile)
-            for closed in [*CLOSED, {0x105: None}, {0x300: None}]:
-                places = [*PLACES, *(it[0] for it in amenities)]
+            table = table_of(program, base, profile, venue.folder)
+            for closed in [*venue.closed, {0x105: None}, {0x300: None}]:
+                places = [*venue.places, *(it[0] for it in amenities)]
                 drawn = [(chance.choice(places), chance.choice(CATEGORIES), chance.randint(1, 4), chance.choice(["yes", "yes", "no"])) for _ in range(NEAREST)]
                 known_here = [it for it in KNOWN_NEAREST if (it[0], it[4], {it[1]: None} if it[1] else {}) == (number, profile, closed)]
                 asked = [(*it, None) for it in drawn] + [(it[2], it[3], it[5], "yes", it[6:]) for it in known_here]
                 requests = [closing(NODE.format(it), names) for it, names in closed.items()] + [question("/v1/closures")]
                 requests += [nearest(NODE.format(start), category, profile, limit, certificate) for start, category, limit, certificate, _ in asked]
-                closures, *replies = map(json.loads, bodies(program, base, requests)[len(closed):])
+                closures, *replies = map(json.loads, bodies(program, base, requests, venue.folder)[len(closed):])
                 for (start, category, limit, certificate, known), reply in zip(asked, replies):
                     judged, shown = judged + 1, shown + len(reply["places"])
-                    said = says(reply, limit, table, closures, base)
+                    said = says(reply, limit, table, closures, (base, venue.folder))
                     told = (reply["from"], reply["category"], reply["profile"], "potentials" in reply)
                     if said != "proved" or told != (NODE.format(start), category, profile, certificate == "yes"):
                         wrong.append(f"limit {limit}, certificate {certificate}: {json.dumps(reply)}: {said}")
@@ -493,7 +553,7 @@ def judge_nearest(program, folder, chance):
                         wrong.append(f"known are {known}, and not {found}")
                     spoiled = spoiled_nearest(reply)
                     for other in chance.sample(spoiled, min(SPOILED, len(spoiled))):
-                        if not says(other, limit, table, closures, base).startswith("fails "):
+                        if not says(other, limit, table, closures, (base, venue.folder)).startswith("fails "):
                             wrong.append(f"no fault is found in {json.dumps(other)}")
     if shown < judged // 2:
         wrong.append(f"{judged} questions for the nearest show only {shown}")
@@ -502,18 +562,20 @@ def judge_nearest(program, folder, chance):
 
 def main():
     program = [sys.argv[1]] if len(sys.argv) > 1 else [os.path.join(HERE, "..", "venue")]
+    routes, roaming = random.Random(5), random.Random(13)
     with tempfile.TemporaryDirectory() as folder:
-        judged, wrong = judge_some(program, folder, random.Random(5))
-        drawn, changed, has_node, more = judge_drawn(program, folder, random.Random(8))
+        some = [judge_some(program, folder, routes, venue) for venue in FOLDERS]
+        tours = [judge_tours(program, roaming, venue) for venue in FOLDERS]
+        drawn, changed, has_node, wrong = judge_drawn(program, folder, random.Random(8))
         near, nearer = judge_nearest(program, folder, random.Random(21))
-    tours, others = judge_tours(program, random.Random(13))
-    wrong += more + nearer + others
+    wrong += nearer + [it for _, found in some + tours for it in found]
     if drawn != CASES or changed < CASES // 2:
         wrong.append(f"{drawn} closures are drawn, and of {changed} the profiles matter")
     for line in wrong:
         print(line, file=sys.stderr)
     by = "by both checkers" if has_node else "by one checker, since there is no node"
-    print(f"route_replies: {judged} replies, {drawn} closures for some and {changed} with other profiles {by}, {tours} tours, {near} of the nearest, "
+    judged, toured = (sum(count for count, _ in it) for it in (some, tours))
+    print(f"route_replies: {judged} replies, {drawn} closures for some and {changed} with other profiles {by}, {toured} tours, {near} of the nearest, "
           f"{len(wrong)} differences")
     return 1 if wrong else 0
 

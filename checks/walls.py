@@ -1,16 +1,22 @@
 #!/usr/bin/env python3
-"""Checks ways through rooms with walls: how many nodes and links their venues have, and what the cheapest way costs, step by step.
+"""Checks ways through rooms with walls: how many nodes and links their venues have, and what the cheapest way costs, step by step, as `route` prints it
+and as `session` replies.
 
 usage: walls.py [PROGRAM]   (without PROGRAM the launcher ./venue, which builds the program if need be)
-What is wanted was worked out by hand, in centimetres. Each way is proved by `verify`. It prints one line, and ends with status 1 at a difference.
+What is wanted was worked out by hand, in centimetres. Each way is proved by `verify`, each reply by examples/route_reply.py. It prints one line, and ends
+with status 1 at a difference.
 """
+import json
 import os
 import shutil
 import subprocess
 import sys
 import tempfile
 
-from rooms import ELL, NAME, TOP, Kept, Venue, box, ell, in_metres, set_up
+from rooms import NAME, TOP, Kept, Venue, box, ell, in_metres, set_up
+
+sys.path.append(os.path.join(TOP, "examples"))
+from route_reply import check, features_of, verdict
 
 HOLE = [(15, 15), (15, 25), (25, 25), (25, 15)]
 COMB = [(0, 0), (40, 0), (40, 20), (30, 20), (30, 10), (20, 10), (20, 20), (10, 20), (10, 10), (0, 10)]
@@ -40,12 +46,6 @@ def halves(*polygons, **more):
     return venue.anchor(*in_metres(more["places"]))
 
 
-def two_rooms():
-    venue = Venue(100 * 10_000, 60 * 10_000).room([ELL]).room([in_metres(box(10, 10, 40, 40))], number=301, category="room")
-    venue.anchor(*in_metres([(35, 5), (5, 35)])).anchor(*in_metres([(25, 25)]), first=43, unit=301)
-    return venue.door(*in_metres([(24, 10), (26, 10)]))
-
-
 def square(**more):
     return lambda: room(box(0, 0, 40, 40), HOLE, places=more["places"])
 
@@ -73,7 +73,7 @@ ROWS = [
     ("two polygons that share a side", lambda: halves((0, 0, 10, 10), (10, 0, 20, 10), places=[(5, 5), (15, 5)], display=(20_000, 80_000)), True, "", (3, 4), (41, 42), None),
     ("two polygons apart", lambda: halves((0, 0, 10, 10), (30, 0, 40, 10), places=[(5, 5), (35, 5)]), True, "", (3, 6), (41, 42), [3000]),
     ("two polygons apart, two places in one", lambda: halves((0, 0, 10, 10), (30, 0, 40, 10), places=[(5, 5), (8, 5), (35, 5)]), True, "", (4, 6), (41, 43), [300, 2700]),
-    ("ell with a room in its corner", two_rooms, True, "", (7, 16), (43, 42), [1500, 1500, 2550]),
+    ("the ell of examples with a room in its corner", lambda: Kept("walls", "ell_room"), True, "", (7, 16), (43, 42), [1500, 1500, 2550]),
     ("the ell of examples", lambda: Kept("walls", "ell"), True, "", (4, 6), (41, 42), [2550, 2550]),
     ("the concourse of examples, straight", lambda: Kept("walls", "concourse"), False, "", (19, 78), (53, 55), None),
     ("the concourse of examples", lambda: Kept("walls", "concourse"), True, "", (75, 1634), (53, 55), [500, 1152, 1304, 1152, 500]),
@@ -87,23 +87,25 @@ COSTS = {
     "the concourse of examples, straight": 4606,
     "the station": 8683,
 }
-# The corners of unit #0300 by which a way goes.
-CORNERS = {"the ell of examples": [1], "the concourse of examples": [15, 37]}
+# The corners of unit #0300 at which the steps of a reply end, none where a step ends at another node.
+CORNERS = {"the ell of examples with a room in its corner": [None, 1, None], "the ell of examples": [1, None], "the concourse of examples": [None, 15, 37, None, None]}
 
 
 def run(program, *words):
     return subprocess.run([*program, *words], capture_output=True, text=True).stdout
 
 
-def corners(rows, answer):
-    """The corners at which a way's steps end: the k-th further line of a unit's identifier is its corner k."""
-    nodes, seen = [], {}
-    for _, name in (row for row in rows if row[0] == "node"):
-        seen[name] = seen.get(name, -1) + 1
-        nodes.append(seen[name])
-    ends = [int(row[2]) for row in rows if row[0] == "link"]
-    found = [nodes[ends[int(line.split()[1])]] for line in answer.splitlines() if line.startswith("step ")]
-    return [corner for corner in found if corner]
+def asked(program, base, ends):
+    """The reply about the way, with what proves it."""
+    start, end = (NAME.format(it) for it in ends)
+    sent = f"GET /v1/route?from={start}&to={end}&profile=walk&certificate=yes HTTP/1.1\r\nhost: a\r\n\r\n"
+    ran = subprocess.run([*program, "session", base, "folder"], input=sent.encode(), capture_output=True)
+    return json.loads(ran.stdout.split(b"\r\n\r\n")[1])
+
+
+def occupants(folder):
+    path = os.path.join(folder, "occupant.geojson")
+    return features_of([path] if os.path.exists(path) else [])
 
 
 def differences(program, base, row):
@@ -119,16 +121,22 @@ def differences(program, base, row):
     answer = run(program, "route", base, "folder", "walk", *(NAME.format(it) for it in ends))
     costs = [int(row[3]) for row in rows if row[0] == "link"]
     steps = [costs[int(line.split()[1])] for line in answer.splitlines() if line.startswith("step ")]
-    if (sum(steps) != COSTS[name]) if wanted is None else (steps != wanted):
-        yield f"{name}: steps of {steps}, wanted {wanted or COSTS[name]}"
-    if name in CORNERS and corners(rows, answer) != CORNERS[name]:
-        yield f"{name}: by corners {corners(rows, answer)}, wanted {CORNERS[name]}"
+    reply = asked(program, base, ends)
+    for found in steps, [step["cost"] for step in reply["steps"]]:
+        if (sum(found) != COSTS[name]) if wanted is None else (found != wanted):
+            yield f"{name}: steps of {found}, wanted {wanted or COSTS[name]}"
+    corners = [step.get("corner") for step in reply["steps"]]
+    if corners != (CORNERS.get(name, corners) if clear else [None] * len(corners)):
+        yield f"{name}: by corners {corners}, wanted {CORNERS[name] if clear else 'none'}"
     for file, text in (("links.txt", links), ("answer.txt", answer)):
         with open(os.path.join(base, file), "w", encoding="utf-8") as out:
             out.write(text)
     told = run(program, "verify", base)
     if told != "proved\n":
         yield f"{name}: verify prints {told!r}"
+    told = verdict(lambda: check(reply, os.path.join(base, "links.txt"), {"closures": [], "version": 1}, occupants(os.path.join(base, "folder"))))
+    if told != "proved":
+        yield f"{name}: the reply {told}"
     shutil.rmtree(os.path.join(base, "folder"))
 
 

@@ -14,7 +14,7 @@ import sys
 
 sys.dont_write_bytecode = True  # so that a clone stays as it is
 
-from route_reply import check_potentials, check_walk, features_of, links_of, need, node_of, open_links, read, verdict
+from route_reply import Node, check_potentials, check_walk, features_of, links_of, need, need_known, node_of, open_links, reached_by, read, verdict
 
 ALWAYS = {"category", "from", "places", "profile", "start", "version"}
 
@@ -36,19 +36,20 @@ def costs_from(start, links):
 def check_places(rows, limit, links, start, candidates, costs):
     """The rows are the first of the candidates to which a walk leads, by cost and then by node, each with a least walk."""
     nearest = sorted((costs[node], number, node) for node, number in candidates.items() if node in costs)[:limit]
-    need([(row["amenity"], row["cost"]) for row in rows] == [(node, cost) for cost, _, node in nearest], "places")
+    need([(Node(row["amenity"]), row["cost"]) for row in rows] == [(node, cost) for cost, _, node in nearest], "places")
     links = set(links)
     for row in rows:
-        need(row["steps"] == [] or row["amenity"] != start, "a way from the start to itself")
-        check_walk(row["steps"], row["cost"], links, start, row["amenity"])
+        end = Node(row["amenity"])
+        need(row["steps"] == [] or end != start, "a way from the start to itself")
+        check_walk(row["steps"], row["cost"], links, start, end)
 
 
 def check_certificate(reply, nodes, links, start, candidates):
-    """The potentials are of nodes, rising by node, and below the last cost; no candidate that has no row lies below it."""
-    ends = {row["amenity"]: row["cost"] for row in reply["places"]}
+    """The potentials rise by node, and lie below the last cost; no candidate that has no row lies below it."""
+    ends = {Node(row["amenity"]): row["cost"] for row in reply["places"]}
     last = max(ends.values(), default=0)
     potential = check_potentials(reply, last, links, start, ends.items())
-    need(set(potential) <= set(nodes) and list(potential) == sorted(potential, key=nodes.get), "potentials that don't rise by node")
+    need(list(potential) == sorted(potential, key=nodes.get), "potentials that don't rise by node")
     need(all(0 <= value < last for value in potential.values()), "a potential that isn't below the last cost")
     for node in set(candidates) - set(ends):
         need(potential.get(node, last) >= last, f"potential {node}")
@@ -57,10 +58,11 @@ def check_certificate(reply, nodes, links, start, candidates):
 def check(reply, limit, table, closures, amenities, occupants):
     need(1 <= limit <= 10, "limit")
     nodes, links = links_of(table)
+    need_known(reply, nodes)
     links = open_links(links, closures, reply)
     start = node_of(reply["from"], nodes, occupants)
-    need(reply["start"] == start, "start")
-    candidates = {it["id"]: nodes[it["id"]] for it in amenities if it["properties"]["category"] == reply["category"]}
+    need(Node(reply["start"]) == start, "start")
+    candidates = {node: nodes[node] for it in amenities for node in [Node(it["id"])] if it["properties"]["category"] == reply["category"]}
     costs = costs_from(start, links)
     check_places(reply["places"], limit, links, start, candidates, costs)
     told = set(reply) - ALWAYS
@@ -68,7 +70,7 @@ def check(reply, limit, table, closures, amenities, occupants):
     if told:
         check_certificate(reply, nodes, links, start, candidates)
     if "reached" in told:
-        need(reply["reached"] == [node for node in nodes if node in costs], "reached")
+        need(list(reached_by(reply)) == [node for node in nodes if node in costs], "reached")
 
 
 def main(words):

@@ -7,11 +7,12 @@ profile's folder of that table in parts, of which only the parts are read that t
 the same version; OCCUPANTS is the occupant.geojson of that folder, needed where an end is an occupant.
 It prints `proved`, status 0, or `fails` and what doesn't hold, status 1. The `kind` of a step stands in no table and isn't checked.
 """
-import itertools
+import collections
 import json
 import os
 import re
 import sys
+import typing
 
 IDENTIFIER = r"[0-9a-f]{8}(?:-[0-9a-f]{4}){3}-[0-9a-f]{12}"
 LINK = re.compile(r"link (\d+) (\d+) (\d+) (" + IDENTIFIER + ")")
@@ -19,6 +20,16 @@ LINK = re.compile(r"link (\d+) (\d+) (\d+) (" + IDENTIFIER + ")")
 
 class Fails(Exception):
     """What doesn't hold."""
+
+
+class Node(typing.NamedTuple):
+    """A node by its name: its identifier, and of a corner its number in its unit. Other nodes have 0 there, which no reply prints."""
+
+    id: str
+    corner: int = 0
+
+    def __str__(self):
+        return f"{self.id} corner {self.corner}" if self.corner else self.id
 
 
 def need(holds, what):
@@ -31,22 +42,53 @@ def read(path):
         return file.read()
 
 
+def nodes_of(identifiers):
+    """The nodes of a table's lines in their order: the k-th further line of an identifier is its corner k."""
+    lines = collections.Counter()
+    for id in identifiers:
+        yield Node(id, lines[id])
+        lines[id] += 1
+
+
 def links_of(table):
     """The nodes of a table by number, each with its own, and its links as (from, to, cost, via)."""
     lines = table.splitlines()
     need(lines[:1] == ["imdf-links 1"] and lines[-1] == "end", "table")
-    nodes = [line[5:] for line in lines if re.fullmatch("node " + IDENTIFIER, line)]
+    nodes = list(nodes_of(line[5:] for line in lines if re.fullmatch("node " + IDENTIFIER, line)))
     rows = [LINK.fullmatch(line) for line in lines[1 + len(nodes):-1]]
     need(all(rows), "table")
     links = [(nodes[int(a)], nodes[int(b)], int(cost), via) for a, b, cost, via in (row.groups() for row in rows)]
     return {node: number for number, node in enumerate(nodes)}, links
 
 
-def named_of(reply):
-    """The identifiers that a reply names as nodes. A node that it doesn't list has the potential `cost` and isn't reached, so a link can break
-    the proof only if it starts or ends at one of these."""
-    yield from (reply["from"], reply.get("start"))
-    yield from itertools.chain(reply.get("reached", []), (row["to"] for row in reply.get("steps", [])), (row["node"] for row in reply.get("potentials", [])))
+def node_at(row, key):
+    """The node that a row names by this member and, where it is a corner, by its number."""
+    corner = row.get("corner", 0)
+    need("corner" not in row or type(corner) is int and corner >= 1, f"corner {corner}")
+    return Node(row[key], corner)
+
+
+def reached_by(reply):
+    """The nodes that a reply lists as reached: a corner is an object, another node its identifier."""
+    for row in reply.get("reached", []):
+        need(type(row) is str or type(row) is dict and set(row) == {"corner", "node"}, f"reached {row}")
+        yield Node(row) if type(row) is str else node_at(row, "node")
+
+
+def named_in(reply):
+    """The nodes that a reply lists. Another has the potential `cost` and isn't reached, so a link can break the proof only if it starts or ends at one of
+    these."""
+    if "start" in reply:
+        yield Node(reply["start"])
+    yield from reached_by(reply)
+    for rows, key in (("steps", "to"), ("potentials", "node")):
+        yield from (node_at(row, key) for row in reply.get(rows, []))
+
+
+def need_known(reply, nodes):
+    """The table has each node that the reply lists."""
+    for node in named_in(reply):
+        need(node in nodes, f"node {node}")
 
 
 def links_of_parts(folder, reply):
@@ -54,15 +96,14 @@ def links_of_parts(folder, reply):
     first, *lines, last = read(os.path.join(folder, "..", "parts.txt")).splitlines()
     mark = re.fullmatch("imdf-parts 1 ([0-9a-f]{16})", first)
     need(mark and last == "end" and all(re.fullmatch("part|node " + IDENTIFIER, line) for line in lines), "parts")
-    nodes, part_of, part = [], {}, -1
+    nodes, part_of, part = nodes_of(line[5:] for line in lines if line != "part"), {}, -1
     for line in lines:
         part += line == "part"
         if line != "part":
-            need(part >= 0 and line[5:] not in part_of, "parts")
-            nodes.append(line[5:])
-            part_of[line[5:]] = part
-    links = []
-    for name in ["between", *sorted({part_of[node] for node in named_of(reply) if node in part_of})]:
+            need(part >= 0, "parts")
+            part_of[next(nodes)] = part
+    nodes, links = list(part_of), []
+    for name in ["between", *sorted({part_of[node] for node in (Node(reply["from"]), *named_in(reply)) if node in part_of})]:
         for a, b, cost, via in links_of_part(read(os.path.join(folder, f"{name}.txt")), f"imdf-part 1 {mark[1]} {name}"):
             ends = {part_of[nodes[a]], part_of[nodes[b]]}
             need(len(ends) == 2 if name == "between" else ends == {name}, f"part {name}")
@@ -112,13 +153,13 @@ def open_links(links, closures, reply):
     """The links of which neither the way nor an end is closed for the reply's profile, at its version."""
     need(reply["version"] == closures["version"], "version")
     closed = closed_for(closures["closures"], reply["profile"])
-    return [link for link in links if not closed & {link[0], link[1], link[3]}]
+    return [link for link in links if not closed & {link[0].id, link[1].id, link[3]}]
 
 
 def node_of(place, nodes, occupants):
     """The node at which a place is: its own, or that of its anchor."""
     anchors = {occupant["id"]: occupant["properties"]["anchor_id"] for occupant in occupants}
-    node = place if place in nodes else anchors.get(place)
+    node = Node(place if Node(place) in nodes else anchors.get(place))
     need(node in nodes, f"place {place}")
     return node
 
@@ -127,8 +168,9 @@ def check_walk(steps, cost, links, start, end):
     """The steps are such links, lead from node to node, and cost so much together."""
     at, total = start, 0
     for number, step in enumerate(steps, 1):
-        need((at, step["to"], step["cost"], step["via"]) in links, f"step {number}")
-        at, total = step["to"], total + step["cost"]
+        before, at = at, node_at(step, "to")
+        need((before, at, step["cost"], step["via"]) in links, f"step {number}")
+        total += step["cost"]
     need(at == end, "end")
     need(total == cost, "cost")
 
@@ -136,7 +178,7 @@ def check_walk(steps, cost, links, start, end):
 def check_potentials(reply, cost, links, start, ends):
     """The potentials by node: 0 at the start, at each end what it costs, and no link's end above its start by more than the link costs. A node that
     isn't listed has the potential `cost`."""
-    potential = {mark["node"]: mark["value"] for mark in reply["potentials"]}
+    potential = {node_at(mark, "node"): mark["value"] for mark in reply["potentials"]}
     need(all(type(value) is int for value in potential.values()) and len(potential) == len(reply["potentials"]), "potentials")
     for node, value in [(start, 0), *ends]:
         need(potential.get(node, cost) == value, f"potential {node}")
@@ -146,13 +188,14 @@ def check_potentials(reply, cost, links, start, ends):
 
 
 def check_route(reply, links, start, end):
-    need(reply["start"] == start, "start")
+    need(Node(reply["start"]) == start, "start")
     check_walk(reply["steps"], reply["cost"], set(links), start, end)
     check_potentials(reply, reply["cost"], links, start, [(end, reply["cost"])])
 
 
 def check_none(reply, links, start, end):
-    reached = set(reply["reached"])
+    reached = set(reached_by(reply))
+    need(len(reached) == len(reply["reached"]), "reached")
     need(start in reached, "start")
     need(end not in reached, "end")
     for a, b, _, via in links:
@@ -161,6 +204,7 @@ def check_none(reply, links, start, end):
 
 def check(reply, path, closures, occupants):
     nodes, links = links_of_parts(path, reply) if os.path.isdir(path) else links_of(read(path))
+    need_known(reply, nodes)
     links = open_links(links, closures, reply)
     start, end = (node_of(reply[key], nodes, occupants) for key in ("from", "to"))
     need(reply["result"] in ("route", "none"), "result")
