@@ -70,7 +70,8 @@ async function judge({ data, profile, entrances, before, after, feature }) {
   const isOf = (id) => [roomsOf, out, into].some((its) => its[numbers.get(id)]?.length);
   if (!entrances.some(isOf)) return { isWithout: true };
   const [was, is] = [before, after].map((closed) => joined(table, entrances, new Set(closed)));
-  const differ = (one, other) => nodes.filter((id, node) => one[node] && !other[node] && id !== feature);
+  // Corners have the number of no place.
+  const differ = (one, other) => nodes.filter((id, node) => numbers.get(id) === node && one[node] && !other[node] && id !== feature);
   return { lost: differ(was, is), gained: differ(is, was) };
 }
 
