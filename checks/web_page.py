@@ -1,8 +1,8 @@
 #!/usr/bin/python3
 """Opens the page of examples/web in a browser, as visitors with a phone and at a desk do, over a copy of the example station and a venue of fifty
 levels that `venue serve` serves behind nginx: ways by keyboard alone, what is closed meanwhile, for all or for some, replies with something
-exchanged, files that are missing or broken, two languages, a publication, print, and no network. And has check.js judge the made answers of compare_checkers.py,
-and replies with their certificates, beside the checkers in Python.
+exchanged, files that are missing or broken, two languages, a publication, print, and no network; and over the rooms with walls of examples/walls, ways
+round corners. And has check.js judge the made answers of compare_checkers.py, and replies with their certificates, beside the checkers in Python.
 
 usage: web_page.py [PROGRAM [large | LOOK ..]]   (without PROGRAM the launcher ./venue, which builds the program if need be)
 With `large` it takes a venue of 100,000 features alone, and prints how long the page takes for it. With names of looks, as is_printed, it
@@ -407,13 +407,13 @@ def is_tapped(page):
     page.check("a tap chooses", page.value("from") == "Bakery")
 
 
-def spoil_of(kind):
+def spoil_by(spoil):
     """What exchanges one thing of a reply of /v1/route."""
     def change(path, body):
         if not path.startswith("/v1/route"):
             return body
         reply = json.loads(body)
-        SPOILS[kind][0](reply)
+        spoil(reply)
         return json.dumps(reply).encode()
     return change
 
@@ -461,14 +461,33 @@ SPOILS = {
 }
 
 
+# What is exchanged of a corner that a reply over the concourse names, and the sentence of the page.
+SPOILED_CORNERS = {
+    "another corner": (lambda reply: reply["steps"][1].update(corner=16), "one of its steps is no link that is open"),
+    "no corner": (lambda reply: reply["steps"][1].pop("corner"), "one of its steps is no link that is open"),
+    "a corner that the table hasn't": (lambda reply: reply["steps"][1].update(corner=57), "one of its steps is no link that is open"),
+    "a potential of such a corner": (lambda reply: mark_of_corner(reply).update(corner=57), "it names a place or a corner that the table of links doesn't know"),
+    "a potential of corner 0": (lambda reply: mark_of_corner(reply).update(corner=0), "it names a place or a corner that the table of links doesn't know"),
+    "a corner that is null": (lambda reply: mark_of_corner(reply).update(corner=None), "it names a place or a corner that the table of links doesn't know"),
+    "a corner that is a text": (lambda reply: mark_of_corner(reply).update(corner="15"), "it names a place or a corner that the table of links doesn't know"),
+    "a potential twice": (lambda reply: reply["potentials"].append(mark_of_corner(reply)), "its potentials aren't whole numbers, one a place"),
+    "a potential of a corner left out": (lambda reply: reply["potentials"].remove(mark_of_corner(reply)), "by its own numbers a shorter way may be there"),
+}
+
+
+def mark_of_corner(reply):
+    """The potential of the corner to which the second step leads."""
+    return next(mark for mark in reply["potentials"] if mark.get("corner") == 15)
+
+
 def is_lied_to(page):
     """Of replies with something exchanged the page says what fails, and draws no way."""
     told = {kind: sentence for kind, (_, _, sentence) in SPOILS.items() if sentence}
-    page.site.between.change = spoil_of(next(iter(told)))
+    page.site.between.change = spoil_by(SPOILS[next(iter(told))][0])
     page.open(WHEELCHAIR)
     page.says("answer", "Not proved: ")
     for kind, sentence in told.items():
-        page.site.between.change = spoil_of(kind)
+        page.site.between.change = spoil_by(SPOILS[kind][0])
         page.ask_again()
         page.says("answer", "Not proved: ", sentence)
         page.check(f"{kind}: nothing is drawn", page.drawn("lines") == page.drawn("reached") == 0 and "Checked" not in page.text("answer"))
@@ -520,7 +539,7 @@ def reads_broken_files(page):
         (("site.json", '"kx"', "kx"), "trouble", "The settings of this site can't be read, so there is no map."),
         ((f"{data}/links/parts.txt",), "answer", "The table of links isn't there, so no way can be checked."),
         ((f"{data}/links/parts.txt", "imdf-parts 1", "imdf-parts 2"), "answer", "The table of links is of another version than this page reads"),
-        ((f"{data}/links/parts.txt", ID.format(301), ID.format(302)), "answer", "The table of links can't be read (form parts.txt twice)"),
+        ((f"{data}/links/parts.txt", ID.format(301), ID.format(302)), "answer", "The map is being renewed."),
         ((f"{data}/links/parts.txt", f"node {ID.format(404)}", f"node {ID.format(405)}"), "answer", "The map is being renewed."),
         ((f"{data}/links/wheelchair/between.txt",), "answer", "The table of links isn't there, so no way can be checked."),
         ((f"{data}/links/wheelchair/0.txt", page.site.about["mark"], "0" * 16), "answer", "The map is being renewed. Load the page again."),
@@ -590,7 +609,7 @@ def has_all_sentences(page):
     page.open()
     compare_sentences(page, texts, tables_of(page))
     weight = sum(len(text.encode()) for name, text in texts.items() if name != "texts.js") + sum(os.path.getsize(os.path.join(web, name)) for name in ("en.js", "de.js"))
-    page.check(f"page and script have {weight} bytes, at most 120,000", weight <= 120_000)
+    page.check(f"page and script have {weight} bytes, at most 125,000", weight <= 125_000)
 
 
 def tables_of(page):
@@ -621,7 +640,7 @@ def compare_sentences(page, texts, tables, built=()):
 
 
 def tells_turns(page):
-    """Turns beyond 30 degrees, names that are passed, lengths as people say them, and one mistake in a word, by made things on a level of their own."""
+    """Turns beyond 30 degrees, names that are passed, also on a leg with bends, lengths as people say them, and one mistake in a word, by made things on a level of their own."""
     page.open()
     found = page.driver.execute_async_script("""const done = arguments[0];
         Promise.all(['way', 'store', 'search'].map((name) => import(`./${name}.js`))).then(([way, { features }, { isNear }]) => {
@@ -632,14 +651,66 @@ def tells_turns(page):
           const door = { ...point('door', 1500, 500), rooms: [hall, shop] }, far = { ...point('far', 1500, 700), rooms: [hall, { ...shop, name: { en: 'Far' } }] };
           hall.doors.push(...all, door, far);
           for (const it of [hall, shop, door, far, ...all]) features.set(it.id, it);
-          const leg = (from, to) => ({ from, to, via: 'hall', cost: 3000, passage: null, levels: [0, 0] });
+          const leg = (from, to, ...bends) => ({ from, to, via: 'hall', cost: 3000, passage: null, levels: [0, 0], bends });
           const turns = ['c', 'd', 'e', 'f', 'g'].map((to) => way.turnBetween(leg('a', 'b'), leg('b', to)));
+          turns.push(way.turnBetween(leg('a', 'b', [3000, 1000]), leg('b', 'c', [2000, 0], [2000, 2000])), way.turnBetween(leg('a', 'b', [2990, 0]), leg('b', 'c', [3000, 10])));
           const step = { legs: [leg('a', 'b')], from: 'a', to: 'b', levels: [0, 0] };
-          done([turns, way.passedOn(leg('a', 'b')), way.sentenceOf(step, null, ''), [240, 840, 5270, 8683, 46400, 123400].map(way.spokenLength), [2000, 10000, 21000].map(way.spokenTime),
+          done([turns, way.passedOn(leg('a', 'b')), way.passedOn(leg('a', 'b', [0, 800], [3000, 800])), way.passedOn(leg('a', 'b', [0, -800], [3000, -800])),
+            way.sentenceOf(step, null, ''), [240, 840, 5270, 8683, 46400, 123400].map(way.spokenLength), [2000, 10000, 21000].map(way.spokenTime),
             [['bakrey', 'bakery'], ['bakey', 'bakery'], ['bakkery', 'bakery'], ['pakery', 'bakery'], ['bkary', 'bakery'], ['toil', 'toilet']].map(([a, b]) => isNear(a, b))]);
         }, (wrong) => done([String(wrong)]));""")
-    page.check(f"made turns and names: {found}", found == [["right", "left", None, "right", "back"], ["Florist"], "Go along the walkway, past Florist, to the door",
+    page.check(f"made turns and names: {found}", found == [["right", "left", None, "right", "back", "left", "right"], ["Florist"], ["Far", "Florist"], [], "Go along the walkway, past Florist, to the door",
         ["2 m", "8 m", "55 m", "85 m", "460 m", "1.2 km"], ["less than a minute", "about 1 minute", "about 3 minutes"], [True, True, True, True, False, True]])
+
+
+HALL = f"#from={ID.format(53)}&to={ID.format(55)}&profile=walk"  # by the corners 15 and 37 of a hall with columns
+POINTS = [[5000, -500, 5000, -1000], [5000, -1000, 4050, -1650, 2950, -2350, 2000, -3000], [2000, -3000, 2000, -3500]]  # in centimetres, from the north to the south
+WALLED = ID.format(300)
+
+
+@contextlib.contextmanager
+def walls(page, venue):
+    """The page over a folder of examples/walls for a while."""
+    station = page.site
+    with tempfile.TemporaryDirectory() as folder:
+        page.site = Site(station.program, folder, venue, os.path.join(EXAMPLES, "walls"))
+        try:
+            yield
+        finally:
+            page.site.stop()
+            page.site = station
+
+
+def lines_of(page, picked=False):
+    """The points of the lines that the map has drawn, or of those of the step that is picked."""
+    return page.driver.execute_async_script("const [only, done] = arguments; import('./map.js').then(({ shown }) => done(shown.news.lines.filter((it) => !only || it.isPicked).map((it) => it.points)))", picked)
+
+
+def bends_at_corners(page):
+    """Round columns the line bends and the step is one; it is straight, and the page says so, where the map hasn't the corners of the table."""
+    with walls(page, "concourse"):
+        page.open(HALL)
+        page.says("answer", "45 m", "Checked: no shorter way")
+        page.until("the line bends at both corners", lambda: lines_of(page) == POINTS)
+        rows = [row.text.split("\n") for row in page.driver.find_elements(By.CSS_SELECTOR, "#answer ol li")]
+        page.check(f"three steps {rows}", [row[-1] for row in rows] == ["5 m", "35 m", "5 m"] and rows[1][0].endswith("Go along the walkway to the door of E"))
+        page.check("the exact length", "46.08 m walked" in page.script("return document.querySelector('#answer details').textContent"))
+        page.push("#answer ol li:nth-child(2) button")
+        page.until("the step that is picked bends too", lambda: lines_of(page, True) == POINTS[1:2])
+        page.picture("round-columns")
+        for kind, (spoil, sentence) in SPOILED_CORNERS.items():
+            page.site.between.change = spoil_by(spoil)
+            page.ask_again() if page.count(".again") else page.open(HALL)
+            page.says("answer", "Not proved: ", sentence)
+            page.check(f"{kind}: nothing is drawn", page.drawn("lines") == 0 and "Checked" not in page.text("answer"))
+        page.site.between.change = None
+        outline = os.path.join(page.site.data, "walls", "0.json")
+        for change in ((outline,), (outline, ",105000,155000,95000,155000]", ",95000,155000]"), (outline, "[[[", "[[7")):
+            with page.site.broken(*change):
+                page.open(HALL)
+                page.says("answer", "Checked: no shorter way", "The map hasn't the corners here that the table of links has", "Walkway, level 0.", "35 m")
+                page.until("the line is straight there", lambda: lines_of(page) == [POINTS[0], POINTS[1][:2] + POINTS[1][-2:], POINTS[2]])
+        page.picture("without-corners")
 
 
 def boxes(page, *selectors):
@@ -1041,7 +1112,7 @@ def take_looks(name, words, looks, make_page, make_site, longest):
 # What is looked at with a phone and at a desk, what says most first.
 LOOKS = {
     "phone": [asks_by_keyboard, goes_on_by_itself, is_closed_for_some, is_tapped],
-    "desk": [asks_by_keyboard, is_lied_to, judged_alike, has_all_sentences, tells_turns, refuses_in_words, goes_far, speaks_german, finds_places, hears_nothing, is_renewed, has_no_network,
+    "desk": [asks_by_keyboard, is_lied_to, judged_alike, bends_at_corners, has_all_sentences, tells_turns, refuses_in_words, goes_far, speaks_german, finds_places, hears_nothing, is_renewed, has_no_network,
              is_printed, reads_broken_files, fits_everywhere, looks_otherwise, tells_states, is_tapped, is_large],
 }
 
