@@ -29,6 +29,10 @@ import sys
 import tempfile
 import threading
 import time
+from math import gcd
+
+from random_walls import corners_of
+from rooms import Venue, at, in_metres, set_up
 
 try:
     from selenium import webdriver
@@ -665,15 +669,14 @@ def tells_turns(page):
 
 HALL = f"#from={ID.format(53)}&to={ID.format(55)}&profile=walk"  # by the corners 15 and 37 of a hall with columns
 POINTS = [[5000, -500, 5000, -1000], [5000, -1000, 4050, -1650, 2950, -2350, 2000, -3000], [2000, -3000, 2000, -3500]]  # in centimetres, from the north to the south
-WALLED = ID.format(300)
 
 
 @contextlib.contextmanager
-def walls(page, venue):
-    """The page over a folder of examples/walls for a while."""
+def walls(page, venue="concourse", base=os.path.join(EXAMPLES, "walls")):
+    """The page over a folder in which ways go round walls, for a while."""
     station = page.site
     with tempfile.TemporaryDirectory() as folder:
-        page.site = Site(station.program, folder, venue, os.path.join(EXAMPLES, "walls"))
+        page.site = Site(station.program, folder, venue, base)
         try:
             yield
         finally:
@@ -688,7 +691,9 @@ def lines_of(page, picked=False):
 
 def bends_at_corners(page):
     """Round columns the line bends and the step is one; it is straight, and the page says so, where the map hasn't the corners of the table."""
-    with walls(page, "concourse"):
+    with walls(page):
+        table = subprocess.run([page.site.program, "links", page.site.base, "concourse", "walk"], capture_output=True, text=True).stdout
+        page.check("the parts have the links of the table", links_of(table) == links_of_parts(os.path.join(page.site.files, page.site.data, "links"), "walk"))
         page.open(HALL)
         page.says("answer", "45 m", "Checked: no shorter way")
         page.until("the line bends at both corners", lambda: lines_of(page) == POINTS)
@@ -711,6 +716,99 @@ def bends_at_corners(page):
                 page.says("answer", "Checked: no shorter way", "The map hasn't the corners here that the table of links has", "Walkway, level 0.", "35 m")
                 page.until("the line is straight there", lambda: lines_of(page) == [POINTS[0], POINTS[1][:2] + POINTS[1][-2:], POINTS[2]])
         page.picture("without-corners")
+
+
+def fin(base):
+    """A hall of 40 by 80 metres, into which a room stands from the north and keeps two places apart. A machine is at the room's south side, its door on the west."""
+    outline = [(0, 0), (40, 0), (40, 80), (22, 80), (22, 5), (18, 5), (18, 80), (0, 80)]
+    venue = Venue(*in_metres([(40, 80)])[0]).room([in_metres(outline)]).room([in_metres([(18, 5), (22, 5), (22, 80), (18, 80)])], number=301, category="room")
+    venue.anchor(*in_metres([(15, 78), (25, 78)])).anchor(*in_metres([(20, 40)]), first=43, unit=301).door(*in_metres([(18, 20), (18, 22)]))
+    (machine,) = in_metres([(20, 4.6)])
+    venue.add("amenity", 31, {"type": "Point", "coordinates": at(machine)}, {"category": "atm", "unit_ids": [ID.format(300)]})
+    os.makedirs(base)
+    set_up(base, True)
+    venue.write(os.path.join(base, "fin"))
+
+
+def reached(reply):
+    """The items of what can be reached of which the replies over the fin have objects."""
+    return [k for k, it in enumerate(reply["reached"]) if isinstance(it, dict)]
+
+
+# What is exchanged of the first corner that can be reached, the clause and the sentence of the page.
+SPOILED_REACHED = {
+    "its unit": (ID.format(300), "by its own numbers a shorter way may be there"),
+    "no corner of its unit": ({"node": ID.format(300)}, "it names a place or a corner"),
+    "corner 0": ({"corner": 0, "node": ID.format(300)}, "it names a place or a corner"),
+    "a corner that is null": ({"corner": None, "node": ID.format(300)}, "it names a place or a corner"),
+    "a corner too many": ({"corner": 3, "node": ID.format(300)}, "it names a place or a corner"),
+    "a corner of a place that has none": ({"corner": 1, "node": ID.format(41)}, "it names a place or a corner"),
+    "nothing": (None, "it names a place or a corner"),
+}
+
+
+def goes_round_walls(page):
+    """A line that bends far from both ends is in view as a whole, and marks keep off it; where a door is closed, rooms of which a corner can be reached are shaded."""
+    with tempfile.TemporaryDirectory() as folder:
+        fin(os.path.join(folder, "base"))
+        with walls(page, "fin", os.path.join(folder, "base")):
+            marks = "const done = arguments[0]; import('./map.js').then(({ shown }) => done(shown.drawn.marks.map(({ it, x, y }) => [it.id, x, y])))"
+            marked = lambda: {it: (x, y) for it, x, y in page.driver.execute_async_script(marks)}
+            page.open()
+            page.until("the machine has its mark", lambda: ID.format(31) in marked())
+            page.open(f"#from={ID.format(41)}&to={ID.format(42)}&profile=walk")
+            page.says("answer", "150 m", "Checked: no shorter way")
+            page.until("the line goes round", lambda: lines_of(page) == [[1500, -7800, 1800, -500, 2200, -500, 2500, -7800]])
+            for _ in ("the whole way", "its step"):
+                page.until("it is in view", lambda: is_in_view(page, marked()))
+                page.check("its machine has no mark on it", ID.format(31) not in marked())
+                page.push("#answer ol li button")
+            page.picture("round-a-room")
+            page.site.close(ID.format(101))
+            page.open(f"#from={ID.format(42)}&to={ID.format(43)}&profile=wheelchair")
+            page.says("answer", "There is no way without steps", "3 places can be reached", "Checked: there is none")
+            page.until("the hall is shaded", lambda: page.drawn("reached") == 1 and page.drawn("lines") == 0)
+            for kind, (other, sentence) in SPOILED_REACHED.items():
+                page.site.between.change = spoil_by(lambda reply: reply["reached"].__setitem__(reached(reply)[0], other))
+                page.ask_again() if page.count(".again") else page.open(page.script("return location.hash"))
+                page.says("answer", "Not proved: ", sentence)
+                page.check(f"{kind}: nothing is shaded", page.drawn("reached") == 0 and "Checked" not in page.text("answer"))
+            page.site.between.change = None
+
+
+def is_in_view(page, marks):
+    """Whether the corners of the fin's hall are in view, by where the marks of the two ends are."""
+    (west, y), (east, _) = marks[ID.format(41)], marks[ID.format(42)]
+    return 0 < west < east and 0 < y and y + 73 * (east - west) / 10 < page.driver.find_element(By.ID, "view").size["height"]
+
+
+def finds_corners(page):
+    """The corners of made rooms are those that random_walls.py finds, also where a turn is so small beside its products that rounding would change it; those of
+    30,000 rooms are there in a second."""
+    chance = random.Random(17)
+    rooms = [[[some_ring(chance) for _ in range(chance.randint(1, 3))] for _ in range(chance.randint(1, 2))] for _ in range(500)]
+    rows = [[[[value for place in [*ring, ring[0]] for value in place] for ring in rings] for rings in polygons] for polygons in rooms]
+    page.open()
+    wrong = [row for row, polygons, found in zip(rows, rooms, in_browser(page, "way.js", "cornersOf(it)", rows)) if found != [list(it) for it in corners_of(polygons)]]
+    page.check(f"{len(wrong)} rooms have other corners, as {wrong[:1]}", not wrong)
+    twice = [[[10, 10, 10, 20, 0, 20, 0, 0, 30, 0, 30, 20, 20, 20, 20, 10, 10, 10, 10, 10]]]
+    page.check("from the first position on, also where it is told twice", in_browser(page, "way.js", "cornersOf(it)", [twice]) == [[[10, 10], [20, 10]]])
+    (time,) = in_browser(page, "way.js", "((rooms) => { const begun = performance.now(); for (let k = 0; k < 30000; k += 1) cornersOf(rooms[k % rooms.length]); return Math.round(performance.now() - begun); })(it)", [rows])
+    page.check(f"the corners of 30,000 rooms in {time} ms", time < 1_000 * SLACK)
+    return [f"the corners of 30,000 rooms in {time} ms"]
+
+
+def some_ring(chance):
+    """Places of a ring: a few anywhere, some twice; or three of which the last is off a line of 20 kilometres by less than a product of its sides is rounded by."""
+    if chance.randrange(2):
+        most = chance.choice([3, 1_000, 10**8])
+        places = [(chance.randint(-most, most), chance.randint(-most, most)) for _ in range(chance.randint(3, 12))]
+        return [place for place in places for _ in range(chance.choice([1, 1, 1, 2]))] + [(most + 1, 0)]
+    x, y = next((x, y) for x, y in ((chance.randint(10**8, 2 * 10**8), chance.randint(10**8, 2 * 10**8)) for _ in range(1_000)) if gcd(x, y) == 1)
+    off = chance.randint(-3, 3)
+    v = off * pow(x, -1, y) % y
+    places = [(0, 0), (x, y), ((x * v - off) // y, v), (chance.randint(-10**8, 10**8), chance.randint(-10**8, 10**8))]
+    return places[:chance.choice([3, 4])]
 
 
 def boxes(page, *selectors):
@@ -984,13 +1082,19 @@ def judged_alike(page):
 
 
 def links_of(table):
-    """A table's links in order, with the identifiers of their ends."""
-    nodes = re.findall("^node (.*)$", table, re.M)
+    """A table's links in order, with the names of their ends."""
+    nodes = named(table)
     return sorted((nodes[int(a)], nodes[int(b)], int(cost), via) for a, b, cost, via in re.findall(r"^link (\d+) (\d+) (\d+) (\S+)$", table, re.M))
 
 
+def named(text):
+    """The nodes of a table by their identifiers and how often each stood there before: the k-th further line is corner k."""
+    nodes = re.findall("^node (.*)$", text, re.M)
+    return [(node, nodes[:k].count(node)) for k, node in enumerate(nodes)]
+
+
 def links_of_parts(folder, profile):
-    nodes, found = re.findall("^node (.*)$", read(os.path.join(folder, "parts.txt")), re.M), []
+    nodes, found = named(read(os.path.join(folder, "parts.txt"))), []
     for name in os.listdir(os.path.join(folder, profile)):
         lines = iter(read(os.path.join(folder, profile, name)).splitlines()[1:-1])
         for word, *words in map(str.split, lines):
@@ -1046,7 +1150,7 @@ def read(path):
 
 
 def in_browser(page, module, call, rows):
-    script = f"const [rows, done] = arguments; import('./{module}').then(({{ judgeTexts, judgeReply, readNodes, readPart, partsOf }}) => done(rows.map((it) => {call})), (wrong) => done([String(wrong)]))"
+    script = f"const [rows, done] = arguments; import('./{module}').then(({{ judgeTexts, judgeReply, readNodes, readPart, partsOf, cornersOf }}) => done(rows.map((it) => {call})), (wrong) => done([String(wrong)]))"
     return page.driver.execute_async_script(script, rows)
 
 
@@ -1112,7 +1216,7 @@ def take_looks(name, words, looks, make_page, make_site, longest):
 # What is looked at with a phone and at a desk, what says most first.
 LOOKS = {
     "phone": [asks_by_keyboard, goes_on_by_itself, is_closed_for_some, is_tapped],
-    "desk": [asks_by_keyboard, is_lied_to, judged_alike, bends_at_corners, has_all_sentences, tells_turns, refuses_in_words, goes_far, speaks_german, finds_places, hears_nothing, is_renewed, has_no_network,
+    "desk": [asks_by_keyboard, is_lied_to, judged_alike, bends_at_corners, goes_round_walls, finds_corners, has_all_sentences, tells_turns, refuses_in_words, goes_far, speaks_german, finds_places, hears_nothing, is_renewed, has_no_network,
              is_printed, reads_broken_files, fits_everywhere, looks_otherwise, tells_states, is_tapped, is_large],
 }
 
