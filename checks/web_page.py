@@ -1088,9 +1088,10 @@ def links_of(table):
 
 
 def named(text):
-    """The nodes of a table by their identifiers and how often each stood there before: the k-th further line is corner k."""
+    """The nodes of a table by their identifiers, those of corners with their numbers: the k-th further line of an identifier is corner k."""
     nodes = re.findall("^node (.*)$", text, re.M)
-    return [(node, nodes[:k].count(node)) for k, node in enumerate(nodes)]
+    before = [nodes[:k].count(node) for k, node in enumerate(nodes)]
+    return [f"{node} {corner}" if corner else node for node, corner in zip(nodes, before)]
 
 
 def links_of_parts(folder, profile):
