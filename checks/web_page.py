@@ -716,6 +716,12 @@ def bends_at_corners(page):
                 page.says("answer", "Checked: no shorter way", "The map hasn't the corners here that the table of links has", "Walkway, level 0.", "35 m")
                 page.until("the line is straight there", lambda: lines_of(page) == [POINTS[0], POINTS[1][:2] + POINTS[1][-2:], POINTS[2]])
         page.picture("without-corners")
+        page.open(HALL)
+        page.until("the way is kept", lambda: is_kept(page, "walk"))
+        page.site.stop(1)
+        page.open(HALL)
+        page.says("answer", "The server doesn't answer. This is the way of ", "Checked: no shorter way")
+        page.until("a kept way bends too", lambda: lines_of(page) == POINTS)
 
 
 def fin(base):
@@ -897,13 +903,17 @@ def is_printed(page):
     page.tell("Emulation.setEmulatedMedia", media="", features=[])
 
 
+def is_kept(page, profile):
+    """Whether the last way is one of this profile and is kept, and the worker is there that shows it without a network."""
+    kept = "const [profile, done] = arguments; caches.open('kept').then((it) => it.match('last-way.json')).then((it) => it && it.json()).then((it) => done(Boolean(it && it.reply.profile === profile)), () => done(false))"
+    return page.driver.execute_async_script(kept, profile) and page.script("return navigator.serviceWorker.controller !== null")
+
+
 def has_no_network(page):
     """What was once open shows the last way without a network, and from when it is."""
     page.open(WHEELCHAIR)
     page.says("answer", "60 m")
-    kept = "const done = arguments[0]; caches.open('kept').then((it) => it.match('last-way.json')).then((it) => it && it.json()).then((it) => done(Boolean(it && it.reply.profile === 'wheelchair')), () => done(false))"
-    page.until("the way is kept", lambda: page.driver.execute_async_script(kept))
-    page.until("the worker is there", lambda: page.script("return navigator.serviceWorker.controller !== null"))
+    page.until("the way is kept", lambda: is_kept(page, "wheelchair"))
     page.site.stop(1)
     page.open()
     page.says("answer", "The server doesn't answer. This is the way of ", "60 m", "Checked: no shorter way without steps")

@@ -12,7 +12,7 @@ class Cut:
     nodes of the links by each unit or relationship."""
 
     def __init__(self, lines, part_of):
-        self.texts, self.members, self.links, names = {}, {}, 0, []
+        self.texts, self.members, self.number_of, self.links, names = {}, {}, {}, 0, []
         if next(lines, b"").rstrip() != b"imdf-links 1":
             raise ValueError("the first line isn't that of a table of links")
         for via, rows in groupby(map(bytes.split, lines), key=lambda words: (words[0], words[-1] if words[0] == b"link" else b"")):
