@@ -465,36 +465,23 @@ SPOILS = {
 }
 
 
-# What is exchanged of a corner that a reply over the concourse names, and the sentence of the page.
-SPOILED_CORNERS = {
-    "another corner": (lambda reply: reply["steps"][1].update(corner=16), "one of its steps is no link that is open"),
-    "no corner": (lambda reply: reply["steps"][1].pop("corner"), "one of its steps is no link that is open"),
-    "a corner that the table hasn't": (lambda reply: reply["steps"][1].update(corner=57), "one of its steps is no link that is open"),
-    "a potential of such a corner": (lambda reply: mark_of_corner(reply).update(corner=57), "it names a place or a corner that the table of links doesn't know"),
-    "a potential of corner 0": (lambda reply: mark_of_corner(reply).update(corner=0), "it names a place or a corner that the table of links doesn't know"),
-    "a corner that is null": (lambda reply: mark_of_corner(reply).update(corner=None), "it names a place or a corner that the table of links doesn't know"),
-    "a corner that is a text": (lambda reply: mark_of_corner(reply).update(corner="15"), "it names a place or a corner that the table of links doesn't know"),
-    "a potential twice": (lambda reply: reply["potentials"].append(mark_of_corner(reply)), "its potentials aren't whole numbers, one a place"),
-    "a potential of a corner left out": (lambda reply: reply["potentials"].remove(mark_of_corner(reply)), "by its own numbers a shorter way may be there"),
-}
-
-
-def mark_of_corner(reply):
-    """The potential of the corner to which the second step leads."""
-    return next(mark for mark in reply["potentials"] if mark.get("corner") == 15)
-
-
-def is_lied_to(page):
-    """Of replies with something exchanged the page says what fails, and draws no way."""
-    told = {kind: sentence for kind, (_, _, sentence) in SPOILS.items() if sentence}
-    page.site.between.change = spoil_by(SPOILS[next(iter(told))][0])
-    page.open(WHEELCHAIR)
+def needs_proof(page, fragment, spoils):
+    """Of replies with something exchanged the page says what fails, where a sentence is told, and draws nothing."""
+    told = {kind: (spoil, sentence) for kind, (spoil, _, sentence) in spoils.items() if sentence}
+    page.site.between.change = spoil_by(next(iter(told.values()))[0])
+    page.open(fragment)
     page.says("answer", "Not proved: ")
-    for kind, sentence in told.items():
-        page.site.between.change = spoil_by(SPOILS[kind][0])
+    for kind, (spoil, sentence) in told.items():
+        page.site.between.change = spoil_by(spoil)
         page.ask_again()
         page.says("answer", "Not proved: ", sentence)
         page.check(f"{kind}: nothing is drawn", page.drawn("lines") == page.drawn("reached") == 0 and "Checked" not in page.text("answer"))
+    page.site.between.change = None
+
+
+def is_lied_to(page):
+    """Of replies with something exchanged, or of none, the page says what is wrong, and draws no way."""
+    needs_proof(page, WHEELCHAIR, SPOILS)
     page.picture("not-proved")
     page.site.between.change = lambda path, body: b"<html>" if path.startswith("/v1/route") else body
     page.ask_again()
@@ -689,11 +676,31 @@ def lines_of(page, picked=False):
     return page.driver.execute_async_script("const [only, done] = arguments; import('./map.js').then(({ shown }) => done(shown.news.lines.filter((it) => !only || it.isPicked).map((it) => it.points)))", picked)
 
 
+def mark_of_corner(reply):
+    """The potential of the corner to which the second step leads."""
+    return next(mark for mark in reply["potentials"] if mark.get("corner") == 15)
+
+
+# As SPOILS, of the corners that the reply over the hall with columns names.
+SPOILED_CORNERS = {
+    "another corner": (lambda reply: reply["steps"][1].update(corner=16), "step 2", "one of its steps is no link that is open"),
+    "a step to the unit": (lambda reply: reply["steps"][1].pop("corner"), "step 2", None),
+    "a step to a corner that the table hasn't": (lambda reply: reply["steps"][1].update(corner=57), "step 2", None),
+    "a step to no corner that is null": (lambda reply: reply["steps"][0].update(corner=None), "step 1", None),
+    "a potential of a corner that the table hasn't": (lambda reply: mark_of_corner(reply).update(corner=57), "node", "it names a place or a corner that the table of links doesn't know"),
+    "a potential of corner 0": (lambda reply: mark_of_corner(reply).update(corner=0), "node", None),
+    "a potential of a corner that is null": (lambda reply: mark_of_corner(reply).update(corner=None), "node", None),
+    "a potential of a corner that is a text": (lambda reply: mark_of_corner(reply).update(corner="15"), "node", None),
+    "a potential of a corner twice": (lambda reply: reply["potentials"].append(mark_of_corner(reply)), "potentials", None),
+    "a potential of a corner left out": (lambda reply: reply["potentials"].remove(mark_of_corner(reply)), "link", None),
+}
+
+
 def bends_at_corners(page):
     """Round columns the line bends and the step is one; it is straight, and the page says so, where the map hasn't the corners of the table."""
     with walls(page):
         table = subprocess.run([page.site.program, "links", page.site.base, "concourse", "walk"], capture_output=True, text=True).stdout
-        page.check("the parts have the links of the table", links_of(table) == links_of_parts(os.path.join(page.site.files, page.site.data, "links"), "walk"))
+        page.check("the parts have the links of the table", links_of(table) == links_of_parts(links_folder(page), "walk"))
         page.open(HALL)
         page.says("answer", "45 m", "Checked: no shorter way")
         page.until("the line bends at both corners", lambda: lines_of(page) == POINTS)
@@ -703,12 +710,8 @@ def bends_at_corners(page):
         page.push("#answer ol li:nth-child(2) button")
         page.until("the step that is picked bends too", lambda: lines_of(page, True) == POINTS[1:2])
         page.picture("round-columns")
-        for kind, (spoil, sentence) in SPOILED_CORNERS.items():
-            page.site.between.change = spoil_by(spoil)
-            page.ask_again() if page.count(".again") else page.open(HALL)
-            page.says("answer", "Not proved: ", sentence)
-            page.check(f"{kind}: nothing is drawn", page.drawn("lines") == 0 and "Checked" not in page.text("answer"))
-        page.site.between.change = None
+        needs_proof(page, HALL, SPOILED_CORNERS)
+        judges_spoiled(page, {"from": ID.format(53), "to": ID.format(55), "profile": "walk"}, [[ID.format(53), ID.format(43)], [ID.format(55), ID.format(45)]], SPOILED_CORNERS)
         outline = os.path.join(page.site.data, "walls", "0.json")
         for change in ((outline,), (outline, ",105000,155000,95000,155000]", ",95000,155000]"), (outline, "[[[", "[[7")):
             with page.site.broken(*change):
@@ -736,20 +739,20 @@ def fin(base):
     venue.write(os.path.join(base, "fin"))
 
 
-def reached(reply):
-    """The items of what can be reached of which the replies over the fin have objects."""
-    return [k for k, it in enumerate(reply["reached"]) if isinstance(it, dict)]
+def in_place_of_corner(other):
+    """Exchanges the first corner that can be reached."""
+    return lambda reply: reply["reached"].__setitem__(next(k for k, it in enumerate(reply["reached"]) if isinstance(it, dict)), other)
 
 
-# What is exchanged of the first corner that can be reached, the clause and the sentence of the page.
+# As SPOILS, of what can be reached in the hall of the fin.
 SPOILED_REACHED = {
-    "its unit": (ID.format(300), "by its own numbers a shorter way may be there"),
-    "no corner of its unit": ({"node": ID.format(300)}, "it names a place or a corner"),
-    "corner 0": ({"corner": 0, "node": ID.format(300)}, "it names a place or a corner"),
-    "a corner that is null": ({"corner": None, "node": ID.format(300)}, "it names a place or a corner"),
-    "a corner too many": ({"corner": 3, "node": ID.format(300)}, "it names a place or a corner"),
-    "a corner of a place that has none": ({"corner": 1, "node": ID.format(41)}, "it names a place or a corner"),
-    "nothing": (None, "it names a place or a corner"),
+    "a text for a corner": (in_place_of_corner(ID.format(300)), "link", "by its own numbers a shorter way may be there"),
+    "an object for no corner": (in_place_of_corner({"node": ID.format(300)}), "node", "it names a place or a corner"),
+    "corner 0": (in_place_of_corner({"corner": 0, "node": ID.format(300)}), "node", None),
+    "a corner that is null": (in_place_of_corner({"corner": None, "node": ID.format(300)}), "node", None),
+    "a corner that the table hasn't": (in_place_of_corner({"corner": 3, "node": ID.format(300)}), "node", None),
+    "a corner of a place": (in_place_of_corner({"corner": 1, "node": ID.format(41)}), "node", None),
+    "null": (in_place_of_corner(None), "node", None),
 }
 
 
@@ -774,12 +777,8 @@ def goes_round_walls(page):
             page.open(f"#from={ID.format(42)}&to={ID.format(43)}&profile=wheelchair")
             page.says("answer", "There is no way without steps", "3 places can be reached", "Checked: there is none")
             page.until("the hall is shaded", lambda: page.drawn("reached") == 1 and page.drawn("lines") == 0)
-            for kind, (other, sentence) in SPOILED_REACHED.items():
-                page.site.between.change = spoil_by(lambda reply: reply["reached"].__setitem__(reached(reply)[0], other))
-                page.ask_again() if page.count(".again") else page.open(page.script("return location.hash"))
-                page.says("answer", "Not proved: ", sentence)
-                page.check(f"{kind}: nothing is shaded", page.drawn("reached") == 0 and "Checked" not in page.text("answer"))
-            page.site.between.change = None
+            needs_proof(page, page.script("return location.hash"), SPOILED_REACHED)
+            judges_spoiled(page, {"from": ID.format(42), "to": ID.format(43), "profile": "wheelchair"}, [], SPOILED_REACHED)
 
 
 def is_in_view(page, marks):
@@ -1061,14 +1060,9 @@ def judged_alike(page):
         wanted = [printed(os.path.join(EXAMPLES, "check_route.py"), [base]) for base in bases]
         for base, one, other in zip(bases, found, wanted):
             page.check(f"{base}: texts.js says {one!r}, check_route.py {other!r}", one == other)
-        rows, links = list(made_replies(page)), os.path.join(page.site.files, page.site.data, "links")
+        rows, links = list(made_replies(page)), links_folder(page)
         whole = {profile: subprocess.run([page.site.program, "links", page.site.base, "station", profile], capture_output=True, text=True).stdout for profile in ("walk", "wheelchair")}
-        parts = {name: read(os.path.join(links, name)) for name in ["parts.txt"] + [f"{profile}/{part}.txt" for profile in whole for part in ("between", 0, 1)]}
-        call = """(([asked, reply, closures, anchors, files]) => { const table = readNodes(files["parts.txt"]);
-            const parts = new Map(["between", 0, 1].map((name) => [name, readPart(files[`${asked.profile}/${name}.txt`], table, name)]));
-            const some = new Map([...parts].filter(([name]) => name === "between" || partsOf(reply, table).has(name)));
-            return [parts, some].map((it) => judgeReply(asked, reply, closures, table, it, new Map(anchors))).join(" "); })(it)"""
-        found = in_browser(page, "check.js", call, [[*row, parts] for row in rows])
+        found = verdicts_of(page, rows)
         occupants = os.path.join(EXAMPLES, "station", "occupant.geojson")
         for (asked, reply, closures, _), one in zip(rows, found):
             files = [os.path.join(folder, name) for name in ("reply.json", "table.txt", "closures.json")]
@@ -1078,17 +1072,39 @@ def judged_alike(page):
             others = [printed(os.path.join(EXAMPLES, "route_reply.py"), [files[0], table, files[2], occupants]) for table in (files[1], os.path.join(links, asked["profile"]))]
             verdicts = [one == "proved proved", *(other == "proved" for other in others)]
             page.check(f"{json.dumps(reply)}: check.js says {one!r}, route_reply.py {others}", len(set(verdicts)) == 1)
-        asked = {"from": BAKERY, "to": TICKETS, "profile": "wheelchair"}
-        reply, closures = (json.loads(ask(page.site.server, target)[1]) for target in (f"/v1/route?from={BAKERY}&to={TICKETS}&profile=wheelchair&certificate=yes", "/v1/closures"))
-        spoiled = [copy.deepcopy(reply) for _ in SPOILS]
-        for it, (spoil, _, _) in zip(spoiled, SPOILS.values()):
-            spoil(it)
-        anchors = [[BAKERY, ID.format(41)], [TICKETS, ID.format(42)]]
-        for (kind, (_, clause, _)), one in zip(SPOILS.items(), in_browser(page, "check.js", call, [[asked, it, closures, anchors, parts] for it in spoiled])):
-            page.check(f"{kind}: {one}", re.fullmatch(f"(fails {clause}( .*)?) (fails {clause}( .*)?)", one))
+        judges_spoiled(page, {"from": BAKERY, "to": TICKETS, "profile": "wheelchair"}, [[BAKERY, ID.format(41)], [TICKETS, ID.format(42)]], SPOILS)
         for profile, table in whole.items():
             page.check(f"the parts of {profile} have the links of its table", links_of(table) == links_of_parts(links, profile))
     return [f"{len(bases)} made answers and {len(rows)} replies judged alike"]
+
+
+def links_folder(page):
+    return os.path.join(page.site.files, page.site.data, "links")
+
+
+def verdicts_of(page, rows):
+    """What check.js says of rows of what was asked, a reply, closures and anchors, by all parts of the profile's table and by those alone that it needs."""
+    names = ["between", *range(len(page.site.about["levels"]))]
+    files = {profile: [read(os.path.join(links_folder(page), profile, f"{name}.txt")) for name in names] for profile in page.site.about["profiles"]}
+    call = """(([asked, reply, closures, anchors, nodes, names, texts]) => { const table = readNodes(nodes);
+        const parts = new Map(names.map((name, k) => [name, readPart(texts[k], table, name)]));
+        const some = new Map([...parts].filter(([name]) => name === "between" || partsOf(reply, table).has(name)));
+        return [parts, some].map((it) => judgeReply(asked, reply, closures, table, it, new Map(anchors))).join(" "); })(it)"""
+    nodes = read(os.path.join(links_folder(page), "parts.txt"))
+    return in_browser(page, "check.js", call, [[*row, nodes, names, files[row[0]["profile"]]] for row in rows])
+
+
+def judges_spoiled(page, asked, anchors, spoils):
+    """Of the server's reply with something exchanged check.js says what fails."""
+    target = f"/v1/route?from={asked['from']}&to={asked['to']}&profile={asked['profile']}&certificate=yes"
+    reply, closures = (json.loads(ask(page.site.server, it)[1]) for it in (target, "/v1/closures"))
+    spoiled = [copy.deepcopy(reply) for _ in spoils]
+    for it, (spoil, _, _) in zip(spoiled, spoils.values()):
+        spoil(it)
+    found = verdicts_of(page, [[asked, it, closures, anchors] for it in (reply, *spoiled)])
+    page.check(f"the reply as it is: {found[0]}", found[0] == "proved proved")
+    for (kind, (_, clause, _)), one in zip(spoils.items(), found[1:]):
+        page.check(f"{kind}: {one}", re.fullmatch(f"(fails {clause}( .*)?) (fails {clause}( .*)?)", one))
 
 
 def links_of(table):
