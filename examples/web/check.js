@@ -122,7 +122,7 @@ export const readPart = (text, { mark, nodes, partOf }, name) => orStop(() => {
 /** The number of the node of this identifier, or with a corner of that corner of it; undefined where the table hasn't it. */
 const numberOf = ({ numbers, corners }, id, corner) => (corner === undefined ? numbers.get(id) : Number.isSafeInteger(corner) ? corners.get(id)?.[corner - 1] : undefined);
 
-// The numbers of the nodes that a step, a potential and an item of `reached` name: of these a text names no corner, and an object nothing else.
+// The numbers of the nodes that a step, a potential and an item of `reached` name. Such an item is an object where it is a corner, else a text.
 const numberOfStep = (table, step) => numberOf(table, step?.to, step?.corner);
 const numberOfMark = (table, mark) => numberOf(table, mark?.node, mark?.corner);
 const numberOfReached = (table, it) => (typeof it === "string" ? numberOf(table, it) : numberOf(table, it?.node, it?.corner ?? null));

@@ -140,8 +140,7 @@ class Venue:
         self.passages.append({"id": id, "category": category, "ends": ends, "levels": levels} | ({"name": named} if (named := names(its.get("name"))) else {}))
 
     def walls(self, units):
-        """By level the polygons of these units in which one walks round walls, in whole nanodegrees east and north of where all is counted from. Nobody
-        turns on a moving walkway."""
+        """By level the polygons of these units that can have corners, each ring in whole nanodegrees east and north of where all is counted from."""
         found, counted = [{} for _ in self.levels], [round(degrees * 10**9) for degrees in self.origin]
         for feature in self.file("unit.geojson", parse_float=Decimal)["features"]:
             id = identifier(feature["id"])
