@@ -687,7 +687,7 @@ SPOILED_CORNERS = {
     "a step to the unit": (lambda reply: reply["steps"][1].pop("corner"), "step 2", None),
     "a step to a corner that the table hasn't": (lambda reply: reply["steps"][1].update(corner=57), "step 2", None),
     "a step to no corner that is null": (lambda reply: reply["steps"][0].update(corner=None), "step 1", None),
-    "a potential of a corner that the table hasn't": (lambda reply: mark_of_corner(reply).update(corner=57), "node", "it names a place or a corner that the table of links doesn't know"),
+    "a potential of a corner that the table hasn't": (lambda reply: mark_of_corner(reply).update(corner=57), "node", "it names a place or a corner that the table of links doesn't know, or one twice"),
     "a potential of corner 0": (lambda reply: mark_of_corner(reply).update(corner=0), "node", None),
     "a potential of a corner that is null": (lambda reply: mark_of_corner(reply).update(corner=None), "node", None),
     "a potential of a corner that is a text": (lambda reply: mark_of_corner(reply).update(corner="15"), "node", None),
@@ -753,6 +753,7 @@ SPOILED_REACHED = {
     "a corner that the table hasn't": (in_place_of_corner({"corner": 3, "node": ID.format(300)}), "node", None),
     "a corner of a place": (in_place_of_corner({"corner": 1, "node": ID.format(41)}), "node", None),
     "null": (in_place_of_corner(None), "node", None),
+    "a corner twice": (lambda reply: reply["reached"].append(next(it for it in reply["reached"] if isinstance(it, dict))), "node", None),
 }
 
 

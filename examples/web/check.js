@@ -196,7 +196,7 @@ export function judgeReply(asked, reply, closures, table, parts, anchors) {
     need(wanted.every(Boolean), "part");
     if (reply.result === "none") {
       const reached = new Set(list(reply.reached).map((it) => numberOfReached(table, it)));
-      need([...reached].every(isThere), "node");
+      need([...reached].every(isThere) && reached.size === reply.reached.length, "node");
       need(reached.has(start), "start");
       need(!reached.has(end), "finish");
       const isReached = (node) => reached.has(node);

@@ -29,7 +29,7 @@ export default {
     "table.unread": "The table of links can't be read ({stop}), so no way can be checked.", "table.mark": "The map is being renewed. Load the page again.",
     // Answers.
     "not.proved": "Not proved: {why}. No way is drawn.", "fails.version": "it isn't of the version that is closed as told", "fails.asked": "it is an answer to another question",
-    "fails.place": "the table of links doesn't know one of the two places", "fails.table": "the table of links is of another version of the venue", "fails.part": "a part of the table is missing", "fails.node": "it names a place or a corner that the table of links doesn't know", "fails.form": "it isn't of its form", "fails.closures": "what is closed isn't told in its form",
+    "fails.place": "the table of links doesn't know one of the two places", "fails.table": "the table of links is of another version of the venue", "fails.part": "a part of the table is missing", "fails.node": "it names a place or a corner that the table of links doesn't know, or one twice", "fails.form": "it isn't of its form", "fails.closures": "what is closed isn't told in its form",
     "fails.potentials": "its potentials aren't whole numbers, one a place", "fails.step": "one of its steps is no link that is open", "fails.end": "its steps don't lead to the end",
     "fails.sum": "its steps don't add up to its cost", "fails.start": "it doesn't begin at the start", "fails.finish": "what it says of the end contradicts itself", "fails.link": "by its own numbers a shorter way may be there",
     "checked.walk": "Checked: no shorter way", "checked.wheelchair": "Checked: no shorter way without steps", "checked.other": "Checked: no shorter way for {profile}", "checked.none": "Checked: there is none",
