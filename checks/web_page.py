@@ -655,7 +655,7 @@ def tells_turns(page):
 
 
 HALL = f"#from={ID.format(53)}&to={ID.format(55)}&profile=walk"  # by the corners 15 and 37 of a hall with columns
-POINTS = [[5000, -500, 5000, -1000], [5000, -1000, 4050, -1650, 2950, -2350, 2000, -3000], [2000, -3000, 2000, -3500]]  # in centimetres, from the north to the south
+POINTS = [[5000, -500, 5000, -1000], [5000, -1000, 4050, -1650, 2950, -2350, 2000, -3000], [2000, -3000, 2000, -3500]]  # in centimetres to the east and to the south
 
 
 @contextlib.contextmanager
@@ -686,7 +686,7 @@ SPOILED_CORNERS = {
     "another corner": (lambda reply: reply["steps"][1].update(corner=16), "step 2", "one of its steps is no link that is open"),
     "a step to the unit": (lambda reply: reply["steps"][1].pop("corner"), "step 2", None),
     "a step to a corner that the table hasn't": (lambda reply: reply["steps"][1].update(corner=57), "step 2", None),
-    "a step to no corner that is null": (lambda reply: reply["steps"][0].update(corner=None), "step 1", None),
+    "a step with a corner that is null": (lambda reply: reply["steps"][0].update(corner=None), "step 1", None),
     "a potential of a corner that the table hasn't": (lambda reply: mark_of_corner(reply).update(corner=57), "node", "it names a place or a corner that the table of links doesn't know, or one twice"),
     "a potential of corner 0": (lambda reply: mark_of_corner(reply).update(corner=0), "node", None),
     "a potential of a corner that is null": (lambda reply: mark_of_corner(reply).update(corner=None), "node", None),
