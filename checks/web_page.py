@@ -1,8 +1,8 @@
 #!/usr/bin/python3
 """Opens the page of examples/web in a browser, as visitors with a phone and at a desk do, over a copy of the example station and a venue of fifty
 levels that `venue serve` serves behind nginx: ways by keyboard alone, what is closed meanwhile, for all or for some, replies with something
-exchanged, files that are missing or broken, two languages, a publication, print, and no network. And has check.js judge the made answers of compare_checkers.py,
-and replies with their certificates, beside the checkers in Python.
+exchanged, files that are missing or broken, two languages, a publication, print, and no network; and over the rooms with walls of examples/walls, ways
+round corners. And has check.js judge the made answers of compare_checkers.py, and replies with their certificates, beside the checkers in Python.
 
 usage: web_page.py [PROGRAM [large | LOOK ..]]   (without PROGRAM the launcher ./venue, which builds the program if need be)
 With `large` it takes a venue of 100,000 features alone, and prints how long the page takes for it. With names of looks, as is_printed, it
@@ -29,6 +29,10 @@ import sys
 import tempfile
 import threading
 import time
+from math import gcd
+
+from random_walls import corners_of
+from rooms import Venue, at, in_metres, set_up
 
 try:
     from selenium import webdriver
@@ -407,13 +411,13 @@ def is_tapped(page):
     page.check("a tap chooses", page.value("from") == "Bakery")
 
 
-def spoil_of(kind):
+def spoil_by(spoil):
     """What exchanges one thing of a reply of /v1/route."""
     def change(path, body):
         if not path.startswith("/v1/route"):
             return body
         reply = json.loads(body)
-        SPOILS[kind][0](reply)
+        spoil(reply)
         return json.dumps(reply).encode()
     return change
 
@@ -461,17 +465,23 @@ SPOILS = {
 }
 
 
-def is_lied_to(page):
-    """Of replies with something exchanged the page says what fails, and draws no way."""
-    told = {kind: sentence for kind, (_, _, sentence) in SPOILS.items() if sentence}
-    page.site.between.change = spoil_of(next(iter(told)))
-    page.open(WHEELCHAIR)
+def needs_proof(page, fragment, spoils):
+    """Of replies with something exchanged the page says what fails, where a sentence is told, and draws nothing."""
+    told = {kind: (spoil, sentence) for kind, (spoil, _, sentence) in spoils.items() if sentence}
+    page.site.between.change = spoil_by(next(iter(told.values()))[0])
+    page.open(fragment)
     page.says("answer", "Not proved: ")
-    for kind, sentence in told.items():
-        page.site.between.change = spoil_of(kind)
+    for kind, (spoil, sentence) in told.items():
+        page.site.between.change = spoil_by(spoil)
         page.ask_again()
         page.says("answer", "Not proved: ", sentence)
         page.check(f"{kind}: nothing is drawn", page.drawn("lines") == page.drawn("reached") == 0 and "Checked" not in page.text("answer"))
+    page.site.between.change = None
+
+
+def is_lied_to(page):
+    """Of replies with something exchanged, or of none, the page says what is wrong, and draws no way."""
+    needs_proof(page, WHEELCHAIR, SPOILS)
     page.picture("not-proved")
     page.site.between.change = lambda path, body: b"<html>" if path.startswith("/v1/route") else body
     page.ask_again()
@@ -520,7 +530,7 @@ def reads_broken_files(page):
         (("site.json", '"kx"', "kx"), "trouble", "The settings of this site can't be read, so there is no map."),
         ((f"{data}/links/parts.txt",), "answer", "The table of links isn't there, so no way can be checked."),
         ((f"{data}/links/parts.txt", "imdf-parts 1", "imdf-parts 2"), "answer", "The table of links is of another version than this page reads"),
-        ((f"{data}/links/parts.txt", ID.format(301), ID.format(302)), "answer", "The table of links can't be read (form parts.txt twice)"),
+        ((f"{data}/links/parts.txt", ID.format(301), ID.format(302)), "answer", "The map is being renewed."),
         ((f"{data}/links/parts.txt", f"node {ID.format(404)}", f"node {ID.format(405)}"), "answer", "The map is being renewed."),
         ((f"{data}/links/wheelchair/between.txt",), "answer", "The table of links isn't there, so no way can be checked."),
         ((f"{data}/links/wheelchair/0.txt", page.site.about["mark"], "0" * 16), "answer", "The map is being renewed. Load the page again."),
@@ -590,7 +600,7 @@ def has_all_sentences(page):
     page.open()
     compare_sentences(page, texts, tables_of(page))
     weight = sum(len(text.encode()) for name, text in texts.items() if name != "texts.js") + sum(os.path.getsize(os.path.join(web, name)) for name in ("en.js", "de.js"))
-    page.check(f"page and script have {weight} bytes, at most 120,000", weight <= 120_000)
+    page.check(f"page and script have {weight} bytes, at most 125,000", weight <= 125_000)
 
 
 def tables_of(page):
@@ -621,7 +631,7 @@ def compare_sentences(page, texts, tables, built=()):
 
 
 def tells_turns(page):
-    """Turns beyond 30 degrees, names that are passed, lengths as people say them, and one mistake in a word, by made things on a level of their own."""
+    """Turns beyond 30 degrees, names that are passed, also on a leg with bends, lengths as people say them, and one mistake in a word, by made things on a level of their own."""
     page.open()
     found = page.driver.execute_async_script("""const done = arguments[0];
         Promise.all(['way', 'store', 'search'].map((name) => import(`./${name}.js`))).then(([way, { features }, { isNear }]) => {
@@ -632,14 +642,179 @@ def tells_turns(page):
           const door = { ...point('door', 1500, 500), rooms: [hall, shop] }, far = { ...point('far', 1500, 700), rooms: [hall, { ...shop, name: { en: 'Far' } }] };
           hall.doors.push(...all, door, far);
           for (const it of [hall, shop, door, far, ...all]) features.set(it.id, it);
-          const leg = (from, to) => ({ from, to, via: 'hall', cost: 3000, passage: null, levels: [0, 0] });
+          const leg = (from, to, ...bends) => ({ from, to, via: 'hall', cost: 3000, passage: null, levels: [0, 0], bends });
           const turns = ['c', 'd', 'e', 'f', 'g'].map((to) => way.turnBetween(leg('a', 'b'), leg('b', to)));
+          turns.push(way.turnBetween(leg('a', 'b', [3000, 1000]), leg('b', 'c', [2000, 0], [2000, 2000])), way.turnBetween(leg('a', 'b', [2990, 0]), leg('b', 'c', [3000, 10])));
           const step = { legs: [leg('a', 'b')], from: 'a', to: 'b', levels: [0, 0] };
-          done([turns, way.passedOn(leg('a', 'b')), way.sentenceOf(step, null, ''), [240, 840, 5270, 8683, 46400, 123400].map(way.spokenLength), [2000, 10000, 21000].map(way.spokenTime),
+          done([turns, way.passedOn(leg('a', 'b')), way.passedOn(leg('a', 'b', [0, 800], [3000, 800])), way.passedOn(leg('a', 'b', [0, -800], [3000, -800])),
+            way.sentenceOf(step, null, ''), [240, 840, 5270, 8683, 46400, 123400].map(way.spokenLength), [2000, 10000, 21000].map(way.spokenTime),
             [['bakrey', 'bakery'], ['bakey', 'bakery'], ['bakkery', 'bakery'], ['pakery', 'bakery'], ['bkary', 'bakery'], ['toil', 'toilet']].map(([a, b]) => isNear(a, b))]);
         }, (wrong) => done([String(wrong)]));""")
-    page.check(f"made turns and names: {found}", found == [["right", "left", None, "right", "back"], ["Florist"], "Go along the walkway, past Florist, to the door",
+    page.check(f"made turns and names: {found}", found == [["right", "left", None, "right", "back", "left", "right"], ["Florist"], ["Far", "Florist"], [], "Go along the walkway, past Florist, to the door",
         ["2 m", "8 m", "55 m", "85 m", "460 m", "1.2 km"], ["less than a minute", "about 1 minute", "about 3 minutes"], [True, True, True, True, False, True]])
+
+
+HALL = f"#from={ID.format(53)}&to={ID.format(55)}&profile=walk"  # by the corners 15 and 37 of a hall with columns
+POINTS = [[5000, -500, 5000, -1000], [5000, -1000, 4050, -1650, 2950, -2350, 2000, -3000], [2000, -3000, 2000, -3500]]  # in centimetres to the east and to the south
+
+
+@contextlib.contextmanager
+def walls(page, venue="concourse", base=os.path.join(EXAMPLES, "walls")):
+    """The page over a folder in which ways go round walls, for a while."""
+    station = page.site
+    with tempfile.TemporaryDirectory() as folder:
+        page.site = Site(station.program, folder, venue, base)
+        try:
+            yield
+        finally:
+            page.site.stop()
+            page.site = station
+
+
+def lines_of(page, picked=False):
+    """The points of the lines that the map has drawn, or of those of the step that is picked."""
+    return page.driver.execute_async_script("const [only, done] = arguments; import('./map.js').then(({ shown }) => done(shown.news.lines.filter((it) => !only || it.isPicked).map((it) => it.points)))", picked)
+
+
+def mark_of_corner(reply):
+    """The potential of the corner to which the second step leads."""
+    return next(mark for mark in reply["potentials"] if mark.get("corner") == 15)
+
+
+# As SPOILS, of the corners that the reply over the hall with columns names.
+SPOILED_CORNERS = {
+    "another corner": (lambda reply: reply["steps"][1].update(corner=16), "step 2", "one of its steps is no link that is open"),
+    "a step to the unit": (lambda reply: reply["steps"][1].pop("corner"), "step 2", None),
+    "a step to a corner that the table hasn't": (lambda reply: reply["steps"][1].update(corner=57), "step 2", None),
+    "a step with a corner that is null": (lambda reply: reply["steps"][0].update(corner=None), "step 1", None),
+    "a potential of a corner that the table hasn't": (lambda reply: mark_of_corner(reply).update(corner=57), "node", "it names a place or a corner that the table of links doesn't know, or one twice"),
+    "a potential of corner 0": (lambda reply: mark_of_corner(reply).update(corner=0), "node", None),
+    "a potential of a corner that is null": (lambda reply: mark_of_corner(reply).update(corner=None), "node", None),
+    "a potential of a corner that is a text": (lambda reply: mark_of_corner(reply).update(corner="15"), "node", None),
+    "a potential of a corner twice": (lambda reply: reply["potentials"].append(mark_of_corner(reply)), "potentials", None),
+    "a potential of a corner left out": (lambda reply: reply["potentials"].remove(mark_of_corner(reply)), "link", None),
+}
+
+
+def bends_at_corners(page):
+    """Round columns the line bends and the step is one; it is straight, and the page says so, where the map hasn't the corners of the table."""
+    with walls(page):
+        table = subprocess.run([page.site.program, "links", page.site.base, "concourse", "walk"], capture_output=True, text=True).stdout
+        page.check("the parts have the links of the table", links_of(table) == links_of_parts(links_folder(page), "walk"))
+        page.open(HALL)
+        page.says("answer", "45 m", "Checked: no shorter way")
+        page.until("the line bends at both corners", lambda: lines_of(page) == POINTS)
+        rows = [row.text.split("\n") for row in page.driver.find_elements(By.CSS_SELECTOR, "#answer ol li")]
+        page.check(f"three steps {rows}", [row[-1] for row in rows] == ["5 m", "35 m", "5 m"] and rows[1][0].endswith("Go along the walkway to the door of E"))
+        page.check("the exact length", "46.08 m walked" in page.script("return document.querySelector('#answer details').textContent"))
+        page.push("#answer ol li:nth-child(2) button")
+        page.until("the step that is picked bends too", lambda: lines_of(page, True) == POINTS[1:2])
+        page.picture("round-columns")
+        needs_proof(page, HALL, SPOILED_CORNERS)
+        judges_spoiled(page, {"from": ID.format(53), "to": ID.format(55), "profile": "walk"}, [[ID.format(53), ID.format(43)], [ID.format(55), ID.format(45)]], SPOILED_CORNERS)
+        outline = os.path.join(page.site.data, "walls", "0.json")
+        for change in ((outline,), (outline, ",105000,155000,95000,155000]", ",95000,155000]"), (outline, "[[[", "[[7")):
+            with page.site.broken(*change):
+                page.open(HALL)
+                page.says("answer", "Checked: no shorter way", "The map hasn't the corners here that the table of links has", "Walkway, level 0.", "35 m")
+                page.until("the line is straight there", lambda: lines_of(page) == [POINTS[0], POINTS[1][:2] + POINTS[1][-2:], POINTS[2]])
+        page.picture("without-corners")
+        page.open(HALL)
+        page.until("the way is kept", lambda: is_kept(page, "walk"))
+        page.site.stop(1)
+        page.open(HALL)
+        page.says("answer", "The server doesn't answer. This is the way of ", "Checked: no shorter way")
+        page.until("a kept way bends too", lambda: lines_of(page) == POINTS)
+
+
+def fin(base):
+    """A hall of 40 by 80 metres, into which a room stands from the north and keeps two places apart. A machine is at the room's south side, its door on the west."""
+    outline = [(0, 0), (40, 0), (40, 80), (22, 80), (22, 5), (18, 5), (18, 80), (0, 80)]
+    venue = Venue(*in_metres([(40, 80)])[0]).room([in_metres(outline)]).room([in_metres([(18, 5), (22, 5), (22, 80), (18, 80)])], number=301, category="room")
+    venue.anchor(*in_metres([(15, 78), (25, 78)])).anchor(*in_metres([(20, 40)]), first=43, unit=301).door(*in_metres([(18, 20), (18, 22)]))
+    (machine,) = in_metres([(20, 4.6)])
+    venue.add("amenity", 31, {"type": "Point", "coordinates": at(machine)}, {"category": "atm", "unit_ids": [ID.format(300)]})
+    os.makedirs(base)
+    set_up(base, True)
+    venue.write(os.path.join(base, "fin"))
+
+
+def in_place_of_corner(other):
+    """Exchanges the first corner that can be reached."""
+    return lambda reply: reply["reached"].__setitem__(next(k for k, it in enumerate(reply["reached"]) if isinstance(it, dict)), other)
+
+
+# As SPOILS, of what can be reached in the hall of the fin.
+SPOILED_REACHED = {
+    "a text for a corner": (in_place_of_corner(ID.format(300)), "link", "by its own numbers a shorter way may be there"),
+    "an object for no corner": (in_place_of_corner({"node": ID.format(300)}), "node", "it names a place or a corner"),
+    "corner 0": (in_place_of_corner({"corner": 0, "node": ID.format(300)}), "node", None),
+    "a corner that is null": (in_place_of_corner({"corner": None, "node": ID.format(300)}), "node", None),
+    "a corner that the table hasn't": (in_place_of_corner({"corner": 3, "node": ID.format(300)}), "node", None),
+    "a corner of a place": (in_place_of_corner({"corner": 1, "node": ID.format(41)}), "node", None),
+    "null": (in_place_of_corner(None), "node", None),
+    "a corner twice": (lambda reply: reply["reached"].append(next(it for it in reply["reached"] if isinstance(it, dict))), "node", None),
+}
+
+
+def goes_round_walls(page):
+    """A line that bends far from both ends is in view as a whole, and marks keep off it; where a door is closed, rooms of which a corner can be reached are shaded."""
+    with tempfile.TemporaryDirectory() as folder:
+        fin(os.path.join(folder, "base"))
+        with walls(page, "fin", os.path.join(folder, "base")):
+            marks = "const done = arguments[0]; import('./map.js').then(({ shown }) => done(shown.drawn.marks.map(({ it, x, y }) => [it.id, x, y])))"
+            marked = lambda: {it: (x, y) for it, x, y in page.driver.execute_async_script(marks)}
+            page.open()
+            page.until("the machine has its mark", lambda: ID.format(31) in marked())
+            page.open(f"#from={ID.format(41)}&to={ID.format(42)}&profile=walk")
+            page.says("answer", "150 m", "Checked: no shorter way")
+            page.until("the line goes round", lambda: lines_of(page) == [[1500, -7800, 1800, -500, 2200, -500, 2500, -7800]])
+            for _ in ("the whole way", "its step"):
+                page.until("it is in view", lambda: is_in_view(page, marked()))
+                page.check("its machine has no mark on it", ID.format(31) not in marked())
+                page.push("#answer ol li button")
+            page.picture("round-a-room")
+            page.site.close(ID.format(101))
+            page.open(f"#from={ID.format(42)}&to={ID.format(43)}&profile=wheelchair")
+            page.says("answer", "There is no way without steps", "3 places can be reached", "Checked: there is none")
+            page.until("the hall is shaded", lambda: page.drawn("reached") == 1 and page.drawn("lines") == 0)
+            needs_proof(page, page.script("return location.hash"), SPOILED_REACHED)
+            judges_spoiled(page, {"from": ID.format(42), "to": ID.format(43), "profile": "wheelchair"}, [], SPOILED_REACHED)
+
+
+def is_in_view(page, marks):
+    """Whether the corners of the fin's hall are in view, by where the marks of the two ends are."""
+    (west, y), (east, _) = marks[ID.format(41)], marks[ID.format(42)]
+    return 0 < west < east and 0 < y and y + 73 * (east - west) / 10 < page.driver.find_element(By.ID, "view").size["height"]
+
+
+def finds_corners(page):
+    """The corners of made rooms are those that random_walls.py finds, also where a turn is so small beside its products that rounding would change it; those of
+    30,000 rooms are there in a second."""
+    chance = random.Random(17)
+    rooms = [[[some_ring(chance) for _ in range(chance.randint(1, 3))] for _ in range(chance.randint(1, 2))] for _ in range(500)]
+    rows = [[[[value for place in [*ring, ring[0]] for value in place] for ring in rings] for rings in polygons] for polygons in rooms]
+    page.open()
+    wrong = [row for row, polygons, found in zip(rows, rooms, in_browser(page, "way.js", "cornersOf(it)", rows)) if found != [list(it) for it in corners_of(polygons)]]
+    page.check(f"{len(wrong)} rooms have other corners, as {wrong[:1]}", not wrong)
+    twice = [[[10, 10, 10, 20, 0, 20, 0, 0, 30, 0, 30, 20, 20, 20, 20, 10, 10, 10, 10, 10]]]
+    page.check("from the first position on, also where it is told twice", in_browser(page, "way.js", "cornersOf(it)", [twice]) == [[[10, 10], [20, 10]]])
+    (time,) = in_browser(page, "way.js", "((rooms) => { const begun = performance.now(); for (let k = 0; k < 30000; k += 1) cornersOf(rooms[k % rooms.length]); return Math.round(performance.now() - begun); })(it)", [rows])
+    page.check(f"the corners of 30,000 rooms in {time} ms", time < 1_000 * SLACK)
+    return [f"the corners of 30,000 rooms in {time} ms"]
+
+
+def some_ring(chance):
+    """Places of a ring: a few anywhere, some twice; or three of which the last is off a line of 20 kilometres by less than a product of its sides is rounded by."""
+    if chance.randrange(2):
+        most = chance.choice([3, 1_000, 10**8])
+        places = [(chance.randint(-most, most), chance.randint(-most, most)) for _ in range(chance.randint(3, 12))]
+        return [place for place in places for _ in range(chance.choice([1, 1, 1, 2]))] + [(most + 1, 0)]
+    x, y = next((x, y) for x, y in ((chance.randint(10**8, 2 * 10**8), chance.randint(10**8, 2 * 10**8)) for _ in range(1_000)) if gcd(x, y) == 1)
+    off = chance.randint(-3, 3)
+    v = off * pow(x, -1, y) % y
+    places = [(0, 0), (x, y), ((x * v - off) // y, v), (chance.randint(-10**8, 10**8), chance.randint(-10**8, 10**8))]
+    return places[:chance.choice([3, 4])]
 
 
 def boxes(page, *selectors):
@@ -728,13 +903,17 @@ def is_printed(page):
     page.tell("Emulation.setEmulatedMedia", media="", features=[])
 
 
+def is_kept(page, profile):
+    """Whether the last way is one of this profile and is kept, and the worker is there that shows it without a network."""
+    kept = "const [profile, done] = arguments; caches.open('kept').then((it) => it.match('last-way.json')).then((it) => it && it.json()).then((it) => done(Boolean(it && it.reply.profile === profile)), () => done(false))"
+    return page.driver.execute_async_script(kept, profile) and page.script("return navigator.serviceWorker.controller !== null")
+
+
 def has_no_network(page):
     """What was once open shows the last way without a network, and from when it is."""
     page.open(WHEELCHAIR)
     page.says("answer", "60 m")
-    kept = "const done = arguments[0]; caches.open('kept').then((it) => it.match('last-way.json')).then((it) => it && it.json()).then((it) => done(Boolean(it && it.reply.profile === 'wheelchair')), () => done(false))"
-    page.until("the way is kept", lambda: page.driver.execute_async_script(kept))
-    page.until("the worker is there", lambda: page.script("return navigator.serviceWorker.controller !== null"))
+    page.until("the way is kept", lambda: is_kept(page, "wheelchair"))
     page.site.stop(1)
     page.open()
     page.says("answer", "The server doesn't answer. This is the way of ", "60 m", "Checked: no shorter way without steps")
@@ -882,14 +1061,9 @@ def judged_alike(page):
         wanted = [printed(os.path.join(EXAMPLES, "check_route.py"), [base]) for base in bases]
         for base, one, other in zip(bases, found, wanted):
             page.check(f"{base}: texts.js says {one!r}, check_route.py {other!r}", one == other)
-        rows, links = list(made_replies(page)), os.path.join(page.site.files, page.site.data, "links")
+        rows, links = list(made_replies(page)), links_folder(page)
         whole = {profile: subprocess.run([page.site.program, "links", page.site.base, "station", profile], capture_output=True, text=True).stdout for profile in ("walk", "wheelchair")}
-        parts = {name: read(os.path.join(links, name)) for name in ["parts.txt"] + [f"{profile}/{part}.txt" for profile in whole for part in ("between", 0, 1)]}
-        call = """(([asked, reply, closures, anchors, files]) => { const table = readNodes(files["parts.txt"]);
-            const parts = new Map(["between", 0, 1].map((name) => [name, readPart(files[`${asked.profile}/${name}.txt`], table, name)]));
-            const some = new Map([...parts].filter(([name]) => name === "between" || partsOf(reply, table).has(name)));
-            return [parts, some].map((it) => judgeReply(asked, reply, closures, table, it, new Map(anchors))).join(" "); })(it)"""
-        found = in_browser(page, "check.js", call, [[*row, parts] for row in rows])
+        found = verdicts_of(page, rows)
         occupants = os.path.join(EXAMPLES, "station", "occupant.geojson")
         for (asked, reply, closures, _), one in zip(rows, found):
             files = [os.path.join(folder, name) for name in ("reply.json", "table.txt", "closures.json")]
@@ -899,27 +1073,56 @@ def judged_alike(page):
             others = [printed(os.path.join(EXAMPLES, "route_reply.py"), [files[0], table, files[2], occupants]) for table in (files[1], os.path.join(links, asked["profile"]))]
             verdicts = [one == "proved proved", *(other == "proved" for other in others)]
             page.check(f"{json.dumps(reply)}: check.js says {one!r}, route_reply.py {others}", len(set(verdicts)) == 1)
-        asked = {"from": BAKERY, "to": TICKETS, "profile": "wheelchair"}
-        reply, closures = (json.loads(ask(page.site.server, target)[1]) for target in (f"/v1/route?from={BAKERY}&to={TICKETS}&profile=wheelchair&certificate=yes", "/v1/closures"))
-        spoiled = [copy.deepcopy(reply) for _ in SPOILS]
-        for it, (spoil, _, _) in zip(spoiled, SPOILS.values()):
-            spoil(it)
-        anchors = [[BAKERY, ID.format(41)], [TICKETS, ID.format(42)]]
-        for (kind, (_, clause, _)), one in zip(SPOILS.items(), in_browser(page, "check.js", call, [[asked, it, closures, anchors, parts] for it in spoiled])):
-            page.check(f"{kind}: {one}", re.fullmatch(f"(fails {clause}( .*)?) (fails {clause}( .*)?)", one))
+        judges_spoiled(page, {"from": BAKERY, "to": TICKETS, "profile": "wheelchair"}, [[BAKERY, ID.format(41)], [TICKETS, ID.format(42)]], SPOILS)
         for profile, table in whole.items():
             page.check(f"the parts of {profile} have the links of its table", links_of(table) == links_of_parts(links, profile))
     return [f"{len(bases)} made answers and {len(rows)} replies judged alike"]
 
 
+def links_folder(page):
+    return os.path.join(page.site.files, page.site.data, "links")
+
+
+def verdicts_of(page, rows):
+    """What check.js says of rows of what was asked, a reply, closures and anchors, by all parts of the profile's table and by those alone that it needs."""
+    names = ["between", *range(len(page.site.about["levels"]))]
+    files = {profile: [read(os.path.join(links_folder(page), profile, f"{name}.txt")) for name in names] for profile in page.site.about["profiles"]}
+    call = """(([asked, reply, closures, anchors, nodes, names, texts]) => { const table = readNodes(nodes);
+        const parts = new Map(names.map((name, k) => [name, readPart(texts[k], table, name)]));
+        const some = new Map([...parts].filter(([name]) => name === "between" || partsOf(reply, table).has(name)));
+        return [parts, some].map((it) => judgeReply(asked, reply, closures, table, it, new Map(anchors))).join(" "); })(it)"""
+    nodes = read(os.path.join(links_folder(page), "parts.txt"))
+    return in_browser(page, "check.js", call, [[*row, nodes, names, files[row[0]["profile"]]] for row in rows])
+
+
+def judges_spoiled(page, asked, anchors, spoils):
+    """Of the server's reply with something exchanged check.js says what fails."""
+    target = f"/v1/route?from={asked['from']}&to={asked['to']}&profile={asked['profile']}&certificate=yes"
+    reply, closures = (json.loads(ask(page.site.server, it)[1]) for it in (target, "/v1/closures"))
+    spoiled = [copy.deepcopy(reply) for _ in spoils]
+    for it, (spoil, _, _) in zip(spoiled, spoils.values()):
+        spoil(it)
+    found = verdicts_of(page, [[asked, it, closures, anchors] for it in (reply, *spoiled)])
+    page.check(f"the reply as it is: {found[0]}", found[0] == "proved proved")
+    for (kind, (_, clause, _)), one in zip(spoils.items(), found[1:]):
+        page.check(f"{kind}: {one}", re.fullmatch(f"(fails {clause}( .*)?) (fails {clause}( .*)?)", one))
+
+
 def links_of(table):
-    """A table's links in order, with the identifiers of their ends."""
-    nodes = re.findall("^node (.*)$", table, re.M)
+    """A table's links in order, with the names of their ends."""
+    nodes = named(table)
     return sorted((nodes[int(a)], nodes[int(b)], int(cost), via) for a, b, cost, via in re.findall(r"^link (\d+) (\d+) (\d+) (\S+)$", table, re.M))
 
 
+def named(text):
+    """The nodes of a table by their identifiers, those of corners with their numbers: the k-th further line of an identifier is corner k."""
+    nodes = re.findall("^node (.*)$", text, re.M)
+    before = [nodes[:k].count(node) for k, node in enumerate(nodes)]
+    return [f"{node} {corner}" if corner else node for node, corner in zip(nodes, before)]
+
+
 def links_of_parts(folder, profile):
-    nodes, found = re.findall("^node (.*)$", read(os.path.join(folder, "parts.txt")), re.M), []
+    nodes, found = named(read(os.path.join(folder, "parts.txt"))), []
     for name in os.listdir(os.path.join(folder, profile)):
         lines = iter(read(os.path.join(folder, profile, name)).splitlines()[1:-1])
         for word, *words in map(str.split, lines):
@@ -975,7 +1178,7 @@ def read(path):
 
 
 def in_browser(page, module, call, rows):
-    script = f"const [rows, done] = arguments; import('./{module}').then(({{ judgeTexts, judgeReply, readNodes, readPart, partsOf }}) => done(rows.map((it) => {call})), (wrong) => done([String(wrong)]))"
+    script = f"const [rows, done] = arguments; import('./{module}').then(({{ judgeTexts, judgeReply, readNodes, readPart, partsOf, cornersOf }}) => done(rows.map((it) => {call})), (wrong) => done([String(wrong)]))"
     return page.driver.execute_async_script(script, rows)
 
 
@@ -1041,7 +1244,7 @@ def take_looks(name, words, looks, make_page, make_site, longest):
 # What is looked at with a phone and at a desk, what says most first.
 LOOKS = {
     "phone": [asks_by_keyboard, goes_on_by_itself, is_closed_for_some, is_tapped],
-    "desk": [asks_by_keyboard, is_lied_to, judged_alike, has_all_sentences, tells_turns, refuses_in_words, goes_far, speaks_german, finds_places, hears_nothing, is_renewed, has_no_network,
+    "desk": [asks_by_keyboard, is_lied_to, judged_alike, bends_at_corners, goes_round_walls, finds_corners, has_all_sentences, tells_turns, refuses_in_words, goes_far, speaks_german, finds_places, hears_nothing, is_renewed, has_no_network,
              is_printed, reads_broken_files, fits_everywhere, looks_otherwise, tells_states, is_tapped, is_large],
 }
 

@@ -68,7 +68,8 @@ function orStop(reads) {
   return found ?? { stop };
 }
 
-/** The nodes of a table in parts: the mark of the cut, the identifiers, from each to its number, and the part of each number. Or { stop }. */
+/** The nodes of a table in parts: the mark of the cut, the identifier and the part of each number; from an identifier to its number, and to those of its corners,
+    since the k-th further line of an identifier is its corner k. Or { stop }. */
 export const readNodes = (text) => orStop(() => {
   const lines = new Lines("parts.txt", text, PART_LIMIT), nodes = [], partOf = [];
   lines.need(PARTS);
@@ -81,9 +82,13 @@ export const readNodes = (text) => orStop(() => {
     }
   }
   lines.end();
-  const numbers = new Map(nodes.map((id, number) => [id, number]));
-  if (numbers.size < nodes.length) throw new Stop("form parts.txt twice");
-  return { mark, nodes, numbers, partOf: Int32Array.from(partOf), parts };
+  const numbers = new Map(), corners = new Map();
+  for (const [number, id] of nodes.entries()) {
+    if (!numbers.has(id)) numbers.set(id, number);
+    else if (corners.has(id)) corners.get(id).push(number);
+    else corners.set(id, [number]);
+  }
+  return { mark, nodes, numbers, corners, partOf: Int32Array.from(partOf), parts };
 });
 
 /** A part of a profile's table: its blocks, each with its members and the cost between each two of them, and its other links. Or { stop }. `name` is
@@ -114,11 +119,19 @@ export const readPart = (text, { mark, nodes, partOf }, name) => orStop(() => {
   return { name, rooms, links };
 });
 
+/** The number of the node of this identifier, or with a corner of that corner of it; undefined where the table hasn't it. */
+const numberOf = ({ numbers, corners }, id, corner) => (corner === undefined ? numbers.get(id) : Number.isSafeInteger(corner) ? corners.get(id)?.[corner - 1] : undefined);
+
+// The numbers of the nodes that a step, a potential and an item of `reached` name. Such an item is an object where it is a corner, else a text.
+const numberOfStep = (table, step) => numberOf(table, step?.to, step?.corner);
+const numberOfMark = (table, mark) => numberOf(table, mark?.node, mark?.corner);
+const numberOfReached = (table, it) => (typeof it === "string" ? numberOf(table, it) : numberOf(table, it?.node, it?.corner ?? null));
+
 /** The parts in which a link can lie that starts or ends at a node that the reply names, beside that between the parts, which is always needed. */
-export function partsOf(reply, { numbers, partOf }) {
-  const list = (value) => (Array.isArray(value) ? value : []);
-  const named = [reply.start, reply.from, ...list(reply.steps).map((step) => step?.to), ...list(reply.potentials).map((mark) => mark?.node), ...list(reply.reached)];
-  return new Set(named.filter((id) => numbers.has(id)).map((id) => partOf[numbers.get(id)]));
+export function partsOf(reply, table) {
+  const list = (value, number) => (Array.isArray(value) ? value : []).map((it) => number(table, it));
+  const named = [...list([reply.start, reply.from], numberOf), ...list(reply.steps, numberOfStep), ...list(reply.potentials, numberOfMark), ...list(reply.reached, numberOfReached)];
+  return new Set(named.filter((number) => number !== undefined).map((number) => table.partOf[number]));
 }
 
 /** Whether one of these parts has an open link with these ends, cost and via. */
@@ -173,15 +186,17 @@ export function judgeReply(asked, reply, closures, table, parts, anchors) {
   return told(() => {
     const whole = (value) => Number.isSafeInteger(value) && value >= 0, list = (value) => (need(Array.isArray(value), "form"), value);
     need(whole(reply.version) && reply.version === closures.version, "version");
-    const { nodes, numbers, partOf } = table, closed = closedFor(closures.closures, reply.profile), shut = new Set([...closed].map((id) => numbers.get(id)));
+    const { nodes, numbers, corners, partOf } = table, closed = closedFor(closures.closures, reply.profile);
+    const shut = new Set([...closed].flatMap((id) => [numbers.get(id), ...(corners.get(id) ?? [])])), isThere = (node) => node !== undefined;
     const isOpen = (from, to, via) => !closed.has(via) && !shut.has(from) && !shut.has(to);
     need(["from", "to", "profile"].every((key) => reply[key] === asked[key]), "asked");
     const [start, end] = [asked.from, asked.to].map((place) => numbers.get(numbers.has(place) ? place : anchors.get(place)));
-    need(start !== undefined && end !== undefined, "place");
+    need(isThere(start) && isThere(end), "place");
     const wanted = ["between", ...partsOf(reply, table)].map((name) => parts.get(name));
     need(wanted.every(Boolean), "part");
     if (reply.result === "none") {
-      const reached = new Set(list(reply.reached).map((id) => numbers.get(id)));
+      const reached = new Set(list(reply.reached).map((it) => numberOfReached(table, it)));
+      need([...reached].every(isThere) && reached.size === reply.reached.length, "node");
       need(reached.has(start), "start");
       need(!reached.has(end), "finish");
       const isReached = (node) => reached.has(node);
@@ -192,13 +207,14 @@ export function judgeReply(asked, reply, closures, table, parts, anchors) {
     need(reply.start === nodes[start], "start");
     let at = start, total = 0;
     list(reply.steps).forEach((step, k) => {
-      const to = numbers.get(step?.to), of = [parts.get("between"), parts.get(partOf[at])];
-      need(to !== undefined && hasLink(of, isOpen, at, to, step.cost, step.via), `step ${k + 1}`);
+      const to = numberOfStep(table, step), of = [parts.get("between"), parts.get(partOf[at])];
+      need(isThere(to) && hasLink(of, isOpen, at, to, step.cost, step.via), `step ${k + 1}`);
       at = to;
       total += step.cost;
     });
-    need(marks.every((mark) => Number.isSafeInteger(mark?.value)) && new Set(marks.map(({ node }) => node)).size === marks.length, "potentials");
-    const listed = new Map(marks.map(({ node, value }) => [numbers.get(node), value])), potential = (node) => listed.get(node) ?? cost;
+    const listed = new Map(marks.map((mark) => [numberOfMark(table, mark), mark?.value])), potential = (node) => listed.get(node) ?? cost;
+    need([...listed.keys()].every(isThere), "node");
+    need([...listed.values()].every(Number.isSafeInteger) && listed.size === marks.length, "potentials");
     need(at === end, "end");
     need(total === cost, "sum");
     need(potential(start) === 0, "start");

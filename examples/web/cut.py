@@ -7,20 +7,23 @@ BETWEEN = -1
 
 
 class Cut:
-    """The parts of one profile's table. `part_of` has the part of each node by its identifier, `number_of` its number over all parts, in order;
-    `members` comes to have the nodes of the links by each unit or relationship."""
+    """The parts of one profile's table. `part_of` has the part of each feature that is a node by its identifier; the corners of a unit are in that of the unit.
+    `number_of` comes to have the number of each node over all parts, in order, by its identifier and its corner, which is 0 but for corners; `members` the
+    nodes of the links by each unit or relationship."""
 
-    def __init__(self, lines, part_of, number_of):
-        self.texts, self.members, self.links, nodes = {}, {}, 0, []
-        self.part = [part_of[node] for node in number_of]
+    def __init__(self, lines, part_of):
+        self.texts, self.members, self.number_of, self.links, names = {}, {}, {}, 0, []
         if next(lines, b"").rstrip() != b"imdf-links 1":
             raise ValueError("the first line isn't that of a table of links")
         for via, rows in groupby(map(bytes.split, lines), key=lambda words: (words[0], words[-1] if words[0] == b"link" else b"")):
             if via[0] == b"node":
-                nodes += [number_of[words[1].decode()] for words in rows]
+                names = named(words[1].decode() for words in rows)
+                self.number_of = numbered(names, part_of)
+                self.part = [part_of[node] for node, _ in self.number_of]
+                nodes = [self.number_of[name] for name in names]
             elif via[0] == b"link":
                 self.add(via[1].decode(), nodes, rows)
-        if sorted(nodes) != list(range(len(number_of))):
+        if {node for node, _ in names} != part_of.keys():
             raise ValueError("its nodes aren't those of the folder")
 
     def line(self, part, *words):
@@ -77,14 +80,25 @@ def is_block(members, starts, ends, costs):
     return True
 
 
-def nodes_text(part_of, parts, mark):
-    """The nodes of each part, and from each node's identifier to its number."""
-    lines, number_of, its = [f"imdf-parts 1 {mark}\n"], {}, [[] for _ in range(parts)]
-    for node, part in part_of.items():
-        its[part].append(node)
-    for part in its:
-        lines.append("part\n")
-        for node in part:
-            number_of[node] = len(number_of)
-            lines.append(f"node {node}\n")
-    return "".join(lines + ["end\n"]).encode(), number_of
+def named(nodes):
+    """The nodes of a table by their identifiers and corners: the k-th further line of an identifier is its corner k."""
+    lines, names = {}, []
+    for node in nodes:
+        names.append((node, lines.get(node, 0)))
+        lines[node] = names[-1][1] + 1
+    return names
+
+
+def numbered(names, part_of):
+    """The number of each node over all parts: part by part, in each in the order of the features, the corners of a unit behind it."""
+    place_of = {node: place for place, node in enumerate(part_of)}
+    ordered = sorted(names, key=lambda name: (part_of[name[0]], place_of[name[0]], name[1]))
+    return {name: number for number, name in enumerate(ordered)}
+
+
+def nodes_text(number_of, part_of, parts, mark):
+    """The nodes of each part."""
+    lines = [["part\n"] for _ in range(parts)]
+    for node, _ in number_of:
+        lines[part_of[node]].append(f"node {node}\n")
+    return "".join([f"imdf-parts 1 {mark}\n", *(line for part in lines for line in part), "end\n"]).encode()

@@ -170,7 +170,10 @@ export function drawScene(context, [width, height], view, { levels, marks, news 
   Object.assign(count, { units: units.length, doors: doors.length, reached: reached.length, closed: news.closed.length, lines: news.lines.length });
 
   const room = new Room(width, height), shown = [];
-  for (const { points: [a, b, c, d] } of news.lines) for (let k = 0; k <= 32; k += 1) { const [x, y] = at(a + ((c - a) * k) / 32, b + ((d - b) * k) / 32); room.take([x - 5, y - 5, x + 5, y + 5]); }
+  for (const { points } of news.lines) for (let n = 2; n < points.length; n += 2) for (let k = 0; k <= 32; k += 1) {
+    const [a, b, c, d] = points.slice(n - 2, n + 2), [x, y] = at(a + ((c - a) * k) / 32, b + ((d - b) * k) / 32);
+    room.take([x - 5, y - 5, x + 5, y + 5]);
+  }
   // Seen from afar, many marks keep further apart.
   const apart = view.scale < 0.02 && marks.length > MANY ? 22 : 0;
   for (const mark of [...news.marks, ...marks]) {

@@ -7,7 +7,7 @@ import { ALONG, iconOf, isPassage, labelOf, noun, profileName, signed, titleOf, 
 import { readIcons } from "./draw.js";
 import { drawAnew, drawLevels, drawNews, fit, listenToMap, ordinals, pictureOf, showLevel, shown } from "./map.js";
 import { indexPlaces, listenToField, placeAt, titleAt } from "./search.js";
-import { exactLength, legsOf, sentenceOf, spokenLength, spokenTime, stepsOf, sumOf } from "./way.js";
+import { bendsOf, exactLength, legsOf, lineOf, sentenceOf, spokenLength, spokenTime, stepsOf, sumOf } from "./way.js";
 
 const EVERY = 10_000, WATCHED = 1_200, SOON = 3_000, RARELY = 60_000, TRIES = 3, MOST_COMPARED = 5_000;
 const $ = (id) => document.getElementById(id);
@@ -57,6 +57,12 @@ function drawLegend() {
 const show = (ordinal) => showLevel(ordinal).catch(note);
 const isHere = (it, ordinal) => it && it.ordinal === ordinal && it.point;
 
+/** The points of a leg on a level: its line, or the one end of it that is there. */
+function pointsOn(leg, ordinal) {
+  const here = [leg.from, leg.to].map((id) => features.get(id)).filter((it) => isHere(it, ordinal));
+  return here.length === 2 ? lineOf(leg) : here.map(({ point }) => point);
+}
+
 /** The identifiers of what these closures close for a profile. */
 const closedFor = (closures, profile) => closedRows(closures).filter((row) => isClosedFor(row, profile)).map(({ id }) => id);
 
@@ -64,12 +70,12 @@ const closedFor = (closures, profile) => closedRows(closures).filter((row) => is
 function newsOf(ordinal) {
   const { answer } = state, here = (ids) => ids.map((id) => features.get(id)).filter((it) => isHere(it, ordinal));
   const closed = here(closedFor(server.closures, state.profile).flatMap((id) => features.get(id)?.ends ?? [id]));
-  const reached = here(answer?.reply.reached ?? []).filter((it) => it.rings);
+  const reached = here([...new Set((answer?.reply.reached ?? []).map((it) => it.node ?? it))]).filter((it) => it.rings);
   const steps = answer?.steps ?? [], lines = [], turns = [];
   for (const step of steps) {
     for (const leg of step.legs) {
-      const ends = [leg.from, leg.to].map((id) => features.get(id));
-      if (ends.every((it) => isHere(it, ordinal))) lines.push({ points: [...ends[0].point, ...ends[1].point], isPicked: step.number === answer.picked });
+      const points = pointsOn(leg, ordinal);
+      if (points.length > 1) lines.push({ points: points.flat(), isPicked: step.number === answer.picked });
     }
     if (!step.isRide) continue;
     const [from, to] = [features.get(step.legs.find(({ passage }) => passage).from), features.get(step.legs.findLast(({ passage }) => passage).to)];
@@ -135,7 +141,7 @@ async function askForProof(asked) {
   throw new Trouble("changes");
 }
 
-/** The answer with its legs and steps, once the levels are there of which its words and its lines tell. */
+/** The answer with its legs and steps, once the levels are there of which its words and its lines tell; in `straight` the units in which a line should bend and can't. */
 async function ready(answer) {
   const { reply, table } = answer;
   if (answer.line !== "proved") return answer;
@@ -145,6 +151,9 @@ async function ready(answer) {
   // Of a ride over many levels only its ends are told and drawn.
   const { legs } = answer, told = legs.flatMap(({ passage, from, to }, k) => [...(passage && passage === legs[k - 1]?.passage ? [] : [from]), ...(passage && passage === legs[k + 1]?.passage ? [] : [to])]);
   await Promise.all([...new Set([reply.start, ...told].map(levelAt))].filter((level) => level !== undefined).map(levelOf));
+  const bent = legs.filter(({ corners }) => corners.length), bends = new Map(await Promise.all(bent.map(async ({ via }) => [via, await bendsOf(via, table)])));
+  for (const leg of bent) leg.bends = leg.corners.map((corner) => bends.get(leg.via)?.[corner - 1]).filter(Boolean);
+  answer.straight = [...bends.keys()].filter((via) => !bends.get(via));
   answer.steps = stepsOf(legs);
   return answer;
 }
@@ -234,11 +243,11 @@ function meaning({ reply, time }, sum) {
 function noWay(answer) {
   const { reply, asked } = answer, isChair = asked.profile === "wheelchair";
   return [make("h2", {}, say(isChair ? "none.wheelchair" : "none.walk")), proof(say("checked.none")),
-    make("p", { class: "of" }, say("none.what", { name: titleHere(asked.from), n: reply.reached.length })), meaning(answer, null)];
+    make("p", { class: "of" }, say("none.what", { name: titleHere(asked.from), n: reply.reached.filter((it) => typeof it === "string").length })), meaning(answer, null)];
 }
 
 function wayInWords(answer) {
-  const { legs, steps, asked } = answer, sum = sumOf(legs), key = ["walk", "wheelchair"].includes(asked.profile) ? asked.profile : "other";
+  const { legs, steps, straight, asked } = answer, sum = sumOf(legs), key = ["walk", "wheelchair"].includes(asked.profile) ? asked.profile : "other";
   const counted = [...sum.counted].map(([kind, extra]) => say("counted", { metres: spokenLength(extra), what: noun({ category: kind }, 1) }));
   const ends = make("p", { class: "ends-told" }, `${titleHere(asked.from)} → ${titleHere(asked.to)}, ${profileName(asked.profile)}`);
   const rows = steps.map((step, k) => {
@@ -250,6 +259,7 @@ function wayInWords(answer) {
   const told = legs.length ? [make("h2", {}, spokenLength(sum.walked)), make("span", { class: "time" }, spokenTime(sum.cost))] : [make("h2", {}, say("here"))];
   return [...(state.isOld ? [make("p", { class: "old" }, say("kept.way", { date: date(state.isOld) }))] : []), ends, make("div", { class: "sum" }, ...told), proof(say(`checked.${key}`, { profile: profileName(asked.profile) })),
     make("p", { class: "of" }, counted.length ? say("counted.to", { counted: list(counted) }) : legs.length ? say("to.walk") : ""),
+    ...(straight.length ? [make("p", { class: "old" }, say("straight", { what: straight.map(titleWithLevel).join("; ") }))] : []),
     make("ol", { "aria-label": say("steps") }, ...rows), sharing(), meaning(answer, sum)];
 }
 
@@ -281,7 +291,7 @@ async function pick(answer, number) {
 
 /** The box round what of a way, or of one step, lies on a level, with some room. */
 function boxOn({ steps }, ordinal, step) {
-  const ids = (step ? [step] : steps).flatMap(({ legs }) => legs.flatMap(({ from, to }) => [from, to])), points = ids.map((id) => features.get(id)).filter((it) => isHere(it, ordinal)).map(({ point }) => point);
+  const points = (step ? [step] : steps).flatMap(({ legs }) => legs.flatMap((leg) => pointsOn(leg, ordinal)));
   const [xs, ys] = [points.map(([x]) => x), points.map(([, y]) => y)];
   if (!points.length) return undefined;
   return [Math.min(...xs) - 500, Math.min(...ys) - 500, Math.max(...xs) + 500, Math.max(...ys) + 500];

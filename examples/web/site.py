@@ -1,5 +1,6 @@
 #!/usr/bin/env python3
-"""Writes what nginx serves for the page: the venue cut into levels, the tables of links of all profiles cut the same way, and nginx.conf.
+"""Writes what nginx serves for the page: the venue cut into levels, the tables of links of all profiles cut the same way, where ways go round walls
+the exact outlines of the rooms with corners, and nginx.conf.
 
 usage: site.py BASE FOLDER SITE [PORT [SERVER [STAFF]]]
 Without these the page is at port 8080, the server at 127.0.0.1:7070, and nobody gets the page of staff or changes anything; STAFF is the
@@ -17,6 +18,8 @@ import shutil
 import subprocess
 import sys
 import tomllib
+from collections import Counter
+from decimal import ROUND_HALF_UP, Decimal
 
 from cut import BETWEEN, Cut, nodes_text
 from files import Refused, compact, read, write
@@ -68,9 +71,9 @@ class Venue:
         if not self.levels:
             raise Refused(f"the folder {folder} has no level, so there is nothing to draw")
 
-    def file(self, name):
+    def file(self, name, **how):
         path = os.path.join(self.folder, name)
-        return json.loads(read(path).decode("utf-8-sig")) if os.path.exists(path) else {}
+        return json.loads(read(path).decode("utf-8-sig"), **how) if os.path.exists(path) else {}
 
     def at(self, position):
         longitude, latitude = position[:2]
@@ -136,6 +139,17 @@ class Venue:
         category = str(its.get("category")).split(".")[0]
         self.passages.append({"id": id, "category": category, "ends": ends, "levels": levels} | ({"name": named} if (named := names(its.get("name"))) else {}))
 
+    def walls(self, units):
+        """By level the polygons of these units that can have corners, each ring in whole nanodegrees east and north of where all is counted from."""
+        found, counted = [{} for _ in self.levels], [round(degrees * 10**9) for degrees in self.origin]
+        for feature in self.file("unit.geojson", parse_float=Decimal)["features"]:
+            id = identifier(feature["id"])
+            if id in units and self.get(id)["category"] not in SOLID | {"movingwalkway"}:
+                shape = feature["geometry"]
+                polygons = [shape["coordinates"]] if shape["type"] == "Polygon" else shape["coordinates"]
+                found[self.features[id][0]][id] = [[[nano(value) - start for position in ring for value, start in zip(position[:2], counted)] for ring in rings] for rings in polygons]
+        return found
+
     def part_of(self):
         """The level of each node."""
         return {node: self.features[node][0] for place, node in self.node_of.items() if place == node}
@@ -162,6 +176,11 @@ class Venue:
                     while rows[-1][-1] in (None, it["id"]):
                         rows[-1].pop()
         return rows
+
+
+def nano(degrees):
+    """Degrees as the file has them, in whole nanodegrees; of two that are as near the one further from 0, as the program reads them."""
+    return int(Decimal(degrees).quantize(Decimal("1e-9"), ROUND_HALF_UP).scaleb(9))
 
 
 def box(rings):
@@ -191,11 +210,11 @@ def need_accepted(base, folder):
         raise Refused(f"the folder {os.path.join(base, folder)} is rejected, as `venue check {base} {folder}` tells")
 
 
-def cut_of(base, folder, profile, part_of, number_of):
+def cut_of(base, folder, profile, part_of):
     """The parts of a profile's table, read line by line, since a whole one may have hundreds of megabytes."""
     ran = run("links", base, folder, profile)
     try:
-        return Cut(ran.stdout, part_of, number_of)
+        return Cut(ran.stdout, part_of)
     except (KeyError, ValueError, IndexError) as error:
         raise Refused(f"the table of links of {profile} isn't that of the folder: {error}") from error
     finally:
@@ -209,10 +228,12 @@ def files_of(base, folder, told):
     need_accepted(base, folder)
     venue = Venue(os.path.join(base, folder), told)
     part_of, links, largest = venue.part_of(), 0, 0
-    _, number_of = nodes_text(part_of, len(venue.levels), "")
-    cuts = {profile: cut_of(base, folder, profile, part_of, number_of) for profile in told["profiles"]}
+    cuts = {profile: cut_of(base, folder, profile, part_of) for profile in told["profiles"]}
+    number_of = cuts[told["profiles"][0]].number_of
+    if any(cut.number_of != number_of for cut in cuts.values()):
+        raise Refused("the tables of links of the profiles haven't the same nodes")
     digest = hashlib.sha256()
-    ids = list(number_of)
+    ids = [node for node, _ in number_of]
     for cut in cuts.values():
         links += cut.links
         for via, nodes in cut.members.items():
@@ -222,12 +243,14 @@ def files_of(base, folder, told):
     levels = [{key: level[key] for key in ("id", "ordinal", "name", "bounds")} for level in venue.levels]
     maps = {f"level/{k}.json": compact({"rings": level["rings"], "features": level["features"]}) for k, level in enumerate(venue.levels)}
     maps |= {"passages.json": compact(venue.passages), "places.json": compact(venue.places())}
+    bent = {node for node, lines in Counter(ids).items() if lines > 1}
+    maps |= {f"walls/{k}.json": compact(its) for k, its in enumerate(venue.walls(bent) if bent else []) if its}
     about = told | {"folder": folder, "name": getattr(venue, "name", None), "language": venue.language, "places": len(venue.node_of) , "left": venue.left, "levels": levels}
     for data in [compact(about), *maps.values()]:
         digest.update(data)
     mark = digest.hexdigest()[:16]
     found = {f"data/{mark}/{name}": data for name, data in maps.items()}
-    found[f"data/{mark}/links/parts.txt"] = nodes_text(part_of, len(venue.levels), mark)[0]
+    found[f"data/{mark}/links/parts.txt"] = nodes_text(number_of, part_of, len(venue.levels), mark)
     for profile, cut in cuts.items():
         for part in range(BETWEEN, len(venue.levels)):
             name, data = "between" if part == BETWEEN else part, cut.text(part, mark)

@@ -18,7 +18,7 @@ export const sentence = (trouble) => (trouble instanceof Trouble ? say(trouble.k
 export const site = { mark: "", levels: [], profiles: [] };
 export const features = new Map(); // those of the levels that are held, by identifier
 export const server = { version: 0, ahead: 0, closures: { version: 0, closures: [] }, heard: null };
-const levels = new Map(), fetched = new Set();
+const levels = new Map(), walls = new Map(), fetched = new Set();
 let nodes = null, parts = new Map(), passages = null, places = null;
 
 async function get(path, cache = "default") {
@@ -50,7 +50,7 @@ const readJson = async (name) => parsed((await read(name)) ?? "", "file.unread",
 /** Begins anew with these settings of the site: nothing of an earlier publication is held any more. */
 export function takeSite(told) {
   Object.assign(site, told);
-  for (const held of [features, levels, fetched, parts]) held.clear();
+  for (const held of [features, levels, walls, fetched, parts]) held.clear();
   [nodes, passages, places] = [null, null, null];
 }
 
@@ -128,6 +128,12 @@ export async function placesOf() {
     return { all, byId: new Map(all.map((it) => [it.id, it])) };
   }).catch((trouble) => { places = null; throw trouble; });
   return places;
+}
+
+/** The outlines of the units of a level that have corners, by identifier: the rings of their polygons in whole nanodegrees. */
+export function wallsOf(number) {
+  if (!walls.has(number)) walls.set(number, readJson(`walls/${number}.json`).catch((trouble) => { walls.delete(number); throw trouble; }));
+  return walls.get(number);
 }
 
 // ---- The tables of links

@@ -58,7 +58,7 @@ function reachedFrom({ numbers, nodes, rooms, roomsOf }, links, roots, closed) {
   return seen;
 }
 
-/** For each node whether ways lead from it to an entrance and from an entrance to it. */
+/** For each node whether ways lead from it to an entrance and back. */
 function joined(table, entrances, closed) {
   const [to, from] = [table.into, table.out].map((links) => reachedFrom(table, links, entrances, closed));
   return from.map((is, node) => is & to[node]);
@@ -66,11 +66,11 @@ function joined(table, entrances, closed) {
 
 /** What a change of this feature takes and gives for a profile, of what is closed for it before and after. */
 async function judge({ data, profile, entrances, before, after, feature }) {
-  const table = await tableOf(data, profile), { numbers, nodes, roomsOf, out, into } = table;
+  const table = await tableOf(data, profile), { numbers, roomsOf, out, into } = table;
   const isOf = (id) => [roomsOf, out, into].some((its) => its[numbers.get(id)]?.length);
   if (!entrances.some(isOf)) return { isWithout: true };
   const [was, is] = [before, after].map((closed) => joined(table, entrances, new Set(closed)));
-  const differ = (one, other) => nodes.filter((id, node) => one[node] && !other[node] && id !== feature);
+  const differ = (one, other) => [...numbers].flatMap(([id, node]) => (one[node] > other[node] && id !== feature ? id : []));
   return { lost: differ(was, is), gained: differ(is, was) };
 }
 
