@@ -5,7 +5,7 @@ beneath tells them all, with what stands there enlarged. Labels that would cover
 
 usage: map.py BASE FOLDER [--level N] [--way PROFILE FROM TO] [--sight] > map.svg
 N is an ordinal; without it all levels are drawn. Over an accepted folder --way draws the way that `venue route` prints, bent at its corners, with
-what each step costs. --sight shows who draws folders, of rooms of up to 500 places, what ways meet where `inside` is `clear`: corners with their
+what each step costs, and no advice. --sight shows who draws folders, of rooms of up to 500 places, what ways meet where `inside` is `clear`: corners with their
 numbers, a ring round each place that sees nobody in its room with a dashed line to its host, and a cross at each position that lies in line
 between its neighbours, which hides along the wall. The program is that of the variable VENUE, else the launcher ./venue. What has no place,
 as a feature without a geometry or a file that can't be read, is in the table alone.
@@ -42,7 +42,7 @@ path,circle{vector-effect:non-scaling-stroke;fill:none}.level{fill:#f7f8fa;strok
 .tag{font-weight:700;paint-order:stroke;stroke:#fff;stroke-width:4px}"""
 # Added where a way or sight is drawn.
 MORE_STYLE = """
-.way{stroke:#0a7d3b;stroke-width:4}.corner{fill:#7b3fb5}.blind,.host{stroke:#c5221f;stroke-width:2}.host{stroke-dasharray:5 4}.hides{stroke:#b06000;stroke-width:2}"""
+.way{stroke:#0a7d3b;stroke-width:4}.corner{fill:#7b3fb5}.number{font-size:10px;fill:#7b3fb5}.blind,.host{stroke:#c5221f;stroke-width:2}.host{stroke-dasharray:5 4}.hides{stroke:#b06000;stroke-width:2}"""
 
 
 def escape(text):
@@ -260,7 +260,7 @@ def lens(level, at, top, scale):
 
 def draw(base, folder, wanted, words, with_sight):
     venue, asked, (rows, others) = Folder(base, folder), sentences(), findings(base, folder)
-    advised, says = hints(base, folder, others)
+    advised, says = ([], {}) if words or with_sight else hints(base, folder, others)
     others, rows = others + ([f"advice {len(advised)}"] if advised else []), rows + advised
     picture, top = Picture(venue), 70
     told = {key: venue.ordinal(*key) for key in venue.parts if key[0] in DRAWN and venue.parts[key]}
@@ -272,10 +272,11 @@ def draw(base, folder, wanted, words, with_sight):
     rooms = map_rooms.Rooms(base, folder) if (words or with_sight) and others and others[0].startswith("accepted") else None
     place = lambda it: picture.at(venue.metres(*(axis / 2e9 for axis in it)))
     nodes, costs, why = map_rooms.way(PROGRAM, base, folder, words) if rooms and words else ([], [], "the folder is rejected")
-    sight, left = map_rooms.drawn_sight(rooms, place) if rooms and with_sight else ({}, [])
+    labels_on = {level: Labels() for level in levels}
+    sight, left = map_rooms.drawn_sight(rooms, place, labels_on) if rooms and with_sight else ({}, [])
     out = [f'<text class="bold" x="{EDGE}" y="30">{escape(" · ".join([folder] + others))}</text>']
     for level in shown:
-        labels = Labels()
+        labels = labels_on[level]
         rings = [ring(row, at, labels) for row, on, at in found if at and on == level]
         out += [f'<g transform="translate(0 {top:g})"><text class="soft" x="{EDGE}" y="0">level {level:g}</text><g id="level{level:g}">']
         out += [drawn(venue, picture, *key, told[key] is None, labels) for key in told if level_of(key) == level] + ["</g>", *rings]

@@ -98,7 +98,16 @@ def told_way(nodes, costs, why):
     return [f"way of {sum(costs) / 100:.2f} m in {len(costs)} steps", *steps]
 
 
-def drawn_sight(rooms, at):
+def numbered(x, y, number, labels):
+    """A dot, and its number beside it where one fits."""
+    spots = [(x + 5 * side, y + down, anchor) for side, anchor in ((1, "start"), (-1, "end")) for down in (-4, 12)]
+    free = next((it for it in spots if labels.take(*it, str(number), 6)), None)
+    end = ' text-anchor="end"' if free and free[2] == "end" else ""
+    text = f'<text class="number" x="{free[0]:g}"{end} y="{free[1]:g}">{number}</text>' if free else ""
+    return f'<circle class="corner" cx="{x:g}" cy="{y:g}" r="3"><title>corner {number}</title></circle>{text}'
+
+
+def drawn_sight(rooms, at, labels_on):
     """By level: the corners of rooms, who sees nobody in one and who leads him, and the positions that hide along a wall. Then what is left out."""
     out, left = {}, []
     for unit in rooms.walked:
@@ -117,7 +126,7 @@ def drawn_sight(rooms, at):
         for node in members:
             x, y, _ = at(rooms.places[node])
             if node[1]:
-                mine.append(f'<circle class="corner" cx="{x:g}" cy="{y:g}" r="3"/><text class="tag" x="{x + 5:g}" y="{y - 5:g}">{node[1]}</text>')
+                mine.append(numbered(x, y, node[1], labels_on[rooms.level(node)]))
             if len(members) > 1 and not sees[node]:
                 mine.append(f'<circle class="blind" cx="{x:g}" cy="{y:g}" r="9"/>')
             if node in led:
