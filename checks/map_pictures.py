@@ -240,7 +240,7 @@ def fin():
 
 
 def ell():
-    return rooms.Venue(40 * rooms.METRE, 40 * rooms.METRE).room([rooms.ELL]).anchor(*rooms.in_metres([(35, 5), (5, 35)]))
+    return rooms.Venue(60 * rooms.METRE, 40 * rooms.METRE).room([rooms.ELL]).anchor(*rooms.in_metres([(35, 5), (5, 35)]))
 
 
 def beside(left, right):
@@ -252,16 +252,14 @@ def beside(left, right):
 
 def room_pictures(program, base):
     """The pictures of rooms with walls, by name."""
-    def drawn(venue, clear, *more):
-        folder = os.path.join(base, "room")
-        shutil.rmtree(folder, ignore_errors=True)
+    def drawn(name, venue, clear, *more):
         rooms.set_up(base, clear)
-        venue.write(folder)
-        return draw(program, base, None, "room", more)
+        venue.write(os.path.join(base, name))
+        return draw(program, base, None, name, more)
 
-    yield "ell", beside(*(drawn(ell(), clear, *way_of(41, 42)) for clear in (False, True)))
-    yield "jambs", drawn(side(9, 11, 13, 15), True, *way_of(101, 102), "--sight")
-    yield "thin", drawn(fin(), True, *way_of(41, 42), "--sight")
+    yield "ell", beside(drawn("straight", ell(), False, *way_of(41, 42)), drawn("clear", ell(), True, *way_of(41, 42)))
+    yield "jambs", drawn("jambs", side(9, 11, 13, 15), True, *way_of(101, 102), "--sight")
+    yield "thin", drawn("thin", fin(), True, *way_of(41, 42), "--sight")
 
 
 def walls_differ(program):

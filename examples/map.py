@@ -278,9 +278,10 @@ def draw(base, folder, wanted, words, with_sight):
     for level in shown:
         labels = labels_on[level]
         rings = [ring(row, at, labels) for row, on, at in found if at and on == level]
+        way = map_rooms.drawn_way(rooms, level, place, nodes, costs, labels) if nodes else []
         out += [f'<g transform="translate(0 {top:g})"><text class="soft" x="{EDGE}" y="0">level {level:g}</text><g id="level{level:g}">']
         out += [drawn(venue, picture, *key, told[key] is None, labels) for key in told if level_of(key) == level] + ["</g>", *rings]
-        out += [*sight.get(level, []), *(map_rooms.drawn_way(rooms, level, place, nodes, costs) if nodes else []), "</g>"]
+        out += [*sight.get(level, []), *way, "</g>"]
         top += picture.height + 30
     lenses = 0
     for row, level, at in found:

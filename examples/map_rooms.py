@@ -80,14 +80,23 @@ def way(program, base, name, words):
     return [nodes[start], *(nodes[int(row[2])] for row in steps)], [int(row[3]) for row in steps], ""
 
 
-def drawn_way(rooms, level, at, nodes, costs):
-    """A way's parts on one level, and the metres of each step."""
+def drawn_way(rooms, level, at, nodes, costs, labels):
+    """A way's parts on one level, and the metres of each step, where they fit beside it."""
+    legs = [(a, b, cost) for a, b, cost in zip(nodes, nodes[1:], costs) if rooms.level(a) == rooms.level(b) == level]
+    lines = [(*at(rooms.places[a])[:2], *at(rooms.places[b])[:2]) for a, b, _ in legs]
+    for x, y, u, v in lines:
+        count = max(1, round(max(abs(u - x), abs(v - y)) / 6))
+        spots = [(x + (u - x) * k / count, y + (v - y) * k / count) for k in range(count + 1)]
+        labels.boxes += [(a - 3, b - 3, a + 3, b + 3) for a, b in spots]
     out = []
-    for a, b, cost in zip(nodes, nodes[1:], costs):
-        if rooms.level(a) == rooms.level(b) == level:
-            (x, y, _), (u, v, _) = at(rooms.places[a]), at(rooms.places[b])
-            out.append(f'<path class="way" d="M{x:g} {y:g}L{u:g} {v:g}"><title>{short(a)} to {short(b)}</title></path>')
-            out.append(f'<text class="tag" text-anchor="middle" x="{(x + u) / 2:g}" y="{(y + v) / 2 - 6:g}">{cost / 100:.2f} m</text>')
+    for (a, b, cost), (x, y, u, v) in zip(legs, lines):
+        out.append(f'<path class="way" d="M{x:g} {y:g}L{u:g} {v:g}"><title>{short(a)} to {short(b)}</title></path>')
+        text, (p, q) = f"{cost / 100:.2f} m", ((x + u) / 2, (y + v) / 2)
+        spots = [(p + right, q + down, anchor) for down in (5, -8, 18, -20, 30) for right, anchor in ((8, "start"), (-8, "end"), (20, "start"), (-20, "end"))]
+        free = next((it for it in spots if labels.take(*it, text, 7.5)), None)
+        if free:
+            end = ' text-anchor="end"' if free[2] == "end" else ""
+            out.append(f'<text class="tag" x="{free[0]:g}"{end} y="{free[1]:g}">{text}</text>')
     return out
 
 
@@ -128,6 +137,7 @@ def drawn_sight(rooms, at, labels_on):
             if node[1]:
                 mine.append(numbered(x, y, node[1], labels_on[rooms.level(node)]))
             if len(members) > 1 and not sees[node]:
+                labels_on[rooms.level(node)].boxes.append((x - 10, y - 10, x + 10, y + 10))
                 mine.append(f'<circle class="blind" cx="{x:g}" cy="{y:g}" r="9"/>')
             if node in led:
                 u, v, _ = at(rooms.places[led[node]])
