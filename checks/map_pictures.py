@@ -245,7 +245,7 @@ def ell():
 
 def beside(left, right):
     """Two pictures as one."""
-    wide, high = (int(float(re.search(rf'{it}="([0-9.]+)"', left)[1])) for it in ("width", "height"))
+    wide, high = (max(int(float(re.search(rf'{it}="([0-9.]+)"', one)[1])) for one in (left, right)) for it in ("width", "height"))
     size = f'width="{2 * wide}" height="{high}" viewBox="0 0 {2 * wide} {high}"'
     return f'<svg xmlns="http://www.w3.org/2000/svg" {size}>\n{left}{right.replace("<svg ", f"""<svg x="{wide}" """, 1)}</svg>\n'
 
