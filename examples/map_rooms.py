@@ -104,7 +104,8 @@ def told_way(nodes, costs, why):
     if not nodes:
         return [f"no way: {why}"]
     steps = [f"{k}. {cost / 100:.2f} m, to {short(node)}" for k, (node, cost) in enumerate(zip(nodes[1:], costs), 1)]
-    return [f"way of {sum(costs) / 100:.2f} m in {len(costs)} step{"s" if len(costs) != 1 else ""}", *steps]
+    ending = "" if len(costs) == 1 else "s"
+    return [f"way of {sum(costs) / 100:.2f} m in {len(costs)} step{ending}", *steps]
 
 
 def numbered(x, y, number, labels):

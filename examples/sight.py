@@ -53,8 +53,10 @@ def edges_of(polygons, times=1):
 
 
 def neighbours(ring):
-    """Each position of a ring with that before it and that behind it, equal neighbours being one."""
-    points = [p for p, before in zip(ring, [ring[-1], *ring]) if p != before]
+    """Each position of a ring with that before it and that behind it, from the first on, equal neighbours being one."""
+    points = ring[:1] + [p for before, p in zip(ring, ring[1:]) if p != before]
+    while points[-1] == points[0]:
+        points.pop()
     return list(zip([points[-1], *points], points, [*points[1:], points[0]]))
 
 
