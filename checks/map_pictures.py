@@ -1,7 +1,7 @@
 #!/usr/bin/env python3
 """Makes the examples of docs/RULES.md from the station, has examples/map.py draw each, and compares: the program finds what the page says, the
 picture is well-formed, has as many red rings as there are findings with a place, and no label covers another. The kept pictures in
-docs/pictures are those drawn now.
+docs/pictures are those drawn now. Of examples/walls the way through the concourse turns where it should, and sight in the L is what it should be.
 
 usage: map_pictures.py [PROGRAM] [--write]   (without PROGRAM the launcher ./venue, which builds the program if need be)
 With --write the pictures are kept anew. It prints one line, and ends with status 1 at a difference.
@@ -15,6 +15,8 @@ import subprocess
 import sys
 import tempfile
 import xml.dom.minidom
+
+import rooms
 
 TOP = os.path.join(os.path.dirname(os.path.abspath(__file__)), "..")
 PICTURES = os.path.join(TOP, "docs", "pictures")
@@ -145,8 +147,8 @@ def told():
         return dict(re.findall(r"(?m)^\| ([A-Z]\d) \|.*\| `([A-Z]\d [a-z.]+json \d+ \d+)` \|", file.read()))
 
 
-def draw(program, base, level=None, folder="example"):
-    words = [sys.executable, os.path.join(TOP, "examples", "map.py"), base, folder] + (["--level", level] if level else [])
+def draw(program, base, level=None, folder="example", more=()):
+    words = [sys.executable, os.path.join(TOP, "examples", "map.py"), base, folder] + (["--level", level] if level else []) + [*more]
     return subprocess.run(words, capture_output=True, env=os.environ | {"VENUE": program}, timeout=50).stdout.decode()
 
 
@@ -219,6 +221,70 @@ def crowd_differs(program, base):
     return "; ".join(wrong[:5]) if wrong else None
 
 
+def way_of(*ends):
+    return ["--way", "walk", *(NAME.format(it) for it in ends)]
+
+
+def side(*jambs):
+    """A room with two doors in its south side, and these positions there."""
+    metres = rooms.in_metres
+    venue = rooms.Venue(40 * rooms.METRE, 20 * rooms.METRE).room([metres([(0, 0), *((x, 0) for x in jambs), (40, 0), (40, 20), (0, 20)])])
+    return venue.door(*metres([(9, 0), (11, 0)])).door(*metres([(13, 0), (15, 0)]), number=102)
+
+
+def fin():
+    """A room with a thin wall in its middle, where its own place lies since it has no display point."""
+    metres = rooms.in_metres
+    outline = [(0, 0), (19.9, 0), (19.9, 15), (20.1, 15), (20.1, 0), (40, 0), (40, 20), (0, 20)]
+    return rooms.Venue(40 * rooms.METRE, 20 * rooms.METRE).room([metres(outline)]).anchor(*metres([(10, 5), (30, 5)]))
+
+
+def ell():
+    return rooms.Venue(60 * rooms.METRE, 40 * rooms.METRE).room([rooms.ELL]).anchor(*rooms.in_metres([(35, 5), (5, 35)]))
+
+
+def beside(left, right):
+    """Two pictures as one."""
+    wide, high = (max(int(float(re.search(rf'{it}="([0-9.]+)"', one)[1])) for one in (left, right)) for it in ("width", "height"))
+    size = f'width="{2 * wide}" height="{high}" viewBox="0 0 {2 * wide} {high}"'
+    return f'<svg xmlns="http://www.w3.org/2000/svg" {size}>\n{left}{right.replace("<svg ", f"""<svg x="{wide}" """, 1)}</svg>\n'
+
+
+def room_pictures(program, base):
+    """The pictures of rooms with walls, by name."""
+    def drawn(name, venue, clear, *more):
+        rooms.set_up(base, clear)
+        venue.write(os.path.join(base, name))
+        return draw(program, base, None, name, more)
+
+    yield "ell", beside(drawn("straight", ell(), False, *way_of(41, 42)), drawn("clear", ell(), True, *way_of(41, 42)))
+    yield "jambs", drawn("jambs", side(9, 11, 13, 15), True, *way_of(101, 102), "--sight")
+    yield "thin", drawn("thin", fin(), True, *way_of(41, 42), "--sight")
+
+
+def walls_differ(program):
+    """What is wrong with the way through the concourse and with sight in the L."""
+    base = os.path.join(TOP, "examples", "walls")
+    read = lambda *words: xml.dom.minidom.parseString(draw(program, base, None, *words))
+    marked = lambda document, name, tag: [it for it in document.getElementsByTagName(tag) if it.getAttribute("class") == name]
+    numbers = lambda it: [float(n) for n in re.findall(r"[0-9.]+", it.getAttribute("d"))]
+    concourse, found = read("concourse", way_of("0053", "0055")), []
+    (left, low, right, *_), steps = numbers(marked(concourse, "level", "path")[0]), [numbers(it) for it in marked(concourse, "way", "path")]
+    with open(os.path.join(base, "concourse", "level.geojson"), encoding="utf-8") as file:
+        outline = json.load(file)["features"][0]["geometry"]["coordinates"][0]
+    scale = (right - left) / (outline[1][0] - outline[0][0]) / 100_000
+    ends = [(x, y) for *_, x, y in steps]
+    wanted = [(left + x * scale, low - y * scale) for x, y in ((50, 10), (40.5, 16.5), (29.5, 23.5), (20, 30))]
+    if len(ends) != 5 or any(abs(a - b) > 0.2 for end, it in zip(ends, wanted) for a, b in zip(end, it)):
+        found.append(f"the way through the concourse has steps to {ends}, wanted {wanted}")
+    ell_sight = read("ell", ["--sight"])
+    counts = [len(marked(ell_sight, *it)) for it in (("corner", "circle"), ("blind", "circle"), ("hides", "path"))]
+    lines = [it.getElementsByTagName("title")[0].firstChild.data for it in marked(ell_sight, "host", "path")]
+    if counts != [1, 1, 0] or lines != ["#0300 to corner 1 of #0300"]:
+        found.append(f"sight in the L has {counts} dots, rings and crosses, and lines {lines}")
+    return found
+
+
 def is_other(name, picture, write):
     """What is said where another picture of that name is kept."""
     path = os.path.join(PICTURES, f"{name}.svg")
@@ -245,9 +311,14 @@ def main(words):
     differences += [f"tall: {tall}"] if tall else []
     arcade = is_other("arcade", draw(program, os.path.join(TOP, "examples", "arcade"), "0", "hall"), write)
     differences += [f"arcade: {arcade}"] if arcade else []
+    differences += walls_differ(program)
+    with tempfile.TemporaryDirectory() as base:
+        shown = list(room_pictures(program, base))
+    wrong = [(name, is_other(name, picture, write)) for name, picture in shown]
+    differences += [f"{name}: {it}" for name, it in wrong if it]
     for line in differences:
         print(line, file=sys.stderr)
-    print(f"map_pictures: {len(EXAMPLES)} examples, {len(KEPT) + 2} kept pictures, {len(differences)} differences ({', '.join(LEFT_OUT)} left out)")
+    print(f"map_pictures: {len(EXAMPLES)} examples, {len(KEPT) + 2 + len(shown)} kept pictures, {len(differences)} differences ({', '.join(LEFT_OUT)} left out)")
     return 1 if differences else 0
 
 

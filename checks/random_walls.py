@@ -13,114 +13,17 @@ import random
 import subprocess
 import sys
 import tempfile
-from math import isqrt
 
 from rooms import NAME, TOP, Venue, at, set_up
+
+sys.path.insert(0, os.path.join(TOP, "examples"))
+from sight import corners_of, edges_of, is_inside, is_near, joined, length
 
 METRE = 10_000
 SHAPES = ("box", "ell", "comb", "columns", "fin", "spike", "notch", "two", "court")
 
 
-# ---- the plane, in whole numbers
-
-
-def minus(p, q):
-    return p[0] - q[0], p[1] - q[1]
-
-
-def cross(u, v):
-    return u[0] * v[1] - u[1] * v[0]
-
-
-def dot(u, v):
-    return u[0] * v[0] + u[1] * v[1]
-
-
-def side(a, b, p):
-    return cross(minus(b, a), minus(p, a))
-
-
-def do_cross(a, b, c, d):
-    """The two segments cross in a point that is an end of neither."""
-    return side(a, b, c) * side(a, b, d) < 0 and side(c, d, a) * side(c, d, b) < 0
-
-
-def is_within(p, q, t):
-    return dot(minus(p, q), minus(p, q)) <= t * t
-
-
-def is_near(p, edge, t):
-    c, d = edge
-    length, along = dot(minus(d, c), minus(d, c)), dot(minus(d, c), minus(p, c))
-    if along <= 0:
-        return is_within(p, c, t)
-    if along >= length:
-        return is_within(p, d, t)
-    return side(c, d, p) ** 2 <= t * t * length
-
-
-def is_inside(p, edges):
-    found = False
-    for a, b in edges:
-        up = a[1] <= p[1] < b[1] and side(a, b, p) > 0
-        down = b[1] <= p[1] < a[1] and side(a, b, p) < 0
-        found ^= up or down
-    return found
-
-
-def edges_of(polygons, times=1):
-    rings = [[(times * x, times * y) for x, y in [*ring, ring[0]]] for polygon in polygons for ring in polygon]
-    return [edge for ring in rings for edge in zip(ring, ring[1:])]
-
-
-def corners_of(polygons):
-    found = []
-    for polygon in polygons:
-        for k, ring in enumerate(polygon):
-            points = [p for p, before in zip(ring, [ring[-1], *ring]) if p != before]
-            area = sum(cross(p, q) for p, q in zip(points, [*points[1:], points[0]]))
-            for u, v, w in zip([points[-1], *points], points, [*points[1:], points[0]]):
-                turn = side(u, v, w) * area
-                if turn < 0 if k == 0 else turn > 0:
-                    found.append(v)
-    return found
-
-
-def do_see(a, b, polygons, t):
-    """Two places, at their positions twice."""
-    for c, d in edges_of(polygons, 2):
-        if do_cross(a, b, c, d) and not is_near(a, (c, d), 2 * t) and not is_near(b, (c, d), 2 * t):
-            return False
-        for v in (c, d):
-            if side(a, b, v) == 0 and 0 < dot(minus(v, a), minus(b, a)) < dot(minus(b, a), minus(b, a)):
-                if not is_within(v, a, 2 * t) and not is_within(v, b, 2 * t):
-                    return False
-    middle, edges = (a[0] + b[0], a[1] + b[1]), edges_of(polygons, 4)
-    return is_inside(middle, edges) or any(is_near(middle, edge, 4 * t) for edge in edges)
-
-
-def length(a, b, scale):
-    """In whole centimetres, rounded up, of two places at their positions twice."""
-    square = ((a[0] - b[0]) * scale[0]) ** 2 + ((a[1] - b[1]) * scale[1]) ** 2
-    whole = -(-square // (4 * 10**18))
-    root = isqrt(whole)
-    return root if root * root == whole else root + 1
-
-
 # ---- the table
-
-
-def joined(members, spots, polygons, t, scale):
-    """The pairs of members that are joined, as sets of neighbours."""
-    sees = {a: {b for b in members if a != b and do_see(spots[a], spots[b], polygons, t)} for a in members}
-    seeing = [b for b in members if sees[b]]
-    if not seeing:
-        return {a: {b for b in members if a != b} for a in members}
-    for a in [a for a in members if a not in seeing]:
-        host = min(seeing, key=lambda b: (length(spots[a], spots[b], scale), b))
-        sees[a].add(host)
-        sees[host].add(a)
-    return sees
 
 
 def table(rooms, anchors, amenities, doors, clear, border, contain, scale):

@@ -3,8 +3,11 @@
 has a place is ringed in red, each note in a dashed ring, and what advise.py tells of an accepted folder for a wheelchair in violet; a table
 beneath tells them all, with what stands there enlarged. Labels that would cover others are left out, so the table alone has all.
 
-usage: map.py BASE FOLDER [--level N] > map.svg
-N is an ordinal; without it all levels are drawn. The program is that of the variable VENUE, else the launcher ./venue. What has no place,
+usage: map.py BASE FOLDER [--level N] [--way PROFILE FROM TO] [--sight] > map.svg
+N is an ordinal; without it all levels are drawn. Over an accepted folder --way draws the way that `venue route` prints, bent at its corners, with
+what each step costs, and no advice. --sight shows who draws folders, of rooms of up to 500 places, what ways meet where `inside` is `clear`: corners with their
+numbers, a ring round each place that sees nobody in its room with a dashed line to its host, and a cross at each position that lies in line
+between its neighbours, which hides along the wall. The program is that of the variable VENUE, else the launcher ./venue. What has no place,
 as a feature without a geometry or a file that can't be read, is in the table alone.
 """
 import html
@@ -21,6 +24,7 @@ import textwrap
 sys.dont_write_bytecode = True  # so that a clone stays as it is
 
 import advise
+import map_rooms
 
 HERE = os.path.dirname(os.path.abspath(__file__))
 PROGRAM = os.environ.get("VENUE") or os.path.join(HERE, "..", "venue")
@@ -36,6 +40,9 @@ path,circle{vector-effect:non-scaling-stroke;fill:none}.level{fill:#f7f8fa;strok
 .opening{stroke:#0b4fb3;stroke-width:3}.anchor,.amenity{fill:#526070;stroke:#fff}.name{text-anchor:middle;font-size:11px;fill:#526070}
 .ring{stroke:#c5221f;stroke-width:3}.note{stroke:#b06000;stroke-width:3;stroke-dasharray:5 4}.hint{stroke:#7b3fb5;stroke-width:3}
 .tag{font-weight:700;paint-order:stroke;stroke:#fff;stroke-width:4px}"""
+# Added where a way or sight is drawn.
+MORE_STYLE = """
+.way{stroke:#0a7d3b;stroke-width:4}.corner{fill:#7b3fb5}.number{font-size:10px;fill:#7b3fb5}.blind,.host{stroke:#c5221f;stroke-width:2}.host{stroke-dasharray:5 4}.hides{stroke:#b06000;stroke-width:2}"""
 
 
 def escape(text):
@@ -73,7 +80,8 @@ class Folder:
         raw = {(name, k): polygons(it.get("geometry")) for name in self.features for k, it in enumerate(self.features[name])}
         lon, lat = (statistics.median(axis) for axis in zip(*[p for parts in raw.values() for p in points_of(parts)] or [(0, 0)]))
         kx, ky = self.settings(lat)
-        self.parts = {key: [[[complex((x - lon) * kx, (lat - y) * ky) for x, y in ring] for ring in part] for part in raw[key]] for key in raw}
+        self.metres = lambda x, y: complex((x - lon) * kx, (lat - y) * ky)
+        self.parts = {key: [[[self.metres(*p) for p in ring] for ring in part] for part in raw[key]] for key in raw}
 
     def read(self, name):
         try:
@@ -250,9 +258,9 @@ def lens(level, at, top, scale):
     return f'<svg {box} viewBox="{x:g} {y:g} {side:g} {side:g}">{inner}</svg><rect class="frame" {box}/>'
 
 
-def draw(base, folder, wanted):
+def draw(base, folder, wanted, words, with_sight):
     venue, asked, (rows, others) = Folder(base, folder), sentences(), findings(base, folder)
-    advised, says = hints(base, folder, others)
+    advised, says = ([], {}) if words or with_sight else hints(base, folder, others)
     others, rows = others + ([f"advice {len(advised)}"] if advised else []), rows + advised
     picture, top = Picture(venue), 70
     told = {key: venue.ordinal(*key) for key in venue.parts if key[0] in DRAWN and venue.parts[key]}
@@ -261,12 +269,19 @@ def draw(base, folder, wanted):
     level_of = lambda key: levels[0] if told.get(key) is None else told[key]
     found = [(row, spot(venue, *row)) for row in rows]
     found = [(row, it and level_of(it[1]), it and picture.at(it[0])) for row, it in found]
+    rooms = map_rooms.Rooms(base, folder) if (words or with_sight) and others and others[0].startswith("accepted") else None
+    place = lambda it: picture.at(venue.metres(*(axis / 2e9 for axis in it)))
+    nodes, costs, why = map_rooms.way(PROGRAM, base, folder, words) if rooms and words else ([], [], "the folder is rejected")
+    labels_on = {level: Labels() for level in levels}
+    sight, left = map_rooms.drawn_sight(rooms, place, labels_on) if rooms and with_sight else ({}, [])
     out = [f'<text class="bold" x="{EDGE}" y="30">{escape(" · ".join([folder] + others))}</text>']
     for level in shown:
-        labels = Labels()
+        labels = labels_on[level]
         rings = [ring(row, at, labels) for row, on, at in found if at and on == level]
+        way = map_rooms.drawn_way(rooms, level, place, nodes, costs, labels) if nodes else []
         out += [f'<g transform="translate(0 {top:g})"><text class="soft" x="{EDGE}" y="0">level {level:g}</text><g id="level{level:g}">']
-        out += [drawn(venue, picture, *key, told[key] is None, labels) for key in told if level_of(key) == level] + ["</g>", *rings, "</g>"]
+        out += [drawn(venue, picture, *key, told[key] is None, labels) for key in told if level_of(key) == level] + ["</g>", *rings]
+        out += [*sight.get(level, []), *way, "</g>"]
         top += picture.height + 30
     lenses = 0
     for row, level, at in found:
@@ -281,16 +296,20 @@ def draw(base, folder, wanted):
         lines = [("", called)] + [("soft", line) for line in text]
         out += [f'<text class="{it}" x="{EDGE + LENS + 48}" y="{top + 16 + 19 * k:g}">{escape(line)}</text>' for k, (it, line) in enumerate(lines)]
         top += max(LENS if has_lens else 0, 24 + 19 * len(text)) + 14
+    for line in (map_rooms.told_way(nodes, costs, why) if words else []) + left:
+        out.append(f'<text x="{EDGE}" y="{top + 16:g}">{escape(line)}</text>')
+        top += 19
     size = f'width="{WIDTH}" height="{top + 10:g}" viewBox="0 0 {WIDTH} {top + 10:g}"'
-    ground = f'<style>{STYLE}</style><rect width="100%" height="100%" fill="#fff"/>'
+    ground = f'<style>{STYLE}{MORE_STYLE if words or with_sight else ""}</style><rect width="100%" height="100%" fill="#fff"/>'
     return "\n".join([f'<svg xmlns="http://www.w3.org/2000/svg" {size}>{ground}', *out, "</svg>\n"])
 
 
 def main(words):
-    has_level = len(words) == 4 and words[2] == "--level" and re.fullmatch(r"-?\d+", words[3])
-    if len(words) != 2 and not has_level:
+    found = re.fullmatch(r"(--level\n-?\d+\n)?(--way\n.+\n.+\n.+\n)?(--sight\n)?", "".join(f"{it}\n" for it in words[2:]))
+    if len(words) < 2 or not found:
         sys.exit(__doc__)
-    sys.stdout.buffer.write(draw(*words[:2], int(words[3]) if has_level else None).encode())
+    level, way = (it.split() if it else [] for it in found.groups()[:2])
+    sys.stdout.buffer.write(draw(*words[:2], int(level[1]) if level else None, way[1:], bool(found[3])).encode())
 
 
 main(sys.argv[1:])
