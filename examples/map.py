@@ -5,9 +5,9 @@ beneath tells them all, with what stands there enlarged. Labels that would cover
 
 usage: map.py BASE FOLDER [--level N] [--way PROFILE FROM TO] [--sight] > map.svg
 N is an ordinal; without it all levels are drawn. Over an accepted folder --way draws the way that `venue route` prints, bent at its corners, with
-what each step costs, and no advice. --sight shows who draws folders, of rooms of up to 500 places, what ways meet where `inside` is `clear`: corners with their
+what each step costs. --sight shows who draws folders what ways meet where `inside` is `clear`, in rooms of up to 500 places: corners with their
 numbers, a ring round each place that sees nobody in its room with a dashed line to its host, and a cross at each position that lies in line
-between its neighbours, which hides along the wall. The program is that of the variable VENUE, else the launcher ./venue. What has no place,
+between its neighbours, as it hides along the wall. With either no advice is drawn. The program is that of the variable VENUE, else the launcher ./venue. What has no place,
 as a feature without a geometry or a file that can't be read, is in the table alone.
 """
 import html

@@ -29,10 +29,17 @@ class Rooms:
         self.walked = [it for it in self.folder["unit"] if it.is_walked]
         self.polygons = {it.id: self.shape(it) for it in self.walked}
         kinds = [*self.folder["amenity"], *self.folder["anchor"], *self.folder["opening"], *self.walked]
+        self.named, self.doors, self.corners = {}, {}, {}
+        for it in [*self.folder["amenity"], *self.folder["anchor"]]:
+            for unit in {unit.id for unit in self.folder.units_of(it)}:
+                self.named.setdefault(unit, []).append((it.id, 0))
+        for it in self.folder["opening"]:
+            self.doors.setdefault(self.folder.level_of(it).id, []).append((it.id, [ticks(p) for p in it.geometry["coordinates"]]))
         self.places = {(it.id, 0): self.place(it) for it in kinds}
         for unit in self.walked:
             if unit.category != "movingwalkway":
-                self.places |= {(unit.id, k): (2 * x, 2 * y) for k, (x, y) in enumerate(corners_of(self.polygons[unit.id]), 1)}
+                self.corners[unit.id] = [(unit.id, k) for k, _ in enumerate(corners_of(self.polygons[unit.id]), 1)]
+                self.places.update(zip(self.corners[unit.id], ((2 * x, 2 * y) for x, y in corners_of(self.polygons[unit.id]))))
 
     def shape(self, unit):
         found = unit.geometry["coordinates"]
@@ -51,16 +58,14 @@ class Rooms:
     def level(self, node):
         return self.folder.level_of(self.folder.get(node[0])).its["ordinal"]
 
-    def touches(self, opening, unit, edges):
-        near = lambda p: any(is_near(p, edge, self.folder.settings["border_tol"]) for edge in edges)
-        return opening.its["level_id"] == unit.its["level_id"] and all(near(ticks(p)) for p in opening.geometry["coordinates"])
-
     def members(self, unit):
         """The members of a unit, in the order of the nodes."""
-        edges, kinds = edges_of(self.polygons[unit.id]), ("amenity", "anchor")
-        named = [it for kind in kinds for it in self.folder[kind] if unit in self.folder.units_of(it)]
-        doors = [it for it in self.folder["opening"] if self.touches(it, unit, edges)]
-        return [(it.id, 0) for it in named + doors] + [node for node in self.places if node[0] == unit.id]
+        edges, near = edges_of(self.polygons[unit.id]), self.folder.settings["border_tol"]
+        (west, east), (south, north) = ((min(axis) - near, max(axis) + near) for axis in zip(*(p for edge in edges for p in edge)))
+        is_by = lambda x, y: west <= x <= east and south <= y <= north
+        touches = lambda p: is_by(*p) and any(is_near(p, edge, near) for edge in edges)
+        doors = [(name, 0) for name, line in self.doors.get(self.folder.level_of(unit).id, []) if all(map(touches, line))]
+        return [*self.named.get(unit.id, []), *doors, (unit.id, 0), *self.corners[unit.id]]
 
 
 def way(program, base, name, words):
@@ -69,7 +74,7 @@ def way(program, base, name, words):
     answer, table = run("route", base, name, *words), [line.split() for line in run("links", base, name, words[0])]
     lines = [line.split() for line in answer]
     if not any(line[0] == "route" for line in lines):
-        return [], [], " ".join(answer[3:4] or answer[:1])
+        return [], [], "no links lead there" if "none" in answer else " ".join(answer[:1])
     nodes, count = [], {}
     for row in (row for row in table if row[0] == "node"):
         count[row[1]] = count.get(row[1], -1) + 1
@@ -121,9 +126,9 @@ def drawn_sight(rooms, at, labels_on):
     """By level: the corners of rooms, who sees nobody in one and who leads him, and the positions that hide along a wall. Then what is left out."""
     out, left = {}, []
     for unit in rooms.walked:
-        members = rooms.members(unit)
         if unit.category == "movingwalkway":
             continue
+        members = rooms.members(unit)
         if len(members) > MOST_PLACES:
             left.append(f"left out: #{unit.id[-4:]}, with {len(members)} places")
             continue
