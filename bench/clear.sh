@@ -9,5 +9,5 @@ begin_searches
 
 while read -r name from to; do
     case $name in hall) wanted='at most 0.1' ;; levels) wanted='at most 0.6' ;; *) wanted='at most 1' ;; esac
-    judge "$name" walk "$from" "$to" 30 "$wanted"
+    judge "$name" walk "$from" "$to" 30 "$wanted" clear
 done <"$work/ends"

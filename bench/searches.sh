@@ -1,5 +1,5 @@
 # Sourced by benchmarks, after `begin.sh`: `begin_searches` builds what times `route_search::least`, and plain Rust over stored rows of a printed
-# table with the heap of the standard library; `judge FOLDER PROFILE FROM TO ROUNDS WANTED` times both over a folder of $work/base, each by the
+# table with the heap of the standard library; `judge FOLDER PROFILE FROM TO ROUNDS WANTED [clear]` times both over a folder of $work/base, each by the
 # least milliseconds of so many calls in three turns, and compares costs. Wants the kit (rt) and rustc. The first build proves some twenty
 # crates and takes a while.
 . bench/venue_calls.sh
@@ -14,10 +14,10 @@ begin_searches() {
 # Of lines of a time, a cost and a count that of the least time.
 least() { sort -n | head -n 1; }
 
-judge() { # FOLDER PROFILE FROM TO ROUNDS WANTED
+judge() { # FOLDER PROFILE FROM TO ROUNDS WANTED [clear]
     "$program" links "$work/base" "$1" "$2" >"$work/table"
     for _ in 1 2 3; do
-        "$built" "$work/base/$1" "$2" "$3" "$4" "$5" >>"$work/ours"
+        "$built" "$work/base/$1" "$2" "$3" "$4" "$5" ${7-} >>"$work/ours"
         "$work/time_search" "$work/table" "$3" "$4" "$5" >>"$work/theirs"
     done
     read -r ours cost count < <(least <"$work/ours")
