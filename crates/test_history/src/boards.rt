@@ -187,7 +187,7 @@ fn closed_in(reply: &Reply) -> &[ClosedRow] {
     }
 }
 
-fn listed_in(reply: &Reply) -> &[NodeName] {
+fn reached_in(reply: &Reply) -> &[NodeName] {
     match reply {
         Reply::NoRoute {
             reached: Some(reached),
@@ -211,7 +211,13 @@ fn judge_closed(rt: &impl Abort, found: &[ClosedRow], listed: &[u128]) {
     }
 }
 
-fn judge_listed(rt: &impl Abort, found: &[NodeName], listed: &[u128]) {
+fn judge_listed(rt: &impl Abort, found: &[FeatureId], listed: &[u128]) {
+    for (found, tail) in found.iter().zip(listed) {
+        assert!(rt; *found == id(*tail));
+    }
+}
+
+fn judge_reached(rt: &impl Abort, found: &[NodeName], listed: &[u128]) {
     for (found, tail) in found.iter().zip(listed) {
         assert!(rt; found.id == id(*tail) && found.corner.is_none());
     }
@@ -233,10 +239,10 @@ fn judge_steps(rt: &impl Abort, found: &[StepRow], steps: &[Step]) {
 
 fn judge_reply(rt: &impl Abort, reply: &Reply, row: &Row) {
     assert!(rt; told_of(reply) == row.told);
-    let (closed, listed) = (closed_in(reply), listed_in(reply));
-    assert!(rt; closed.len().max(listed.len()) == row.listed.len());
+    let (closed, reached) = (closed_in(reply), reached_in(reply));
+    assert!(rt; closed.len().max(reached.len()) == row.listed.len());
     judge_closed(rt, closed, row.listed);
-    judge_listed(rt, listed, row.listed);
+    judge_reached(rt, reached, row.listed);
     judge_steps(rt, steps_in(reply), row.steps);
 }
 
