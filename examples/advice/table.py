@@ -2,7 +2,6 @@
 import collections
 import itertools
 import os
-import re
 import subprocess
 import tempfile
 
@@ -54,25 +53,12 @@ def ask(program, base, folder, name, profile):
     return table
 
 
-def without_walls(base):
-    """The settings of a base, under which ways go straight across rooms: what is told of ways takes no account of walls within a room."""
-    with open(os.path.join(base, "venue.toml"), encoding="utf-8") as file:
-        return re.sub(r"""(?m)^[ \t]*["']?inside["']?[ \t]*=.*$""", "", file.read())
-
-
 def tables_of(program, folder, profile):
     """The profile's table, and that of somebody who may use everything but what is out of service."""
     with tempfile.TemporaryDirectory() as base:
         os.symlink(os.path.abspath(folder.path("")), os.path.join(base, "venue"))
         settings = [f"{key} = {folder.settings[key]}" for key in KEPT] + ["[[profile]]", 'name = "all"']
-        put(base, "\n".join(settings + [f"{flag} = true" for flag in FLAGS if flag != "marked"]) + "\n")
+        with open(os.path.join(base, "venue.toml"), "w", encoding="utf-8") as file:
+            file.write("\n".join(settings + [f"{flag} = true" for flag in FLAGS if flag != "marked"]) + "\n")
         whole = ask(program, base, folder, "venue", "all")
-        if folder.settings.get("inside") == "clear":
-            put(base, without_walls(folder.base))
-            return ask(program, base, folder, "venue", profile), whole
     return ask(program, folder.base, folder, folder.name, profile), whole
-
-
-def put(base, settings):
-    with open(os.path.join(base, "venue.toml"), "w", encoding="utf-8") as file:
-        file.write(settings)
