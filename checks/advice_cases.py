@@ -21,6 +21,14 @@ def box(x1, y1, x2, y2):
     return {"type": "Polygon", "coordinates": [[at(x1, y1), at(x2, y1), at(x2, y2), at(x1, y2), at(x1, y1)]]}
 
 
+def ring(*places):
+    return {"type": "Polygon", "coordinates": [[at(x, y) for x, y in [*places, places[0]]]]}
+
+
+def halves(*boxes):
+    return {"type": "MultiPolygon", "coordinates": [box(*it)["coordinates"] for it in boxes]}
+
+
 def point(x, y):
     return {"type": "Point", "coordinates": at(x, y)}
 
@@ -112,9 +120,45 @@ def stairs(v, name=None):
     v.add("stairs0", "unit", box(52, 30, 56, 36), level_id=v.id("level0"), category="stairs", name=name)
 
 
-# What stays where only lift A leads up: each of these cuts off the upper level.
-ONE_LIFT = [("closings", "passage", f"lift A{k}") for k in (0, 1)] + [("closings", "passage", "ride A")]
-ONE_LIFT += [("closings", "opening", f"door A{k}") for k in (0, 1)]
+def walled(v, word, geometry):
+    v.settings.update(inside='"clear"')
+    v.draw(word, geometry)
+
+
+def books_in_halves(v):
+    """A wall through a room, with the door and a second shop on one side."""
+    walled(v, "Books0", halves((20, 0, 30, 6), (20, 7, 30, 10)))
+    v.add("new", "anchor", point(22, 8), unit_id=v.id("Books0"))
+
+
+def hall_in_halves(v):
+    """A wall through the lower hall, on the side of which that has lift B there is no gate."""
+    walled(v, "hall0", halves((0, 10, 31, 30), (32, 10, 60, 30)))
+    v.take_out("East gate")
+
+
+def lift_round_a_corner(v):
+    """Only lift A leads up, and below one walks in it round a corner from the door to its own place."""
+    walled(v, "lift A0", ring((10, 30), (13, 30), (13, 36), (19, 36), (19, 39), (10, 39)))
+    v["lift A0"].update(display_point=point(18, 37.5))
+    v.take_out("ride B", "lift B0", "lift B1", "door B0", "door B1")
+
+
+def lift_in_halves(v):
+    """A wall between the door of lift A and its own place, so that only lift B leads up."""
+    walled(v, "lift A0", halves((10, 30, 13, 33), (10, 35, 13, 40)))
+    v["lift A0"].update(display_point=point(11, 37))
+    for name, y in (("new", 32), ("other", 38)):
+        v.add(name, "anchor", point(12, y), unit_id=v.id("lift A0"))
+
+
+def only(name):
+    """What stays where one lift alone leads up: each of these cuts off the upper level."""
+    found = [("closings", "passage", f"lift {name}{k}") for k in (0, 1)] + [("closings", "passage", f"ride {name}")]
+    return found + [("closings", "opening", f"door {name}{k}") for k in (0, 1)]
+
+
+ONE_LIFT = only("A")
 # Of each case a change of the sound venue that brings it, all advice that comes then, and a change after it that mends it by what is told.
 CASES = {
     "an amenity of two levels": (
@@ -240,5 +284,26 @@ CASES = {
             [v.add(f"door ramp{k}", "opening", line(41, 30, 43, 30), level_id=v.id(f"level{k}"), name=None) for k in (0, 1)],
             v.join("ramp", "ramp", "ramp0", "ramp1"),
         ),
+    ),
+    "a room with a wall through it": (
+        books_in_halves,
+        [("unreachable", "part", "shop Books0")],
+        # The wall ends before the other side.
+        lambda v: v.draw("Books0", ring((20, 0), (30, 0), (30, 10), (20, 10), (20, 7), (28, 7), (28, 6), (20, 6))),
+    ),
+    "a hall with a wall through it": (
+        hall_in_halves,
+        [*ONE_LIFT, ("closings", "opening", "West gate")],
+        lambda v: v.rows["opening"].append(v.words["East gate"]),
+    ),
+    "one lift, in which one walks round a corner": (
+        lift_round_a_corner,
+        ONE_LIFT,
+        lambda v: CASES["one lift"][2](v),
+    ),
+    "a lift with a wall through it": (
+        lift_in_halves,
+        only("B"),
+        lambda v: v.draw("lift A0", box(10, 30, 13, 40)),
     ),
 }

@@ -14,7 +14,7 @@ from advice import drawn
 from advice.folder import Folder
 from advice.led import Led
 from advice.table import tables_of
-from advice_cases import Venue, box, line, point
+from advice_cases import Venue, box, halves, line, point, ring
 
 SIDE = 10
 UPWARD = ["elevator", "escalator", "ramp", "stairs", "movingwalkway"]
@@ -22,11 +22,13 @@ ON_THE_WAY = UPWARD + ["steps"]
 
 
 class Made(Venue):
-    """A venue of square rooms in a grid, some missing and some solid, with doors in the walls, halls over several rooms, and passages."""
+    """A venue of square rooms in a grid, some missing and some solid, with doors in the walls, halls over several rooms, and passages. Where
+    ways go round walls many rooms have one in them."""
 
-    def __init__(self, draw):
+    def __init__(self, draw, is_clear):
         super().__init__()
-        self.random, self.outside, self.cells = draw, set(), []
+        self.settings |= {"inside": '"clear"'} if is_clear else {}
+        self.random, self.outside, self.cells, self.is_clear = draw, set(), [], is_clear
         self.wide, self.deep, self.high = draw.randint(1, 4), draw.randint(1, 3), draw.randint(1, 3)
         around = box(0, 0, self.wide * SIDE, self.deep * SIDE)
         self.add("venue", "venue", around)
@@ -51,7 +53,7 @@ class Made(Venue):
                 word = self.random.choice(["room", "room", "walkway", "elevator", "ramp", "stairs", "movingwalkway", "column"])
                 its = {"level_id": self.id(f"level{k}"), "category": word}
                 its |= {"restriction": "employeesonly"} if self.chance(0.1) else {}
-                self.add(f"unit {k} {i} {j}", "unit", box(i * SIDE, j * SIDE, (i + 1) * SIDE, (j + 1) * SIDE), **its)
+                self.add(f"unit {k} {i} {j}", "unit", self.room(i * SIDE, j * SIDE), **its)
                 covered[i, j] = [f"unit {k} {i} {j}"]
         if self.chance(0.3):
             i, j = self.random.randint(0, self.wide - 1), self.random.randint(0, self.deep - 1)
@@ -62,6 +64,15 @@ class Made(Venue):
                 for y in range(j, to[1]):
                     covered.setdefault((x, y), []).append(f"hall {k}")
         self.cells.append(covered)
+
+    def room(self, x, y):
+        """A room; with walls it may be an L, or have a fin from the west, or one that reaches to the east and so makes two halves of it."""
+        form = self.random.choice(["box", "corner", "fin", "halves", "halves"]) if self.is_clear else "box"
+        if form == "corner":
+            return ring(*((x + a, y + b) for a, b in ((0, 0), (SIDE, 0), (SIDE, SIDE), (3.8, SIDE), (3.8, 6.2), (0, 6.2))))
+        if form == "fin":
+            return ring(*((x + a, y + b) for a, b in ((0, 0), (SIDE, 0), (SIDE, SIDE), (0, SIDE), (0, 8), (8, 8), (8, 6.5), (0, 6.5))))
+        return halves((x, y, x + SIDE, y + 6.5), (x, y + 8, x + SIDE, y + SIDE)) if form == "halves" else box(x, y, x + SIDE, y + SIDE)
 
     def doors_of_level(self, k):
         for i in range(self.wide + 1):
@@ -112,12 +123,14 @@ class Made(Venue):
 
 
 class Search:
-    """The links of a profile as pairs of identifiers, with what each goes by."""
+    """The links of a profile as pairs of identifiers, with what each goes by. A corner is told by its line behind the unit's identifier."""
 
     def __init__(self, venue, text, profile):
         rows = [row.split() for row in text.splitlines()]
-        self.venue, self.profile = venue, profile
-        self.nodes = [row[1] for row in rows if row[0] == "node"]
+        self.venue, self.profile, self.nodes = venue, profile, []
+        for name in (row[1] for row in rows if row[0] == "node"):
+            self.nodes.append(f"{name}/{len(self.nodes)}" if name in self.nodes else name)
+        self.places = [it for it in self.nodes if "/" not in it]
         self.links = [(self.nodes[int(row[1])], self.nodes[int(row[2])], row[4]) for row in rows if row[0] == "link"]
         self.by_id = {it["id"]: it for its in venue.rows.values() for it in its}
         self.roots = self.where_ways_begin()
@@ -153,11 +166,12 @@ class Search:
     def where_ways_begin(self):
         passed = {it for link in self.links for it in link[:2]}
         doors = self.venue.outside & passed
-        largest = max(self.parts(self.nodes), key=len, default=[])
+        parts = [[it for it in part if it in self.places] for part in self.parts(self.nodes)]
+        largest = max(parts, key=len, default=[])
         if not largest or doors & set(largest):
             return doors
         halls = [it for it in largest if self.kind(it) == "unit" and self.its(it)["category"] not in ON_THE_WAY] or largest
-        members = lambda unit: len({a for a, b, via in self.links if via == unit})
+        members = lambda unit: len({a for a, b, via in self.links if via == unit and a in self.places})
         most = max(map(members, halls))
         return doors | {next(it for it in halls if members(it) == most)}
 
@@ -180,7 +194,7 @@ class Search:
         near = self.led(self.roots, self.links) | self.led(self.roots, self.turned(self.links))
         found, apart = [], set()
         for part in self.parts([it for it in self.nodes if it not in near]):
-            its = {it for it in part if self.kind(it) in ("anchor", "amenity", "opening") and not self.is_barred(it)}
+            its = {it for it in part if it in self.places and self.kind(it) in ("anchor", "amenity", "opening") and not self.is_barred(it)}
             kept = {it for it in its if self.units(it) and all(self.its(unit).get("restriction") for unit in self.units(it))}
             apart |= self.with_shops(kept)
             found.append(self.with_shops(its - kept))
@@ -200,7 +214,7 @@ class Search:
     def closings(self):
         """Of each door, lift and ramp whose closing cuts levels off, how many can't be reached then, and how many can't be left."""
         groups = {}
-        for it in self.nodes:
+        for it in self.places:
             if self.kind(it) != "opening" and not (self.kind(it) == "unit" and self.its(it)["category"] in ON_THE_WAY):
                 groups.setdefault(self.level(it), []).append(it)
         found = {}
@@ -242,7 +256,7 @@ def differ(program, first, end):
     """What is wrong with the made venues of these numbers, None where nothing is."""
     with tempfile.TemporaryDirectory() as base:
         for number in range(first, end):
-            venue = Made(random.Random(number))
+            venue = Made(random.Random(number), is_clear=number % 2 == 1)
             venue.write(base)
             for profile in ("wheelchair", "walk"):
                 search = Search(venue, printed(program, base, profile), profile)

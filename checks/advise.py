@@ -6,6 +6,7 @@ that name what is wrong.
 usage: advise.py [PROGRAM [VENUES]]   (without PROGRAM the launcher ./venue, which builds the program if need be; 1,000 venues)
 It prints a line for each difference and one at the end, and ends with status 1 at a difference.
 """
+import itertools
 import json
 import multiprocessing
 import os
@@ -105,6 +106,12 @@ def broken_differs(word):
         return f"{word}: {wrong}" if wrong or not is_json else None
 
 
+def walls_differ(folder, profile):
+    """Whether of a folder in which one walks round corners anything is told but its scale."""
+    found = advised(os.path.join(TOP, "examples", "walls"), folder, profile)
+    return None if [it[:2] for it in found] == [("scale", "venue")] else f"walls, {folder}: {found}"
+
+
 def page_differs():
     """Whether docs/RULES.md has the kinds that there are, in their order."""
     with open(os.path.join(TOP, "docs", "RULES.md"), encoding="utf-8") as file:
@@ -118,6 +125,7 @@ def main():
     tasks = [(differs, (word,)) for word in advice_cases.CASES] + [(station_differs, ("station", "wheelchair", STATION))]
     tasks += [(station_differs, ("station", "walk", STATION)), (station_differs, ("nolift", "wheelchair", NOLIFT))]
     tasks += [(arcade_differs, ("wheelchair", ARCADE_WHEELCHAIR)), (arcade_differs, ("walk", ARCADE_WALK)), (page_differs, ()), (mended_differs, ())]
+    tasks += [(walls_differ, its) for its in itertools.product(("ell", "ell_room", "concourse"), ("wheelchair", "walk"))]
     tasks += [(broken_differs, (word,)) for word in advice_broken.CASES]
     tasks += [(advice_search.differ, (PROGRAM, first, min(VENUES, first + 20))) for first in range(0, VENUES, 20)]
     if len(sys.argv) < 2:

@@ -34,7 +34,7 @@ class Led:
                 self.occupants.setdefault(folder.get(it.its["anchor_id"]).id, []).append(it)
 
     def node(self, number):
-        """The feature of a node; None of a vertex that stands for a relationship."""
+        """The feature of a node; None of a corner, and of a vertex that stands for a relationship or a block."""
         return self.folder.get(self.table.nodes[number]) if number < len(self.table.nodes) else None
 
     def roots_of(self, doors):
@@ -130,12 +130,14 @@ class Led:
         found = {}
         for number in set().union(*both):
             it = self.node(number)
-            if it and (it.kind == "opening" or it.kind == "unit" and it.category in LADDERS):
+            if it and (it.kind == "opening" or it.kind == "unit" and it.category in LADDERS and it.id not in self.graph.of_walled):
                 found[it.id] = [cut.get(number, (0, [])) for cut in both]
         several = {name for name, its in self.graph.of_relationship.items() if len(its) > 1}
         for name, (number, *more) in self.graph.of_relationship.items():
             if not more and self.folder.get(name).category in LADDERS:
                 found[name] = [cut.get(number, (0, [])) for cut in both]
+        walled = {it: [self.number[it], *hubs] for it, hubs in self.graph.of_walled.items() if self.folder.get(it).category in LADDERS}
+        found |= {name: self.cuts_without(closed, lists) for name, closed in walled.items()}
         return found | self.cuts_of_several(lists, {it for it in several if self.folder.get(it).category in LADDERS})
 
     def cuts_of_several(self, lists, names):
@@ -146,10 +148,11 @@ class Led:
             joined = Graph(self.table, lambda name: name in names - directed)
             both = [cut_by(joined.next, self.roots, lists), cut_by(joined.back(), self.roots, lists)]
             found |= {name: [cut.get(joined.of_relationship[name][0], (0, [])) for cut in both] for name in names - directed}
-        for name in directed:
-            closed = self.graph.of_relationship[name]
-            found[name] = [self.cut_without(follow, closed, seen, lists) for follow, seen in ((self.graph.next, self.reached), (self.back, self.left))]
-        return found
+        return found | {name: self.cuts_without(self.graph.of_relationship[name], lists) for name in directed}
+
+    def cuts_without(self, closed, lists):
+        """The same where all of some vertices are closed."""
+        return [self.cut_without(follow, closed, seen, lists) for follow, seen in ((self.graph.next, self.reached), (self.back, self.left))]
 
     def cut_without(self, follow, closed, seen, lists):
         still = reach(follow, self.roots, closed)
@@ -229,6 +232,7 @@ class Visitors:
     def sources(self, public):
         """The places from which ways are looked for: all, or as many as time allows, evenly spread."""
         steps = len(self.table.nodes) + sum(map(len, self.table.areas.values()))
+        steps += sum(len(ends) for joined in self.table.walled.values() for ends, _ in joined.values())
         count = max(8, MOST_STEPS // max(1, steps))
         return public if len(public) <= count else [public[k * len(public) // count] for k in range(count)]
 

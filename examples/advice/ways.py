@@ -4,16 +4,19 @@ from math import ceil, hypot
 
 
 class Graph:
-    """The nodes of a table, numbered as there, and after them a vertex for each pair of nodes that a relationship joins. A unit's members
-    are joined by its own node, which stands for the walk across it."""
+    """The nodes and the corners of a table, numbered as there, and after them a vertex for each pair of nodes that a relationship joins. A
+    unit's members are joined by its own node, which stands for the walk across it; those of a walled unit by a vertex for each block."""
 
     def __init__(self, table, is_one=lambda name: False):
         """Of a relationship for which `is_one` holds all nodes are joined by one vertex."""
-        self.table, count = table, len(table.nodes)
+        self.table, count = table, len(table.nodes) + table.corners
         number = {name: k for k, name in enumerate(table.nodes)}
         self.next = [[] for _ in range(count)]
-        self.of_relationship, between = {}, {}
+        self.of_relationship, self.of_walled, between = {}, {}, {}
         for unit, members in table.areas.items():
+            if unit in table.blocks:
+                self.of_walled[unit] = [self.hub_of(block) for block in table.blocks[unit]]
+                continue
             hub = number[unit]
             self.next[hub].extend(it for it in members if it != hub)
             for member in members:
@@ -27,6 +30,13 @@ class Graph:
                 self.of_relationship.setdefault(name, []).append(between[key])
             self.next[start].append(between[key])
             self.next[between[key]].append(end)
+
+    def hub_of(self, block):
+        """A new vertex that joins the vertices of a block."""
+        for it in block:
+            self.next[it].append(len(self.next))
+        self.next.append(block)
+        return len(self.next) - 1
 
     def back(self):
         """The same links, each the other way."""
@@ -68,6 +78,38 @@ def parts_of(follow, back, wanted):
                     left[it] = 0
                     part.append(it)
         found.append(part)
+    return found
+
+
+def blocks_of(joined):
+    """The largest sets of vertices that stay joined without any one of them, of links that lead both ways (J. Hopcroft and R. E. Tarjan,
+    1973). Sets of which one vertex is the same are joined by it alone."""
+    found, place, least = [], {}, {}
+    for root in joined:
+        if root in place:
+            continue
+        place[root] = least[root] = len(place)
+        stack, waiting = [(root, iter(joined[root]))], []
+        while stack:
+            at, todo = stack[-1]
+            for it in todo:
+                if it not in place:
+                    place[it] = least[it] = len(place)
+                    waiting.append(it)
+                    stack.append((it, iter(joined[it])))
+                    break
+                least[at] = min(least[at], place[it])
+            else:
+                stack.pop()
+                if not stack:
+                    break
+                above = stack[-1][0]
+                least[above] = min(least[above], least[at])
+                if least[at] >= place[above]:
+                    block = [above]
+                    while block[-1] != at:
+                        block.append(waiting.pop())
+                    found.append(block)
     return found
 
 
@@ -169,16 +211,17 @@ def meeting(nearest, depth, a, b):
 
 
 class Costs:
-    """Cheapest ways over a table, at the lengths of straight lines and what the settings add."""
+    """Cheapest ways over a table, at the lengths of straight lines, in walled units those of the table, and what the settings add."""
 
     def __init__(self, table, at, extra_of):
         """`at` has the place of each node in centimetres, `extra_of` what a relationship adds."""
         self.table, self.at, self.extra_of = table, at, extra_of
-        self.areas = [[] for _ in table.nodes]
-        self.links = [[] for _ in table.nodes]
+        self.links = [[] for _ in range(len(table.nodes) + table.corners)]
+        self.areas, self.walled = [[] for _ in self.links], [[] for _ in self.links]
         for unit, members in table.areas.items():
-            for member in members:
-                self.areas[member].append(unit)
+            into = self.walled if unit in table.walled else self.areas
+            for member in table.walled.get(unit, members):
+                into[member].append(unit)
         for name, start, end in table.links:
             self.links[start].append((name, end))
 
@@ -188,7 +231,7 @@ class Costs:
 
     def ways_from(self, source):
         """Of each node that is reached, in the order of cost, the node before it and by what it is reached. A way goes straight
-        across a unit, so a node that is reached across one isn't gone on from across the same."""
+        across a unit that isn't walled, so a node that is reached across one isn't gone on from across the same."""
         cost, came, order, done = {source: 0}, {source: (None, None)}, [], set()
         todo = [(0, source)]
         while todo:
@@ -198,6 +241,7 @@ class Costs:
             done.add(at)
             order.append(at)
             steps = [(it, unit, so_far + self.length(at, it)) for unit in self.areas[at] if unit != came[at][1] for it in self.table.areas[unit]]
+            steps += [(it, unit, so_far + far) for unit in self.walled[at] for it, far in zip(*self.table.walled[unit][at])]
             steps += [(it, name, so_far + self.length(at, it) + self.extra_of(name)) for name, it in self.links[at]]
             for it, by, whole in steps:
                 if it not in cost or whole < cost[it]:
