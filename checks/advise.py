@@ -1,6 +1,6 @@
 #!/usr/bin/env python3
 """Compares what `./venue advise` tells: of a small venue that is changed once for each kind of advice, and mended; of the folders of
-examples/ as they are, and of the arcade when all is mended; of made venues, with a plain search; and that each broken folder is told in words
+examples/ as they are, and of the arcade when all is mended, also where ways go round walls; of made venues, every other with walls in rooms, with a plain search; and that each broken folder is told in words
 that name what is wrong.
 
 usage: advise.py [PROGRAM [VENUES]]   (without PROGRAM the launcher ./venue, which builds the program if need be; 1,000 venues)
