@@ -2,7 +2,7 @@
 
 usage: clear_folders.py BASE   (BASE gets venue.toml and the folders `hall`, `levels` and `serpentine`)
 Every run writes the same bytes, and prints for each folder its name and the numbers of two nodes that lie far apart. `hall` has one unit of
-4,000 doors with a small room behind each, and twenty columns. `levels` has 200 levels: a corridor round a corner with a hundred rooms, a lift at
+4,000 doors, a thousand on each side, with a small room behind each, and twenty columns. `levels` has 200 levels: a corridor round a corner with a hundred rooms, a lift at
 one end and stairs at the other, joined as in `levels.py`. `serpentine` has a hall of 314 thin walls, each open at the other end than the one
 before it: 1,256 corners. A step on the ground is a microdegree, 10 centimetres.
 """
@@ -22,10 +22,16 @@ def corners_of(x1, y1, x2, y2):
 
 
 def hall():
-    columns = [corners_of(2000 + 4000 * k, 330, 2040 + 4000 * k, 370) for k in range(20)]
-    behind = [(40 * j, y, 40 * j + 40, y + 100) for y in (0, 600) for j in range(2000)]
-    shapes = [("room", room(corners_of(0, 100, 80000, 600), columns))] + [("room", box(*it)) for it in behind]
-    return box(0, 0, 80000, 700), shapes, [line((x1 + 10, y), (x1 + 30, y)) for y in (100, 600) for x1 in range(0, 80000, 40)]
+    """Doors on all four sides, a thousand each."""
+    near, far = 100, 40100
+    along = range(near, far, 40)
+    columns = [corners_of(x, y, x + 100, y + 100) for x in range(4050, far, 8000) for y in range(5050, far, 10000)]
+    doors, rooms = [], []
+    for at in along:
+        doors += [line((at + 10, y), (at + 30, y)) for y in (near, far)] + [line((x, at + 10), (x, at + 30)) for x in (near, far)]
+        rooms += [box(at, y, at + 40, y + 100) for y in (0, far)] + [box(x, at, x + 100, at + 40) for x in (0, far)]
+    shapes = [("room", room(corners_of(near, near, far, far), columns))] + [("room", it) for it in rooms]
+    return box(0, 0, far + 100, far + 100), shapes, doors
 
 
 def level():
@@ -57,7 +63,7 @@ def main():
 
     one = level()
     passages = [(category, k, u) for k in range(199) for category, u in (("elevator", 101), ("stairs", 102))]
-    doors, units = write(base, "levels", box(0, 0, 2180, 2180), [one] * 200, passages)
+    doors, units = write(base, "levels", box(0, 0, 2180, 2180), [one] * 200, passages, -20)
     print("levels", doors + 1, doors + units - 3)
 
     around, shapes, lines = serpentine()

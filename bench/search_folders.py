@@ -36,14 +36,14 @@ def identifier(i):
     return f"00000000-0000-4000-8000-{i:012d}"
 
 
-def write(base, name, around, levels, passages):
+def write(base, name, around, levels, passages, lowest=0):
     """Each level has units as (category, shape) and doors; a passage is (category, level, unit) to the same unit one level above."""
     folder = os.path.join(base, name)
     os.makedirs(folder)
     doors = sum(len(d) for _, d in levels)
     first_unit = len(levels) + doors + len(passages) + 1
     starts = [sum(len(units) for units, _ in levels[:k]) for k in range(len(levels))]
-    rows = [("level", [(around, f'{{"ordinal":{k}}}') for k in range(len(levels))])]
+    rows = [("level", [(around, f'{{"ordinal":{lowest + k}}}') for k in range(len(levels))])]
     rows.append(("opening", [(door, f'{{"level_id":"{identifier(k + 1)}"}}') for k, (_, found) in enumerate(levels) for door in found]))
 
     def end(k, u):
