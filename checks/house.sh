@@ -18,7 +18,7 @@ UNSPELLED = {}
 KEEPS_TESTS = {}
 # The one file that has the word `unsafe`.
 UNSAFE = "crates/board_copies/src/keeper.rt"
-MOST = {"characters in a line": 200, "names": 256, "crates in a chain": 14, "files summed": 329_999, "edits": 293}
+MOST = {"characters in a line": 200, "names": 256, "crates in a chain": 14, "files summed": 329_999, "edits": 294}
 
 RUST_PARTS = re.compile(r"""//[^\n]*|/\*.*?\*/|"(?:[^"\\]|\\.)*"|'(?:[^'\\\n]|\\[^\n]{1,9})'""", re.S)
 ANTT_PARTS = re.compile(r"{-.*?-}|(?<![^\s(){}])--[^\n]*", re.S)

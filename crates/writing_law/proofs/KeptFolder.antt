@@ -62,53 +62,27 @@ zip_maps : {A B C : Type 0} (R : B → C → Type 0) (g : A → B) (h : A → C)
 zip_maps R g h [] all = tt
 zip_maps R g h (x ∷ xs) all = (all.0, zip_maps R g h xs all.1)
 
+beside : {A B : Type 0} → A → B → A × B
+beside a b = (a, b)
+
 each_file : (P : File → Type 0) → ((f : File) → f ≢ file.Manifest → P f) → AllByRecursion P feature_files
-each_file P h = (
-  h file.Address (λ e. cc),
-  (
-    h file.Amenity (λ e. cc),
-    (
-      h file.Anchor (λ e. cc),
-      (
-        h file.Building (λ e. cc),
-        (
-          h file.Detail (λ e. cc),
-          (
-            h file.Fixture (λ e. cc),
-            (
-              h file.Footprint (λ e. cc),
-              (
-                h file.Geofence (λ e. cc),
-                (
-                  h file.Kiosk (λ e. cc),
-                  (
-                    h file.Level (λ e. cc),
-                    (
-                      h file.Occupant (λ e. cc),
-                      (
-                        h file.Opening (λ e. cc),
-                        (
-                          h file.Relationship (λ e. cc),
-                          (
-                            h file.Section (λ e. cc),
-                            (
-                              h file.Unit (λ e. cc),
-                              (h file.Venue (λ e. cc), tt),
-                            ),
-                          ),
-                        ),
-                      ),
-                    ),
-                  ),
-                ),
-              ),
-            ),
-          ),
-        ),
-      ),
-    ),
-  ),
-)
+each_file P h =
+    beside (h file.Address (λ e. cc))
+    (beside (h file.Amenity (λ e. cc))
+    (beside (h file.Anchor (λ e. cc))
+    (beside (h file.Building (λ e. cc))
+    (beside (h file.Detail (λ e. cc))
+    (beside (h file.Fixture (λ e. cc))
+    (beside (h file.Footprint (λ e. cc))
+    (beside (h file.Geofence (λ e. cc))
+    (beside (h file.Kiosk (λ e. cc))
+    (beside (h file.Level (λ e. cc))
+    (beside (h file.Occupant (λ e. cc))
+    (beside (h file.Opening (λ e. cc))
+    (beside (h file.Relationship (λ e. cc))
+    (beside (h file.Section (λ e. cc))
+    (beside (h file.Unit (λ e. cc))
+    (beside (h file.Venue (λ e. cc)) tt)))))))))))))))
 
 -- ---- features
 
