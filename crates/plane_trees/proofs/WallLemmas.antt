@@ -132,6 +132,15 @@ line_free from rest i d zs rs a b t within h none =
     let to = get_or rest i d in
     item_free (edges_from from (to ∷ [])) (edges_from to (drop (i + 1) rest)) zs (to ∷ []) (drop (i + 1) rest) rs a b t (line_at from rest i d zs rs a b t within h) none
 
+-- the same of a point that is told to be the next
+pub step_obstacle : (from to : Point) (rest : List Point) (i : ℕ) (d : Point) (zs : List Edge) (rs : List Point) (a b : Point) (t : ℕ) → i < length rest → to ≡ get_or rest i d → IsLineAhead from (drop i rest) zs rs a b t → (wall : Wall) → IsObstacle (edges_from from (to ∷ [])) (to ∷ []) a b t wall → IsObstacle zs rs a b t wall
+step_obstacle from to rest i d zs rs a b t within e h wall found = line_obstacle from rest i d zs rs a b t within h wall (subst (λ (p : Point). IsObstacle (edges_from from (p ∷ [])) (p ∷ []) a b t wall) e found)
+
+pub step_free : (from to : Point) (rest : List Point) (i : ℕ) (d : Point) (zs : List Edge) (rs : List Point) (a b : Point) (t : ℕ) → i < length rest → to ≡ get_or rest i d → IsLineAhead from (drop i rest) zs rs a b t → IsFree (edges_from from (to ∷ [])) (to ∷ []) a b t → IsLineAhead to (drop (i + 1) rest) zs rs a b t
+step_free from to rest i d zs rs a b t within e h none =
+    subst (λ (p : Point). IsLineAhead p (drop (i + 1) rest) zs rs a b t) (sym e)
+    (line_free from rest i d zs rs a b t within h (subst (λ (p : Point). IsFree (edges_from from (p ∷ [])) (p ∷ []) a b t) e none))
+
 pub line_done : (from : Point) (rest : List Point) (i : ℕ) (zs : List Edge) (rs : List Point) (a b : Point) (t : ℕ) → length rest ≤ i → IsLineAhead from (drop i rest) zs rs a b t → IsFree zs rs a b t
 line_done from rest i zs rs a b t past h = none_ahead zs rs a b t (subst (λ (xs : List Point). IsLineAhead from xs zs rs a b t) (drop_all i rest past) h)
 
