@@ -6,14 +6,14 @@ use Rattle.venue_types.specs.declared.features.UnitRow.{UnitRow}
 use Rattle.venue_types.specs.declared.finding.Finding.{Finding}
 use Rattle.venue_types.specs.declared.point.Point.{Point}
 use Rattle.venue_types.specs.declared.point.Shape.{Shape}
+use Rattle.imdf_schema.specs.declared.rules.Rule.{Rule}
 use Rattle.imdf_schema.specs.Places.{finding_at}
 use Rattle.feature_rows.specs.Figures.{judged_positions}
 use Rattle.plane_exact.specs.Figure.{AllClose, vertices}
-use Rattle.contain_rules.specs.declared.rules.HoldRule.{HoldRule}
 use Rattle.contain_rules.specs.declared.holders.Holders.{Holders}
 use Rattle.contain_rules.specs.Holders.{AreHolders}
 use Rattle.feature_rows.specs.Named.{IsUnit}
-use Rattle.contain_rules.specs.Rules.{IsHeld, rule_of, file_judged}
+use Rattle.contain_rules.specs.Rules.{IsHeld, file_judged}
 
 -- each of the positions is close to the shape
 pub record AreBeside (shape : Shape) (points : List Point) : Type 0 where
@@ -38,11 +38,11 @@ pub record CanJudge (features : Features) (tolerance : ℕ) (holders : Holders) 
   pub indexed : AreHolders features holders
 
 -- the finding that the rule is broken by the feature at this place
-abbrev pub hold_finding : HoldRule → ℕ → Finding
-hold_finding rule index = finding_at (rule_of rule) (file_judged rule) index 0
+abbrev pub hold_finding : Rule → ℕ → Finding
+hold_finding rule index = finding_at rule (file_judged rule) index 0
 
 -- one of the rows leaves what is to hold it, which is told of it as this rule's break
-pub record BreaksIn {R : Type 0} (Leaves : R → Type 0) (rows : List R) (rule : HoldRule) (x : Finding) : Type 0 where
+pub record BreaksIn {R : Type 0} (Leaves : R → Type 0) (rows : List R) (rule : Rule) (x : Finding) : Type 0 where
   pub row : R
   pub there : slice_get rows x.index ≡ Some row
   pub leaves : Leaves row

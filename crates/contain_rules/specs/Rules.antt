@@ -18,26 +18,18 @@ use Rattle.venue_types.specs.FolderFiles.{file_number}
 use Rattle.imdf_schema.specs.Rules.{rule_number}
 use Rattle.plane_exact.specs.Figure.{IsInside, IsNear, vertices}
 use Rattle.feature_rows.specs.Named.{IsLevel, IsUnit}
-use Rattle.contain_rules.specs.declared.rules.HoldRule.{HoldRule}
-use Rattle.contain_rules.specs.declared.rules.HoldRule.TheVariants.{K1, K2, K3, K4}
 
 -- the position is inside the shape, or near its border, within the tolerance
 abbrev pub IsHeld : ℕ → Shape → Point → Type 0
 IsHeld tolerance shape p = IsInside p shape ⊎ IsNear p shape tolerance
 
--- the rule among all rules
-abbrev pub rule_of : HoldRule → Rule
-rule_of K1 = rule.K1
-rule_of K2 = rule.K2
-rule_of K3 = rule.K3
-rule_of K4 = rule.K4
-
--- the file of the features that a rule judges
-abbrev pub file_judged : HoldRule → File
-file_judged K1 = file.Unit
-file_judged K2 = file.Anchor
-file_judged K3 = file.Amenity
-file_judged K4 = file.Opening
+-- the file of the features that a rule on what holds what judges; for each other rule the manifest, which has none
+abbrev pub file_judged : Rule → File
+file_judged rule.K1 = file.Unit
+file_judged rule.K2 = file.Anchor
+file_judged rule.K3 = file.Amenity
+file_judged rule.K4 = file.Opening
+file_judged _ = file.Manifest
 
 -- a vertex of the unit is not held by its level
 pub record UnitLeaves (features : Features) (tolerance : ℕ) (unit : UnitRow) : Type 0 where
@@ -66,16 +58,17 @@ pub record OpeningLeaves (features : Features) (tolerance : ℕ) (opening : Open
   pub outside : ¬ IsHeld tolerance level.shape vertex
 
 -- the rule is broken by the feature at this place of its file
-abbrev pub HoldBreaks : HoldRule → Features → ℕ → ℕ → Type 0
-HoldBreaks K1 features tolerance k = (unit : UnitRow) × (slice_get features.units k ≡ Some unit) × UnitLeaves features tolerance unit
-HoldBreaks K2 features tolerance k = (anchor : AnchorRow) × (slice_get features.anchors k ≡ Some anchor) × AnchorLeaves features tolerance anchor
-HoldBreaks K3 features tolerance k = (amenity : AmenityRow) × (slice_get features.amenities k ≡ Some amenity) × AmenityLeaves features tolerance amenity
-HoldBreaks K4 features tolerance k = (opening : OpeningRow) × (slice_get features.openings k ≡ Some opening) × OpeningLeaves features tolerance opening
+abbrev pub HoldBreaks : Rule → Features → ℕ → ℕ → Type 0
+HoldBreaks rule.K1 features tolerance k = (unit : UnitRow) × (slice_get features.units k ≡ Some unit) × UnitLeaves features tolerance unit
+HoldBreaks rule.K2 features tolerance k = (anchor : AnchorRow) × (slice_get features.anchors k ≡ Some anchor) × AnchorLeaves features tolerance anchor
+HoldBreaks rule.K3 features tolerance k = (amenity : AmenityRow) × (slice_get features.amenities k ≡ Some amenity) × AmenityLeaves features tolerance amenity
+HoldBreaks rule.K4 features tolerance k = (opening : OpeningRow) × (slice_get features.openings k ≡ Some opening) × OpeningLeaves features tolerance opening
+HoldBreaks _ features tolerance k = ⊥
 
 -- something is not held by what is to hold it, which is told of the feature
 pub record BreaksHold (features : Features) (tolerance : ℕ) (x : Finding) : Type 0 where
-  pub rule : HoldRule
-  pub number : x.rule ≡ rule_number (rule_of rule)
+  pub rule : Rule
+  pub number : x.rule ≡ rule_number rule
   pub breaks : HoldBreaks rule features tolerance x.index
   pub in_file : x.file ≡ file_number (file_judged rule)
   pub at_member : x.member ≡ 0

@@ -12,6 +12,7 @@ ghost use Rattle.contain_rules.specs.Judging.{BreaksIn, CanJudge};
 
 use crate::holders::Holders;
 use crate::rows::HasHolder;
+use imdf_schema::FeatureAt;
 use rule_reports::add;
 use std::alloc::Global;
 use venue_types::{AmenityRow, AnchorRow, Features, Finding, OpeningRow, OutOfMemory, UnitRow};
@@ -31,7 +32,11 @@ fn judge<R: HasHolder>(
 {
     for (k, row) in R::rows(features).as_slice().iter().enumerate() {
         let leaves = row.leaves(features, holders, tolerance);
-        add(findings, leaves, R::rule().finding(k))?;
+        let place = FeatureAt {
+            file: R::file(),
+            index: k as u32,
+        };
+        add(findings, leaves, place.finding(R::rule(), 0))?;
     }
     Ok(())
 }

@@ -5,8 +5,6 @@ mod hold_findings;
 mod holders;
 mod outside_positions;
 mod rows;
-mod rules;
 mod shape_trees;
 
 pub use hold_findings::add_hold_findings;
-pub use rules::HoldRule;

@@ -2,19 +2,20 @@
 
 ghost use Rattle.std.specs.Prelude.{◌≡◌, ◌↔◌, ℕ, List, IsTrue, Contains};
 ghost use Rattle.venue_types.specs.declared.features.Features.{Features};
-ghost use Rattle.contain_rules.specs.declared.rules.HoldRule.{HoldRule};
+ghost use Rattle.imdf_schema.specs.declared.rules.Rule.{Rule as ARule};
+ghost use Rattle.contain_rules.specs.Rules.{file_judged};
 ghost use Rattle.contain_rules.specs.Judging.{CanJudge, UnitHolds, OneHolds};
 
 use crate::holders::Holders;
 use crate::outside_positions::{figure_leaves, is_held, some_leaves};
-use crate::rules::HoldRule;
 use feature_rows::{amenity_point_law, anchor_point_law, opening_point_law, unit_vertex_law};
+use imdf_schema::{File, Rule};
 use venue_types::{AmenityRow, AnchorRow, FeatureId, Features, List, OpeningRow, UnitRow};
 
 /// A row of a feature that another is to hold.
 pub(crate) trait HasHolder {
     /// The rule that it breaks where it isn't held.
-    ghost rule: { HoldRule };
+    ghost rule: { ARule };
 
     /// The rows of its file.
     ghost rows: { Features → List Self };
@@ -23,8 +24,12 @@ pub(crate) trait HasHolder {
     ghost leaves: { Features → ℕ → Self → Type 0 };
 
     /// The rule that it breaks.
-    fn rule() -> HoldRule
+    fn rule() -> Rule
         ensures { result ≡ rule };
+
+    /// Its file.
+    fn file() -> File
+        ensures { result ≡ file_judged rule };
 
     /// The rows of its file.
     fn rows(features: &Features) -> &List<Self>
@@ -39,7 +44,7 @@ pub(crate) trait HasHolder {
 
 /// A unit, whose vertices its level is to hold.
 impl HasHolder for UnitRow {
-    ghost use Rattle.contain_rules.specs.declared.rules.HoldRule.TheVariants.{K1};
+    ghost use Rattle.imdf_schema.specs.declared.rules.Rule.TheVariants.{K1};
     ghost use Rattle.contain_rules.specs.Rules.{UnitLeaves};
 
     ghost rule = { K1 };
@@ -48,8 +53,12 @@ impl HasHolder for UnitRow {
 
     ghost leaves = { UnitLeaves };
 
-    fn rule() -> HoldRule {
-        HoldRule::K1
+    fn rule() -> Rule {
+        Rule::K1
+    }
+
+    fn file() -> File {
+        File::Unit
     }
 
     fn rows(features: &Features) -> &List<UnitRow> {
@@ -67,7 +76,7 @@ impl HasHolder for UnitRow {
 
 /// An anchor, whose point its unit is to hold.
 impl HasHolder for AnchorRow {
-    ghost use Rattle.contain_rules.specs.declared.rules.HoldRule.TheVariants.{K2};
+    ghost use Rattle.imdf_schema.specs.declared.rules.Rule.TheVariants.{K2};
     ghost use Rattle.contain_rules.specs.Rules.{AnchorLeaves};
 
     ghost rule = { K2 };
@@ -76,8 +85,12 @@ impl HasHolder for AnchorRow {
 
     ghost leaves = { AnchorLeaves };
 
-    fn rule() -> HoldRule {
-        HoldRule::K2
+    fn rule() -> Rule {
+        Rule::K2
+    }
+
+    fn file() -> File {
+        File::Anchor
     }
 
     fn rows(features: &Features) -> &List<AnchorRow> {
@@ -133,7 +146,7 @@ fn one_holds(
 
 /// An amenity, whose point one of its units is to hold.
 impl HasHolder for AmenityRow {
-    ghost use Rattle.contain_rules.specs.declared.rules.HoldRule.TheVariants.{K3};
+    ghost use Rattle.imdf_schema.specs.declared.rules.Rule.TheVariants.{K3};
     ghost use Rattle.contain_rules.specs.Rules.{AmenityLeaves};
 
     ghost rule = { K3 };
@@ -142,8 +155,12 @@ impl HasHolder for AmenityRow {
 
     ghost leaves = { AmenityLeaves };
 
-    fn rule() -> HoldRule {
-        HoldRule::K3
+    fn rule() -> Rule {
+        Rule::K3
+    }
+
+    fn file() -> File {
+        File::Amenity
     }
 
     fn rows(features: &Features) -> &List<AmenityRow> {
@@ -157,7 +174,7 @@ impl HasHolder for AmenityRow {
 
 /// An opening, whose points its level is to hold.
 impl HasHolder for OpeningRow {
-    ghost use Rattle.contain_rules.specs.declared.rules.HoldRule.TheVariants.{K4};
+    ghost use Rattle.imdf_schema.specs.declared.rules.Rule.TheVariants.{K4};
     ghost use Rattle.contain_rules.specs.Rules.{OpeningLeaves};
 
     ghost rule = { K4 };
@@ -166,8 +183,12 @@ impl HasHolder for OpeningRow {
 
     ghost leaves = { OpeningLeaves };
 
-    fn rule() -> HoldRule {
-        HoldRule::K4
+    fn rule() -> Rule {
+        Rule::K4
+    }
+
+    fn file() -> File {
+        File::Opening
     }
 
     fn rows(features: &Features) -> &List<OpeningRow> {

@@ -13,10 +13,10 @@ use Rattle.imdf_schema.specs.Properties.{property_number, properties}
 use Rattle.feature_rows.specs.Rows.{IsFeature}
 use Rattle.rule_reports.specs.Passes.{Adds}
 use Rattle.imdf_refs.specs.declared.known.Known.{Known}
-use Rattle.imdf_refs.specs.declared.rules.ReferenceRule.{ReferenceRule}
-use Rattle.imdf_refs.specs.declared.rules.ReferenceRule.TheVariants.{C7, X1, X2}
+use Rattle.imdf_schema.specs.declared.rules.Rule.{Rule}
+use Rattle.imdf_schema.specs.declared.rules.Rule.TheVariants.{C7, X1, X2}
 use Rattle.imdf_refs.specs.References.{references_in, file_named}
-use Rattle.imdf_refs.specs.Rules.{rule_of, ReferenceBreaks, BreaksInId, BreaksInReference, IsMisnamed}
+use Rattle.imdf_refs.specs.Rules.{ReferenceBreaks, BreaksInId, BreaksInReference, IsMisnamed}
 use Rattle.imdf_refs.specs.Index.{has_id, has_typed, HasAll}
 use Rattle.imdf_refs.specs.Gathering.{place_of, Dangles, DanglesInTable, Repeats}
 
@@ -73,7 +73,7 @@ module _ (features : Features) (known : Known) (has : HasAll features known) whe
       let all = h.dangles.references in
       let at = h.dangles.dangles in
       let r = at.reference in
-      let broken = λ (rule : ReferenceRule) (breaks : ReferenceBreaks rule features row r) (is : x ≡ finding (rule_number (rule_of rule)) (file_number row.file) k (property_number row.property + 64 * at.place)).
+      let broken = λ (rule : Rule) (breaks : ReferenceBreaks rule features row r) (is : x ≡ finding (rule_number rule) (file_number row.file) k (property_number row.property + 64 * at.place)).
       let same : k ≡ x.index = sym (ap (λ (z : Finding). z.index) is) in
       let misnamed : IsMisnamed features x = record {
         rule = rule;
@@ -97,21 +97,21 @@ module _ (features : Features) (known : Known) (has : HasAll features known) whe
       ]
 
   -- where a rule on references is broken, it dangles by the index
-  into_dangling : (rule : ReferenceRule) (x : Finding) → x.rule ≡ rule_number (rule_of rule) → BreaksInReference features rule x → DanglesInTable known features properties x
+  into_dangling : (rule : Rule) (x : Finding) → x.rule ≡ rule_number rule → BreaksInReference features rule x → DanglesInTable known features properties x
   into_dangling rule x number b = record {
     row = b.row;
     listed = b.there.listed;
     dangles = record { index = x.index; references = b.there.all; there = b.there.feature; dangles = record { place = b.place; reference = b.reference; there = b.there.there; dangles = by_rule rule number b.breaks } };
   }
     where
-      by_rule : (q : ReferenceRule) → x.rule ≡ rule_number (rule_of q) → ReferenceBreaks q features b.row b.reference → Dangles known (place_of b.row.file x.index) (property_number b.row.property + 64 * b.place) b.reference.id (file_named b.row.names b.reference) x
-      by_rule C7 n breaks = absurd breaks
-      by_rule X1 n breaks = inl (is_not (has_id known b.reference.id) (λ h. breaks ((has.ids b.reference.id).0 h)), finding_of x (rule_number (rule_of X1)) (file_number b.row.file) (property_number b.row.property + 64 * b.place) n b.in_file b.at_member)
+      by_rule : (q : Rule) → x.rule ≡ rule_number q → ReferenceBreaks q features b.row b.reference → Dangles known (place_of b.row.file x.index) (property_number b.row.property + 64 * b.place) b.reference.id (file_named b.row.names b.reference) x
+      by_rule X1 n breaks = inl (is_not (has_id known b.reference.id) (λ h. breaks ((has.ids b.reference.id).0 h)), finding_of x (rule_number X1) (file_number b.row.file) (property_number b.row.property + 64 * b.place) n b.in_file b.at_member)
       by_rule X2 n breaks =
           inr (
             of_both (has_id known b.reference.id) (not (has_typed known b.reference.id (file_named b.row.names b.reference))) ((has.ids b.reference.id).1 breaks.0) (is_none_of features known b.reference.id (file_named b.row.names b.reference) has breaks.1),
-            finding_of x (rule_number (rule_of X2)) (file_number b.row.file) (property_number b.row.property + 64 * b.place) n b.in_file b.at_member,
+            finding_of x (rule_number X2) (file_number b.row.file) (property_number b.row.property + 64 * b.place) n b.in_file b.at_member,
           )
+      by_rule _ n breaks = absurd breaks
 
 from_repeats : (features : Features) (x : Finding) → Repeats features x → IsMisnamed features x
 from_repeats features x h = record {
@@ -128,10 +128,10 @@ from_repeats features x h = record {
   );
 }
 
-into_repeats : (features : Features) (rule : ReferenceRule) (x : Finding) → rule ≡ C7 → x.rule ≡ rule_number (rule_of rule) → BreaksInId features x → Repeats features x
+into_repeats : (features : Features) (rule : Rule) (x : Finding) → rule ≡ C7 → x.rule ≡ rule_number rule → BreaksInId features x → Repeats features x
 into_repeats features rule x is_c7 number b = record {
   source = b.source;
-  repeats = record { repeats = b.repeats; is = finding_of x (rule_number (rule_of C7)) (file_number b.source) 0 (number ∙ ap (λ (q : ReferenceRule). rule_number (rule_of q)) is_c7) b.in_file b.at_member };
+  repeats = record { repeats = b.repeats; is = finding_of x (rule_number C7) (file_number b.source) 0 (number ∙ ap rule_number is_c7) b.in_file b.at_member };
 }
 
 into : (features : Features) (known : Known) → HasAll features known → (x : Finding) → IsMisnamed features x → Repeats features x ⊎ DanglesInTable known features properties x

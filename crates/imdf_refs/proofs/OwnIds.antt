@@ -7,7 +7,7 @@ use Rattle.venue_types.specs.declared.finding.Finding.{Finding}
 use Rattle.venue_types.specs.declared.folder_file.File.{File}
 use Rattle.venue_types.specs.FolderFiles.{file_number}
 use Rattle.feature_rows.specs.Rows.{IsFeature, HaveOwnIds}
-use Rattle.imdf_refs.specs.declared.rules.ReferenceRule.TheVariants.{C7}
+use Rattle.imdf_schema.specs.declared.rules.Rule.TheVariants.{C7}
 use Rattle.imdf_refs.specs.Rules.{IsMisnamed, IsEarlier}
 use Rattle.venue_types.proofs.FileNumbers.{same_number}
 

@@ -11,10 +11,10 @@ use Rattle.venue_types.specs.FolderFiles.{file_number}
 use Rattle.imdf_schema.specs.Rules.{rule_number}
 use Rattle.imdf_schema.specs.Properties.{property_number}
 use Rattle.feature_rows.specs.Rows.{ids_of}
-use Rattle.imdf_refs.specs.declared.rules.ReferenceRule.{ReferenceRule}
-use Rattle.imdf_refs.specs.declared.rules.ReferenceRule.TheVariants.{X1, X2}
+use Rattle.imdf_schema.specs.declared.rules.Rule.{Rule}
+use Rattle.imdf_schema.specs.declared.rules.Rule.TheVariants.{X1, X2}
 use Rattle.imdf_refs.specs.References.{Reference, Refers}
-use Rattle.imdf_refs.specs.Rules.{rule_of, IsTyped, IsOfOtherType, ReferenceBreaks}
+use Rattle.imdf_refs.specs.Rules.{IsTyped, IsOfOtherType, ReferenceBreaks}
 use Rattle.imdf_refs.specs.Laws.{FindsNothing, NameTheirTypes}
 use Rattle.venue_types.proofs.FileNumbers.{file_at, at_number, same_number}
 
@@ -59,9 +59,9 @@ typed_or_not features id n = elim (numbered n) [
 
 module _ (features : Features) (nothing : FindsNothing features) where
   -- no rule on a reference is broken
-  unbroken : (rule : ReferenceRule) (row : PropertyRow) (k place : ℕ) (r : Reference) → Refers features row k place r → ¬ ReferenceBreaks rule features row r
+  unbroken : (rule : Rule) (row : PropertyRow) (k place : ℕ) (r : Reference) → Refers features row k place r → ¬ ReferenceBreaks rule features row r
   unbroken rule row k place r there breaks =
-      nothing (record { rule = rule_number (rule_of rule); file = file_number row.file; index = k; member = property_number row.property + 64 * place })
+      nothing (record { rule = rule_number rule; file = file_number row.file; index = k; member = property_number row.property + 64 * place })
       (record { rule = rule; number = refl; breaks = inr (record { row = row; place = place; reference = r; there = there; breaks = breaks; in_file = refl; at_member = refl }) })
 
   pub name_their_types : NameTheirTypes features

@@ -9,17 +9,9 @@ use Rattle.venue_types.specs.FolderFiles.{file_number}
 use Rattle.imdf_schema.specs.Properties.{property_number}
 use Rattle.imdf_schema.specs.Rules.{rule_number}
 use Rattle.imdf_schema.specs.declared.rules.Rule.{Rule}
-use Rattle.imdf_schema.specs.declared.rules.Rule.TheVariants as rule
+use Rattle.imdf_schema.specs.declared.rules.Rule.TheVariants.{C7, X1, X2}
 use Rattle.feature_rows.specs.Rows.{IsFeature}
-use Rattle.imdf_refs.specs.declared.rules.ReferenceRule.{ReferenceRule}
-use Rattle.imdf_refs.specs.declared.rules.ReferenceRule.TheVariants.{C7, X1, X2}
 use Rattle.imdf_refs.specs.References.{Reference, Refers, file_named}
-
--- the rule among all rules
-abbrev pub rule_of : ReferenceRule → Rule
-rule_of C7 = rule.C7
-rule_of X1 = rule.X1
-rule_of X2 = rule.X2
 
 -- the first place is before the second, by file, then by index
 abbrev pub IsEarlier : File → ℕ → File → ℕ → Type 0
@@ -52,12 +44,12 @@ abbrev pub IsOfOtherType : Features → PropertyRow → Reference → Type 0
 IsOfOtherType features row r = (g : File) (j : ℕ) → IsFeature features g j r.id → file_named row.names r ≢ Some (file_number g)
 
 -- the rules on a reference
-abbrev pub ReferenceBreaks : ReferenceRule → Features → PropertyRow → Reference → Type 0
-ReferenceBreaks C7 features row r = ⊥
+abbrev pub ReferenceBreaks : Rule → Features → PropertyRow → Reference → Type 0
 -- it names no feature
 ReferenceBreaks X1 features row r = ¬ IsNamed features r.id
 -- it names a feature, and none of that identifier is of the type that is asked for
 ReferenceBreaks X2 features row r = IsNamed features r.id × IsOfOtherType features row r
+ReferenceBreaks _ features row r = ⊥
 
 -- the identifier of a feature stands for an earlier one too, which is told of the later
 pub record BreaksInId (features : Features) (x : Finding) : Type 0 where
@@ -67,7 +59,7 @@ pub record BreaksInId (features : Features) (x : Finding) : Type 0 where
   pub at_member : x.member ≡ 0
 
 -- a rule on a reference is broken, which is told of the property, and of the item's place in its list
-pub record BreaksInReference (features : Features) (rule : ReferenceRule) (x : Finding) : Type 0 where
+pub record BreaksInReference (features : Features) (rule : Rule) (x : Finding) : Type 0 where
   pub row : PropertyRow
   pub place : ℕ
   pub reference : Reference
@@ -78,6 +70,6 @@ pub record BreaksInReference (features : Features) (rule : ReferenceRule) (x : F
 
 -- a rule of the second phase is broken there
 pub record IsMisnamed (features : Features) (x : Finding) : Type 0 where
-  pub rule : ReferenceRule
-  pub number : x.rule ≡ rule_number (rule_of rule)
+  pub rule : Rule
+  pub number : x.rule ≡ rule_number rule
   pub breaks : ((rule ≡ C7) × BreaksInId features x) ⊎ BreaksInReference features rule x

@@ -9,11 +9,9 @@ mod references;
 mod row;
 mod rows;
 mod rule_checks;
-mod rules;
 
 pub use laws::{
     amenity_unit_law, anchor_unit_law, occupant_anchor_law, opening_level_law, own_ids_law,
     types_law, unit_level_law,
 };
 pub use references::reference_findings;
-pub use rules::ReferenceRule;

@@ -10,10 +10,10 @@ use Rattle.venue_types.specs.declared.point.Shape.{Shape}
 use Rattle.venue_types.specs.declared.folder_file.File.{File}
 use Rattle.rule_reports.specs.Passes.{Adds, found}
 use Rattle.rule_reports.proofs.Adding.{Adds-same, Adds-found, Adds-then, Among}
-use Rattle.ring_rules.specs.declared.rules.RingRule.{RingRule}
-use Rattle.ring_rules.specs.declared.rules.RingRule.TheVariants.{G3, G4, G5}
+use Rattle.imdf_schema.specs.declared.rules.Rule.{Rule}
+use Rattle.imdf_schema.specs.declared.rules.Rule.TheVariants.{G3, G4, G5}
 use Rattle.ring_rules.specs.Rings.{Placed, as_hole, placed_in, placed_rings, LeavesBorder}
-use Rattle.ring_rules.specs.Rules.{RingBreaks, rule_of}
+use Rattle.ring_rules.specs.Rules.{RingBreaks}
 use Rattle.imdf_schema.specs.Places.{finding_at}
 use Rattle.ring_rules.specs.Findings.{FindsRule, FindsInRing, FindsFrom, FindsInShapes, alone}
 use Rattle.ring_rules.proofs.BoundsLemmas.{flat_map_step}
@@ -21,8 +21,8 @@ use Rattle.ring_rules.proofs.BoundsLemmas.{flat_map_step}
 -- ---- the rules on one ring
 
 -- a test that decides a rule
-pub adds_rule : (rule : RingRule) (source : File) (i n : ℕ) (placed : Placed) (holds : Bool) (place : Finding) (old new : List Finding)
-    → new ≡ old ++ found holds place → IsTrue holds ↔ RingBreaks rule placed → place ≡ finding_at (rule_of rule) source i n → Adds (FindsRule source i n placed rule) old new
+pub adds_rule : (rule : Rule) (source : File) (i n : ℕ) (placed : Placed) (holds : Bool) (place : Finding) (old new : List Finding)
+    → new ≡ old ++ found holds place → IsTrue holds ↔ RingBreaks rule placed → place ≡ finding_at rule source i n → Adds (FindsRule source i n placed rule) old new
 adds_rule rule source i n placed holds place old new is decides at = Adds-found (FindsRule source i n placed rule) holds place old new is
     (λ t. record { breaks = decides.0 t; is = at })
     (λ x h. (decides.1 h.breaks, h.is ∙ sym at))
@@ -30,11 +30,12 @@ adds_rule rule source i n placed holds place old new is decides at = Adds-found 
 no_border : (ring : Ring) → LeavesBorder (alone ring) → ⊥
 no_border ring h = let e : None ≡ Some h.border = h.hole in cc
 
-alone_split : (source : File) (i n : ℕ) (ring : Ring) (x : Finding) (rule : RingRule) → RingBreaks rule (alone ring) → x ≡ finding_at (rule_of rule) source i n
+alone_split : (source : File) (i n : ℕ) (ring : Ring) (x : Finding) (rule : Rule) → RingBreaks rule (alone ring) → x ≡ finding_at rule source i n
     → FindsRule source i n (alone ring) G3 x ⊎ FindsRule source i n (alone ring) G5 x
 alone_split source i n ring x G3 h e = inl (record { breaks = h; is = e })
 alone_split source i n ring x G4 h e = absurd (no_border ring h)
 alone_split source i n ring x G5 h e = inr (record { breaks = h; is = e })
+alone_split source i n ring x _ h e = absurd h
 
 -- of a ring that is no hole
 pub adds_alone : (source : File) (i n : ℕ) (ring : Ring) (a b c : List Finding) → Adds (FindsRule source i n (alone ring) G3) a b → Adds (FindsRule source i n (alone ring) G5) b c → Adds (FindsInRing source i n (alone ring)) a c
@@ -43,16 +44,18 @@ adds_alone source i n ring a b c one other = Adds-then (FindsInRing source i n (
     (λ x h. record { rule = G5; breaks = h.breaks; is = h.is })
     (λ x h. alone_split source i n ring x h.rule h.breaks h.is)
 
-hole_also : (source : File) (i n : ℕ) (border ring : Ring) (x : Finding) (rule : RingRule) → RingBreaks rule (alone ring) → x ≡ finding_at (rule_of rule) source i n → FindsInRing source i n (as_hole border ring) x
+hole_also : (source : File) (i n : ℕ) (border ring : Ring) (x : Finding) (rule : Rule) → RingBreaks rule (alone ring) → x ≡ finding_at rule source i n → FindsInRing source i n (as_hole border ring) x
 hole_also source i n border ring x G3 h e = record { rule = G3; breaks = h; is = e }
 hole_also source i n border ring x G4 h e = absurd (no_border ring h)
 hole_also source i n border ring x G5 h e = record { rule = G5; breaks = h; is = e }
+hole_also source i n border ring x _ h e = absurd h
 
-hole_split : (source : File) (i n : ℕ) (border ring : Ring) (x : Finding) (rule : RingRule) → RingBreaks rule (as_hole border ring) → x ≡ finding_at (rule_of rule) source i n
+hole_split : (source : File) (i n : ℕ) (border ring : Ring) (x : Finding) (rule : Rule) → RingBreaks rule (as_hole border ring) → x ≡ finding_at rule source i n
     → FindsRule source i n (as_hole border ring) G4 x ⊎ FindsInRing source i n (alone ring) x
 hole_split source i n border ring x G3 h e = inr (record { rule = G3; breaks = h; is = e })
 hole_split source i n border ring x G4 h e = inl (record { breaks = h; is = e })
 hole_split source i n border ring x G5 h e = inr (record { rule = G5; breaks = h; is = e })
+hole_split source i n border ring x _ h e = absurd h
 
 -- of a hole
 pub adds_hole : (source : File) (i n : ℕ) (border ring : Ring) (a b c : List Finding) → Adds (FindsRule source i n (as_hole border ring) G4) a b → Adds (FindsInRing source i n (alone ring)) b c → Adds (FindsInRing source i n (as_hole border ring)) a c

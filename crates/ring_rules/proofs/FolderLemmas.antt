@@ -16,7 +16,7 @@ use Rattle.plane_exact.specs.Figure.{AllClose, vertices}
 use Rattle.feature_rows.specs.Figures.{shapes_of, positions_of, positions, judged_positions, display_of}
 use Rattle.ring_rules.specs.Rings.{placed_rings}
 use Rattle.imdf_schema.specs.Rules.{rule_number}
-use Rattle.ring_rules.specs.Rules.{BreaksInRing, rule_of}
+use Rattle.ring_rules.specs.Rules.{BreaksInRing}
 use Rattle.ring_rules.specs.Judged.{AreFitShapes}
 use Rattle.ring_rules.specs.Findings.{FindsInShapes}
 use Rattle.ring_rules.proofs.EdgeLemmas.{fewer_close}
@@ -93,7 +93,7 @@ found_of all x h =
         place = x.member;
         placed = h.placed;
         there = h.there;
-        finds = record { rule = h.rule; breaks = h.breaks; is = finding_of x (rule_number (rule_of h.rule)) (file_number h.source) (0 + x.member) h.number h.in_file zero_more };
+        finds = record { rule = h.rule; breaks = h.breaks; is = finding_of x (rule_number h.rule) (file_number h.source) (0 + x.member) h.number h.in_file zero_more };
       };
     }
 

@@ -4,21 +4,21 @@ use Rattle.venue_types.specs.declared.finding.Finding.{Finding}
 use Rattle.venue_types.specs.declared.point.Ring.{Ring}
 use Rattle.venue_types.specs.declared.point.Shape.{Shape}
 use Rattle.venue_types.specs.declared.folder_file.File.{File}
+use Rattle.imdf_schema.specs.declared.rules.Rule.{Rule}
 use Rattle.imdf_schema.specs.Places.{finding_at}
-use Rattle.ring_rules.specs.declared.rules.RingRule.{RingRule}
 use Rattle.ring_rules.specs.Rings.{Placed, placed_rings}
-use Rattle.ring_rules.specs.Rules.{rule_of, RingBreaks}
+use Rattle.ring_rules.specs.Rules.{RingBreaks}
 
 -- this rule is broken by the ring of this number
-pub record FindsRule (source : File) (index number : ℕ) (placed : Placed) (rule : RingRule) (x : Finding) : Type 0 where
+pub record FindsRule (source : File) (index number : ℕ) (placed : Placed) (rule : Rule) (x : Finding) : Type 0 where
   pub breaks : RingBreaks rule placed
-  pub is : x ≡ finding_at (rule_of rule) source index number
+  pub is : x ≡ finding_at rule source index number
 
 -- a rule is broken by the ring of this number
 pub record FindsInRing (source : File) (index number : ℕ) (placed : Placed) (x : Finding) : Type 0 where
-  pub rule : RingRule
+  pub rule : Rule
   pub breaks : RingBreaks rule placed
-  pub is : x ≡ finding_at (rule_of rule) source index number
+  pub is : x ≡ finding_at rule source index number
 
 -- a ring that is no hole
 abbrev pub alone : Ring → Placed

@@ -12,8 +12,6 @@ use Rattle.imdf_schema.specs.Rules.{rule_number}
 use Rattle.plane_exact.specs.Plane.{IsClose}
 use Rattle.plane_exact.specs.Corners.{doubled_area}
 use Rattle.feature_rows.specs.Figures.{judged_positions, shapes_of}
-use Rattle.ring_rules.specs.declared.rules.RingRule.{RingRule}
-use Rattle.ring_rules.specs.declared.rules.RingRule.TheVariants.{G3, G4, G5}
 use Rattle.ring_rules.specs.Rings.{Placed, placed_rings, CrossesItself, LeavesBorder}
 
 -- two judged positions differ by more than 200,000,000 nanodegrees on an axis
@@ -32,25 +30,20 @@ pub record BreaksSpread (features : Features) (x : Finding) : Type 0 where
   pub at_index : x.index ≡ 0
   pub at_member : x.member ≡ 0
 
--- the rule among all rules
-abbrev pub rule_of : RingRule → Rule
-rule_of G3 = rule.G3
-rule_of G4 = rule.G4
-rule_of G5 = rule.G5
-
 -- the rules on a ring
-abbrev pub RingBreaks : RingRule → Placed → Type 0
+abbrev pub RingBreaks : Rule → Placed → Type 0
 -- two of its edges cross
-RingBreaks G3 placed = CrossesItself placed.ring
+RingBreaks rule.G3 placed = CrossesItself placed.ring
 -- it is a hole, a vertex of which is neither inside the border of its polygon nor on it
-RingBreaks G4 placed = LeavesBorder placed
+RingBreaks rule.G4 placed = LeavesBorder placed
 -- its area is 0
-RingBreaks G5 placed = doubled_area placed.ring ≡ pos 0
+RingBreaks rule.G5 placed = doubled_area placed.ring ≡ pos 0
+RingBreaks _ placed = ⊥
 
 -- a rule on a ring is broken, which is told of its feature, and of its number among the feature's rings
 pub record BreaksInRing (features : Features) (x : Finding) : Type 0 where
-  pub rule : RingRule
-  pub number : x.rule ≡ rule_number (rule_of rule)
+  pub rule : Rule
+  pub number : x.rule ≡ rule_number rule
   pub source : File
   pub shape : Shape
   pub feature : slice_get (shapes_of source features) x.index ≡ Some shape

@@ -8,11 +8,9 @@ mod holes;
 mod laws;
 mod positioned;
 mod ring_findings;
-mod rules;
 mod shape_findings;
 mod spread;
 
 pub use laws::no_spread_law;
 pub use ring_findings::add_ring_findings;
-pub use rules::RingRule;
 pub use spread::is_spread;

@@ -20,13 +20,13 @@ use Rattle.venue_types.specs.declared.settings.Settings.{Settings}
 use Rattle.rule_reports.specs.Reports.{IsReport}
 use Rattle.venue_nodes.specs.declared.limits.Crowding.{Crowding}
 use Rattle.venue_nodes.specs.declared.limits.Crowding.TheVariants.{Members, Squares, Nodes, Sight}
-use Rattle.venue_nodes.specs.declared.rules.LimitRule.{LimitRule}
-use Rattle.venue_nodes.specs.declared.rules.LimitRule.TheVariants.{S5, S6, S7, S8}
+use Rattle.imdf_schema.specs.declared.rules.Rule.{Rule}
+use Rattle.imdf_schema.specs.declared.rules.Rule.TheVariants.{S5, S6, S7, S8}
 use Rattle.venue_nodes.specs.declared.members.Rows.{Rows}
 use Rattle.venue_nodes.specs.Nodes.{walkable_units}
 use Rattle.venue_nodes.specs.Members.{members, places_where}
 use Rattle.imdf_schema.specs.Rules.{rule_number}
-use Rattle.venue_nodes.specs.Limits.{IsCrowded, HasManyNodes, HasMuchSight, LimitBreaks, BreaksLimit, square_sum, rule_of}
+use Rattle.venue_nodes.specs.Limits.{IsCrowded, HasManyNodes, HasMuchSight, LimitBreaks, BreaksLimit, square_sum}
 use Rattle.venue_nodes.specs.Crowds.{Crowds, NoneCrowded, IsRoomyVenue, IsFirstFull, IsRoomy, limit_finding, square_of}
 use Rattle.venue_nodes.specs.Rows.{AreRowsOf, node_total, row_list, unit_indexes}
 use Rattle.venue_nodes.proofs.Items.{from_map}
@@ -123,33 +123,37 @@ few_nodes features settings rows n are is few many = let total = is ∙ are.node
 
 -- ---- the report
 
-no_rule_before_S5 : (before : LimitRule) → rule_number (rule_of before) < rule_number (rule_of S5) → ⊥
-no_rule_before_S5 S5 under = omega arith
-no_rule_before_S5 S6 under = omega arith
-no_rule_before_S5 S7 under = omega arith
-no_rule_before_S5 S8 under = omega arith
+none_before_S5 : (features : Features) (settings : Settings) (before : Rule) (k : ℕ) → rule_number before < rule_number S5 → ¬ LimitBreaks before features settings k
+none_before_S5 features settings S5 k under breaks = omega arith
+none_before_S5 features settings S6 k under breaks = omega arith
+none_before_S5 features settings S7 k under breaks = omega arith
+none_before_S5 features settings S8 k under breaks = omega arith
+none_before_S5 features settings _ k under breaks = breaks
 
-only_S5_before_S6 : (features : Features) (settings : Settings) → NoneCrowded features settings → (before : LimitRule) (k : ℕ) → rule_number (rule_of before) < rule_number (rule_of S6) → ¬ LimitBreaks before features settings k
+only_S5_before_S6 : (features : Features) (settings : Settings) → NoneCrowded features settings → (before : Rule) (k : ℕ) → rule_number before < rule_number S6 → ¬ LimitBreaks before features settings k
 only_S5_before_S6 features settings none S5 k under breaks = none k breaks.0
 only_S5_before_S6 features settings none S6 k under breaks = omega arith
 only_S5_before_S6 features settings none S7 k under breaks = omega arith
 only_S5_before_S6 features settings none S8 k under breaks = omega arith
+only_S5_before_S6 features settings none _ k under breaks = breaks
 
 -- of a roomy venue the squares keep their limit
 few_squares : (features : Features) (settings : Settings) (k : ℕ) → IsRoomyVenue features settings → ¬ LimitBreaks S6 features settings k
 few_squares features settings k roomy breaks = let few = roomy.1 in let many = breaks.0 in omega (arith, few, many)
 
-roomy_before_S7 : (features : Features) (settings : Settings) → IsRoomyVenue features settings → (before : LimitRule) (k : ℕ) → rule_number (rule_of before) < rule_number (rule_of S7) → ¬ LimitBreaks before features settings k
+roomy_before_S7 : (features : Features) (settings : Settings) → IsRoomyVenue features settings → (before : Rule) (k : ℕ) → rule_number before < rule_number S7 → ¬ LimitBreaks before features settings k
 roomy_before_S7 features settings roomy S5 k under breaks = roomy.0 k breaks.0
 roomy_before_S7 features settings roomy S6 k under breaks = few_squares features settings k roomy breaks
 roomy_before_S7 features settings roomy S7 k under breaks = omega arith
 roomy_before_S7 features settings roomy S8 k under breaks = omega arith
+roomy_before_S7 features settings roomy _ k under breaks = breaks
 
-few_before_S8 : (features : Features) (settings : Settings) → IsRoomyVenue features settings → ¬ HasManyNodes features settings → (before : LimitRule) (k : ℕ) → rule_number (rule_of before) < rule_number (rule_of S8) → ¬ LimitBreaks before features settings k
+few_before_S8 : (features : Features) (settings : Settings) → IsRoomyVenue features settings → ¬ HasManyNodes features settings → (before : Rule) (k : ℕ) → rule_number before < rule_number S8 → ¬ LimitBreaks before features settings k
 few_before_S8 features settings roomy few S5 k under breaks = roomy.0 k breaks.0
 few_before_S8 features settings roomy few S6 k under breaks = few_squares features settings k roomy breaks
 few_before_S8 features settings roomy few S7 k under breaks = few breaks.0
 few_before_S8 features settings roomy few S8 k under breaks = omega arith
+few_before_S8 features settings roomy few _ k under breaks = breaks
 
 same_finding : (x y : Finding) → x.rule ≡ y.rule → x.file ≡ y.file → x.index ≡ y.index → x.member ≡ y.member → x ≡ y
 same_finding x y rule file index member =
@@ -168,7 +172,7 @@ breaks_members features settings k crowd = record {
   rule = S5;
   number = refl;
   breaks = crowd;
-  first = λ before j under. absurd (no_rule_before_S5 before under);
+  first = none_before_S5 features settings;
   in_file = refl;
   at_member = refl;
 }
@@ -213,42 +217,47 @@ one_first features settings k j here there = elim (cases_lt k j) [
 ]
 
 -- no rule before this one is broken
-abbrev AreKeptBefore : LimitRule → Features → Settings → Type 0
-AreKeptBefore rule features settings = (before : LimitRule) (j : ℕ) → rule_number (rule_of before) < rule_number (rule_of rule) → ¬ LimitBreaks before features settings j
+abbrev AreKeptBefore : Rule → Features → Settings → Type 0
+AreKeptBefore rule features settings = (before : Rule) (j : ℕ) → rule_number before < rule_number rule → ¬ LimitBreaks before features settings j
 
-told_members : (features : Features) (settings : Settings) (k : ℕ) (x : Finding) → LimitBreaks S5 features settings k → (rule : LimitRule) → x.rule ≡ rule_number (rule_of rule) → LimitBreaks rule features settings x.index
+told_members : (features : Features) (settings : Settings) (k : ℕ) (x : Finding) → LimitBreaks S5 features settings k → (rule : Rule) → x.rule ≡ rule_number rule → LimitBreaks rule features settings x.index
     → AreKeptBefore rule features settings → x.file ≡ file_number file.Unit → x.member ≡ 0 → x ≡ limit_finding (Members k)
 told_members features settings k x crowd S5 number breaks first in_file at_member = same_finding x (limit_finding (Members k)) number in_file (one_first features settings k x.index crowd breaks) at_member
 told_members features settings k x crowd S6 number breaks first in_file at_member = absurd (first S5 k (omega arith) crowd)
 told_members features settings k x crowd S7 number breaks first in_file at_member = absurd (first S5 k (omega arith) crowd)
 told_members features settings k x crowd S8 number breaks first in_file at_member = absurd (first S5 k (omega arith) crowd)
+told_members features settings k x crowd _ number breaks first in_file at_member = absurd breaks
 
-told_squares : (features : Features) (settings : Settings) (x : Finding) → NoneCrowded features settings → 20000000 < square_sum features settings → (rule : LimitRule) → x.rule ≡ rule_number (rule_of rule) → LimitBreaks rule features settings x.index
+told_squares : (features : Features) (settings : Settings) (x : Finding) → NoneCrowded features settings → 20000000 < square_sum features settings → (rule : Rule) → x.rule ≡ rule_number rule → LimitBreaks rule features settings x.index
     → AreKeptBefore rule features settings → x.file ≡ file_number file.Unit → x.member ≡ 0 → x ≡ limit_finding Squares
 told_squares features settings x none many S5 number breaks first in_file at_member = absurd (none x.index breaks.0)
 told_squares features settings x none many S6 number breaks first in_file at_member = same_finding x (limit_finding Squares) number in_file breaks.1 at_member
 told_squares features settings x none many S7 number breaks first in_file at_member = absurd (first S6 0 (omega arith) (many, refl))
 told_squares features settings x none many S8 number breaks first in_file at_member = absurd (first S6 0 (omega arith) (many, refl))
+told_squares features settings x none many _ number breaks first in_file at_member = absurd breaks
 
-told_nodes : (features : Features) (settings : Settings) (x : Finding) → IsRoomyVenue features settings → HasManyNodes features settings → (rule : LimitRule) → x.rule ≡ rule_number (rule_of rule) → LimitBreaks rule features settings x.index
+told_nodes : (features : Features) (settings : Settings) (x : Finding) → IsRoomyVenue features settings → HasManyNodes features settings → (rule : Rule) → x.rule ≡ rule_number rule → LimitBreaks rule features settings x.index
     → AreKeptBefore rule features settings → x.file ≡ file_number file.Unit → x.member ≡ 0 → x ≡ limit_finding Nodes
 told_nodes features settings x roomy many S5 number breaks first in_file at_member = absurd (roomy.0 x.index breaks.0)
 told_nodes features settings x roomy many S6 number breaks first in_file at_member = absurd (few_squares features settings x.index roomy breaks)
 told_nodes features settings x roomy many S7 number breaks first in_file at_member = same_finding x (limit_finding Nodes) number in_file breaks.1 at_member
 told_nodes features settings x roomy many S8 number breaks first in_file at_member = absurd (first S7 0 (omega arith) (many, refl))
+told_nodes features settings x roomy many _ number breaks first in_file at_member = absurd breaks
 
-told_sight : (features : Features) (settings : Settings) (x : Finding) → IsRoomyVenue features settings → ¬ HasManyNodes features settings → (rule : LimitRule) → x.rule ≡ rule_number (rule_of rule) → LimitBreaks rule features settings x.index
+told_sight : (features : Features) (settings : Settings) (x : Finding) → IsRoomyVenue features settings → ¬ HasManyNodes features settings → (rule : Rule) → x.rule ≡ rule_number rule → LimitBreaks rule features settings x.index
     → x.file ≡ file_number file.Unit → x.member ≡ 0 → x ≡ limit_finding Sight
 told_sight features settings x roomy few S5 number breaks in_file at_member = absurd (roomy.0 x.index breaks.0)
 told_sight features settings x roomy few S6 number breaks in_file at_member = absurd (few_squares features settings x.index roomy breaks)
 told_sight features settings x roomy few S7 number breaks in_file at_member = absurd (few breaks.0)
 told_sight features settings x roomy few S8 number breaks in_file at_member = same_finding x (limit_finding Sight) number in_file breaks.1 at_member
+told_sight features settings x roomy few _ number breaks in_file at_member = absurd breaks
 
-told_nothing : (features : Features) (settings : Settings) (k : ℕ) → Crowds features settings None → (rule : LimitRule) → ¬ LimitBreaks rule features settings k
+told_nothing : (features : Features) (settings : Settings) (k : ℕ) → Crowds features settings None → (rule : Rule) → ¬ LimitBreaks rule features settings k
 told_nothing features settings k crowds S5 breaks = crowds.0.0 k breaks.0
 told_nothing features settings k crowds S6 breaks = few_squares features settings k crowds.0 breaks
 told_nothing features settings k crowds S7 breaks = crowds.1 breaks.0
 told_nothing features settings k crowds S8 breaks = crowds.2 breaks.0
+told_nothing features settings k crowds _ breaks = breaks
 
 listed_one : {P : Finding → Type 0} (x : Finding) → P x → ((y : Finding) → P y → y ≡ x) → IsReport P (x ∷ [])
 unfolding IsStrictlySortedBy

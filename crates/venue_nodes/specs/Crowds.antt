@@ -8,11 +8,11 @@ use Rattle.venue_nodes.specs.declared.limits.Crowding.{Crowding}
 use Rattle.venue_nodes.specs.declared.limits.Crowding.TheVariants.{Members, Squares, Nodes, Sight}
 use Rattle.venue_types.specs.declared.finding.Finding.{Finding}
 use Rattle.venue_types.specs.declared.folder_file.File.TheVariants as file
+use Rattle.imdf_schema.specs.declared.rules.Rule.TheVariants as rule
 use Rattle.imdf_schema.specs.Places.{finding_at}
-use Rattle.venue_nodes.specs.declared.rules.LimitRule.TheVariants.{S5, S6, S7, S8}
 use Rattle.venue_nodes.specs.declared.members.Rows.{Rows}
 use Rattle.venue_nodes.specs.Nodes.{carries}
-use Rattle.venue_nodes.specs.Limits.{IsCrowded, HasManyNodes, HasMuchSight, square_sum, rule_of}
+use Rattle.venue_nodes.specs.Limits.{IsCrowded, HasManyNodes, HasMuchSight, square_sum}
 use Rattle.venue_nodes.specs.Rows.{row_list, unit_indexes}
 
 -- no unit is crowded
@@ -34,10 +34,10 @@ Crowds features settings None = IsRoomyVenue features settings × (¬ HasManyNod
 
 -- what is told of a limit that is passed: the unit that is crowded, or of what is counted over all the first unit
 abbrev pub limit_finding : Crowding → Finding
-limit_finding (Members k) = finding_at (rule_of S5) file.Unit k 0
-limit_finding Squares = finding_at (rule_of S6) file.Unit 0 0
-limit_finding Nodes = finding_at (rule_of S7) file.Unit 0 0
-limit_finding Sight = finding_at (rule_of S8) file.Unit 0 0
+limit_finding (Members k) = finding_at rule.S5 file.Unit k 0
+limit_finding Squares = finding_at rule.S6 file.Unit 0 0
+limit_finding Nodes = finding_at rule.S7 file.Unit 0 0
+limit_finding Sight = finding_at rule.S8 file.Unit 0 0
 
 -- the row has room: it is no longer than its limit
 abbrev pub IsRoomy : List ℕ → Type 0

@@ -12,8 +12,6 @@ use Rattle.imdf_schema.specs.declared.rules.Rule.{Rule}
 use Rattle.imdf_schema.specs.declared.rules.Rule.TheVariants as rule
 use Rattle.venue_types.specs.FolderFiles.{file_number}
 use Rattle.imdf_schema.specs.Rules.{rule_number}
-use Rattle.venue_nodes.specs.declared.rules.LimitRule.{LimitRule}
-use Rattle.venue_nodes.specs.declared.rules.LimitRule.TheVariants.{S5, S6, S7, S8}
 use Rattle.venue_nodes.specs.Nodes.{nodes, walkable_units, carries}
 use Rattle.venue_nodes.specs.Members.{members}
 
@@ -48,25 +46,19 @@ sight_sum features settings = sum_by (sight_square features settings) (filter (�
 abbrev pub HasMuchSight : Features → Settings → Type 0
 HasMuchSight features settings = (settings.inside ≡ Clear) × (2000000000 < sight_sum features settings)
 
--- the rule among all rules
-abbrev pub rule_of : LimitRule → Rule
-rule_of S5 = rule.S5
-rule_of S6 = rule.S6
-rule_of S7 = rule.S7
-rule_of S8 = rule.S8
-
 -- the rule is broken, which is told of the unit of this index: the first crowded one; for what is counted over all the first of all
-abbrev pub LimitBreaks : LimitRule → Features → Settings → ℕ → Type 0
-LimitBreaks S5 features settings k = IsCrowded features settings k × ((j : ℕ) → j < k → ¬ IsCrowded features settings j)
-LimitBreaks S6 features settings k = (20000000 < square_sum features settings) × (k ≡ 0)
-LimitBreaks S7 features settings k = HasManyNodes features settings × (k ≡ 0)
-LimitBreaks S8 features settings k = HasMuchSight features settings × (k ≡ 0)
+abbrev pub LimitBreaks : Rule → Features → Settings → ℕ → Type 0
+LimitBreaks rule.S5 features settings k = IsCrowded features settings k × ((j : ℕ) → j < k → ¬ IsCrowded features settings j)
+LimitBreaks rule.S6 features settings k = (20000000 < square_sum features settings) × (k ≡ 0)
+LimitBreaks rule.S7 features settings k = HasManyNodes features settings × (k ≡ 0)
+LimitBreaks rule.S8 features settings k = HasMuchSight features settings × (k ≡ 0)
+LimitBreaks _ features settings k = ⊥
 
 -- a limit is passed, and none of the rules before it is broken
 pub record BreaksLimit (features : Features) (settings : Settings) (x : Finding) : Type 0 where
-  pub rule : LimitRule
-  pub number : x.rule ≡ rule_number (rule_of rule)
+  pub rule : Rule
+  pub number : x.rule ≡ rule_number rule
   pub breaks : LimitBreaks rule features settings x.index
-  pub first : (before : LimitRule) (k : ℕ) → rule_number (rule_of before) < rule_number (rule_of rule) → ¬ LimitBreaks before features settings k
+  pub first : (before : Rule) (k : ℕ) → rule_number before < rule_number rule → ¬ LimitBreaks before features settings k
   pub in_file : x.file ≡ file_number file.Unit
   pub at_member : x.member ≡ 0

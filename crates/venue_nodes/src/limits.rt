@@ -16,10 +16,9 @@ ghost use Rattle.venue_nodes.specs.TouchCounts.{TouchMany};
 
 use crate::corner_nodes::carries;
 use crate::members::Rows;
-use crate::rules::LimitRule;
 use crate::touch_laws::touch_law;
 use feature_rows::once_law;
-use imdf_schema::{FeatureAt, File};
+use imdf_schema::{FeatureAt, File, Rule};
 use plane_exact::edge_count;
 use std::alloc::Global;
 use venue_types::{Features, Finding, Inside, List, OutOfMemory, Settings, Touches, UnitRow};
@@ -51,16 +50,16 @@ impl Crowding {
         ensures { result ≡ limit_finding self }
     {
         let (rule, index) = match self {
-            Crowding::Members(k) => (LimitRule::S5, k),
-            Crowding::Squares => (LimitRule::S6, 0),
-            Crowding::Nodes => (LimitRule::S7, 0),
-            Crowding::Sight => (LimitRule::S8, 0),
+            Crowding::Members(k) => (Rule::S5, k),
+            Crowding::Squares => (Rule::S6, 0),
+            Crowding::Nodes => (Rule::S7, 0),
+            Crowding::Sight => (Rule::S8, 0),
         };
         let place = FeatureAt {
             file: File::Unit,
             index,
         };
-        place.finding(rule.rule(), 0)
+        place.finding(rule, 0)
     }
 }
 

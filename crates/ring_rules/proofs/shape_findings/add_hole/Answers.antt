@@ -1,7 +1,7 @@
 use Rattle.std.proofs.Common.{[], ◌∷◌}
 use Rattle.venue_types.proofs.Items.{Contains-first, Contains-later}
 use Rattle.rule_reports.proofs.Adding.{on_ok}
-use Rattle.ring_rules.specs.declared.rules.RingRule.TheVariants.{G4}
+use Rattle.imdf_schema.specs.declared.rules.Rule.TheVariants.{G4}
 use Rattle.ring_rules.specs.Rings.{as_hole}
 use Rattle.ring_rules.proofs.FitLemmas.{close_two, fit_second}
 use Rattle.ring_rules.proofs.FindingLemmas.{adds_rule, adds_hole}

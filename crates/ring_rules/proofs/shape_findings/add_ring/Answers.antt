@@ -1,5 +1,5 @@
 use Rattle.rule_reports.proofs.Adding.{on_ok}
-use Rattle.ring_rules.specs.declared.rules.RingRule.TheVariants.{G3, G5}
+use Rattle.imdf_schema.specs.declared.rules.Rule.TheVariants.{G3, G5}
 use Rattle.ring_rules.specs.Findings.{alone}
 use Rattle.ring_rules.proofs.FindingLemmas.{adds_rule, adds_alone}
 use Rattle.ring_rules.proofs.shape_findings.add_ring.Goals as goal
