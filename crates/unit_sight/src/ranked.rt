@@ -121,7 +121,8 @@ impl Ranked {
         64 * w + nth_bit(word, k - front)
     }
 
-    // The word of row i in which its k-th neighbour is.
+    // The word of row i in which its k-th neighbour is. No word in front of k / 64 has it, and where most places are joined it isn't far
+    // behind.
     fn word_of(&self, i: u32, k: u32) -> u32
         requires row { i < length self.now }
         requires more { k < count_to (joins self.now i) (length self.now) }
@@ -129,17 +130,12 @@ impl Ranked {
         ensures front { count_to (joins self.now i) (64 * result) ≤ k }
         ensures behind { k < count_to (joins self.now i) (64 * result + 64) }
     {
-        let mut low = 0;
-        let mut high = row_words(self.size());
-        while high - low > 1 {
-            let middle = low + (high - low) / 2;
-            if self.front(i, middle) <= k {
-                low = middle;
-            } else {
-                high = middle;
-            }
+        let last = row_words(self.size()) - 1;
+        let mut w = k / 64;
+        while w < last && self.front(i, w + 1) <= k {
+            w += 1;
         }
-        low
+        w
     }
 
     /// The first place at `from` or behind that is joined to i, and neither is the place that is known nor joined to it.
