@@ -14,7 +14,7 @@ use Rattle.venue_types.specs.declared.folder_file.File.TheVariants as file
 use Rattle.venue_types.specs.FolderFiles.{file_number, feature_files}
 use Rattle.imdf_schema.specs.Contents.{IsContent, HasContent, content_items}
 use Rattle.imdf_rows.specs.Folder.{AreRows}
-use Rattle.imdf_read.specs.declared.rules.ReadingRule.TheVariants.{S1, S2}
+use Rattle.imdf_schema.specs.declared.rules.Rule.TheVariants.{S1, S2}
 use Rattle.imdf_read.specs.Counts.{collected, file_positions, total_positions, AreContents}
 use Rattle.feature_rows.specs.Rows.{ids_of, feature_count}
 use Rattle.feature_rows.specs.Figures.{positions_of, positions}

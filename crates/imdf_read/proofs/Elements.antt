@@ -12,7 +12,7 @@ use Rattle.imdf_schema.specs.Values.{listed}
 use Rattle.imdf_schema.specs.Items as item
 use Rattle.imdf_rows.specs.Fields.{ref_of}
 use Rattle.imdf_rows.specs.Rows.{IsRelationshipRow}
-use Rattle.imdf_read.specs.declared.rules.ReadingRule.TheVariants.{S4}
+use Rattle.imdf_schema.specs.declared.rules.Rule.TheVariants.{S4}
 use Rattle.imdf_read.specs.Counts.{one_unless_null, elements}
 use Rattle.feature_rows.specs.Sound.{element_count}
 use Rattle.imdf_read.proofs.Nothing.{BreaksNone, is_feature_of}

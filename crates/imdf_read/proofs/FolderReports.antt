@@ -18,13 +18,12 @@ use Rattle.venue_types.specs.declared.folder_file.File.TheVariants as file
 use Rattle.venue_types.specs.FolderFiles.{file_number, feature_files}
 use Rattle.imdf_schema.specs.Contents.{IsContent, content_items}
 use Rattle.imdf_rows.specs.Folder.{AreRows, AreFeatures}
-use Rattle.imdf_read.specs.declared.rules.ReadingRule.{ReadingRule}
-use Rattle.imdf_read.specs.declared.rules.ReadingRule.TheVariants.{F1, F2, F3, F4, M1, M2, M3, C1, C2, C3, C4, C5, C6, V1, L1, Q1, S1, S2, S3, S4, G1, G2}
-use Rattle.imdf_read.specs.declared.rules.ReadingNote.{ReadingNote}
-use Rattle.imdf_read.specs.declared.rules.ReadingNote.TheVariants.{N1, N2, N5}
+use Rattle.imdf_schema.specs.declared.rules.Rule.{Rule}
+use Rattle.imdf_schema.specs.declared.rules.Rule.TheVariants.{S1, S2}
+use Rattle.imdf_schema.specs.declared.rules.NoteKind.{NoteKind}
+use Rattle.imdf_schema.specs.declared.rules.NoteKind.TheVariants.{N1, N2, N5}
 use Rattle.imdf_read.specs.declared.progress.Progress.{Progress}
 use Rattle.imdf_schema.specs.Rules.{rule_number, note_number}
-use Rattle.imdf_read.specs.Rules.{rule_of, note_of}
 use Rattle.imdf_read.specs.Counts.{collected, total_positions}
 use Rattle.imdf_read.specs.Broken.{FolderBreaks, BreaksInFolder, BreaksInFile, BreaksInItem, IsBroken}
 use Rattle.imdf_read.specs.Noted.{ItemNotes, IsNoted}
@@ -46,15 +45,15 @@ abbrev build_note : ℕ → ℕ → ℕ → ℕ → Note
 build_note n f i m = record { note = n; file = f; index = i; member = m }
 
 -- a finding is made of its parts
-made_of : (x : Finding) (r : ReadingRule) (f : File) (i m : ℕ) → x.rule ≡ rule_number (rule_of r) → x.file ≡ file_number f → x.index ≡ i → x.member ≡ m → x ≡ finding_at (rule_of r) f i m
+made_of : (x : Finding) (r : Rule) (f : File) (i m : ℕ) → x.rule ≡ rule_number r → x.file ≡ file_number f → x.index ≡ i → x.member ≡ m → x ≡ finding_at r f i m
 made_of x r f i m rule in_file at_index at_member =
-    ap (λ (n : ℕ). build n x.file x.index x.member) rule ∙ ap (λ (n : ℕ). build (rule_number (rule_of r)) n x.index x.member) in_file
-    ∙ ap (λ (n : ℕ). build (rule_number (rule_of r)) (file_number f) n x.member) at_index ∙ ap (λ (n : ℕ). build (rule_number (rule_of r)) (file_number f) i n) at_member
+    ap (λ (n : ℕ). build n x.file x.index x.member) rule ∙ ap (λ (n : ℕ). build (rule_number r) n x.index x.member) in_file
+    ∙ ap (λ (n : ℕ). build (rule_number r) (file_number f) n x.member) at_index ∙ ap (λ (n : ℕ). build (rule_number r) (file_number f) i n) at_member
 
-note_made_of : (x : Note) (kind : ReadingNote) (f : File) (i : ℕ) → x.note ≡ note_number (note_of kind) → x.file ≡ file_number f → x.index ≡ i → x.member ≡ 0 → x ≡ note_at (note_of kind) f i 0
+note_made_of : (x : Note) (kind : NoteKind) (f : File) (i : ℕ) → x.note ≡ note_number kind → x.file ≡ file_number f → x.index ≡ i → x.member ≡ 0 → x ≡ note_at kind f i 0
 note_made_of x kind f i note in_file at_index at_member =
-    ap (λ (n : ℕ). build_note n x.file x.index x.member) note ∙ ap (λ (n : ℕ). build_note (note_number (note_of kind)) n x.index x.member) in_file
-    ∙ ap (λ (n : ℕ). build_note (note_number (note_of kind)) (file_number f) n x.member) at_index ∙ ap (λ (n : ℕ). build_note (note_number (note_of kind)) (file_number f) i n) at_member
+    ap (λ (n : ℕ). build_note n x.file x.index x.member) note ∙ ap (λ (n : ℕ). build_note (note_number kind) n x.index x.member) in_file
+    ∙ ap (λ (n : ℕ). build_note (note_number kind) (file_number f) n x.member) at_index ∙ ap (λ (n : ℕ). build_note (note_number kind) (file_number f) i n) at_member
 
 -- a place in a file is one where a rule is broken
 file_broken : (files : Files) (x : Finding) → FoundUpTo files.slots 16 x → IsBroken files x
@@ -90,7 +89,7 @@ file_broken files x h = elim h.finds [
       }
 ]
 
-in_file_found : (files : Files) (x : Finding) (r : ReadingRule) → x.rule ≡ rule_number (rule_of r) → BreaksInFile files r x → FoundUpTo files.slots 16 x
+in_file_found : (files : Files) (x : Finding) (r : Rule) → x.rule ≡ rule_number r → BreaksInFile files r x → FoundUpTo files.slots 16 x
 in_file_found files x r number b = record {
   source = b.source;
   under = at_most_16 b.source;
@@ -99,7 +98,7 @@ in_file_found files x r number b = record {
   finds = inl (record { rule = r; breaks = b.breaks; is = made_of x r b.source 0 0 number b.at.in_file b.at.at_index b.at.at_member });
 }
 
-in_item_found : (files : Files) (x : Finding) (r : ReadingRule) → x.rule ≡ rule_number (rule_of r) → BreaksInItem files r x → FoundUpTo files.slots 16 x
+in_item_found : (files : Files) (x : Finding) (r : Rule) → x.rule ≡ rule_number r → BreaksInItem files r x → FoundUpTo files.slots 16 x
 in_item_found files x r number b = record {
   source = b.source;
   under = at_most_16 b.source;
@@ -121,39 +120,20 @@ in_item_found files x r number b = record {
 }
 
 -- a rule on the folder
-abbrev pub InFolder : Files → ReadingRule → Finding → Type 0
-InFolder files r x = FolderBreaks r files × (x ≡ finding_at (rule_of r) file.Manifest 0 0)
+abbrev pub InFolder : Files → Rule → Finding → Type 0
+InFolder files r x = FolderBreaks r files × (x ≡ finding_at r file.Manifest 0 0)
 
-folder_broken : (files : Files) (x : Finding) (r : ReadingRule) → InFolder files r x → IsBroken files x
+folder_broken : (files : Files) (x : Finding) (r : Rule) → InFolder files r x → IsBroken files x
 folder_broken files x r h = record {
   rule = r;
   number = ap (λ (z : Finding). z.rule) h.1;
   breaks = inl (h.0, record { in_file = ap (λ (z : Finding). z.file) h.1; at_index = ap (λ (z : Finding). z.index) h.1; at_member = ap (λ (z : Finding). z.member) h.1 });
 }
 
-in_folder : (files : Files) (x : Finding) (r : ReadingRule) → x.rule ≡ rule_number (rule_of r) → BreaksInFolder files r x → InFolder files S1 x ⊎ InFolder files S2 x
+in_folder : (files : Files) (x : Finding) (r : Rule) → x.rule ≡ rule_number r → BreaksInFolder files r x → InFolder files S1 x ⊎ InFolder files S2 x
 in_folder files x S1 number b = inl (b.0, made_of x S1 file.Manifest 0 0 number b.1.in_file b.1.at_index b.1.at_member)
 in_folder files x S2 number b = inr (b.0, made_of x S2 file.Manifest 0 0 number b.1.in_file b.1.at_index b.1.at_member)
-in_folder files x F1 number b = absurd b.0
-in_folder files x F2 number b = absurd b.0
-in_folder files x F3 number b = absurd b.0
-in_folder files x F4 number b = absurd b.0
-in_folder files x M1 number b = absurd b.0
-in_folder files x M2 number b = absurd b.0
-in_folder files x M3 number b = absurd b.0
-in_folder files x C1 number b = absurd b.0
-in_folder files x C2 number b = absurd b.0
-in_folder files x C3 number b = absurd b.0
-in_folder files x C4 number b = absurd b.0
-in_folder files x C5 number b = absurd b.0
-in_folder files x C6 number b = absurd b.0
-in_folder files x V1 number b = absurd b.0
-in_folder files x L1 number b = absurd b.0
-in_folder files x Q1 number b = absurd b.0
-in_folder files x S3 number b = absurd b.0
-in_folder files x S4 number b = absurd b.0
-in_folder files x G1 number b = absurd b.0
-in_folder files x G2 number b = absurd b.0
+in_folder files x _ number b = absurd b.0
 
 take_past : {X : Type 0} (xs : List X) (k : ℕ) → length xs ≤ k → take k xs ≡ xs
 take_past [] zero h = refl
@@ -201,7 +181,7 @@ long_back files items positions e counts b =
 
 -- the report: what was gathered of the files, and the two rules on the folder
 pub report : (files : Files) (p : Progress) (y z : Finding) (b d out : List Finding) → length files.slots ≡ 17 → IsUpTo files.slots 16 p
-    → y ≡ finding_at (rule_of S1) file.Manifest 0 0 → z ≡ finding_at (rule_of S2) file.Manifest 0 0
+    → y ≡ finding_at S1 file.Manifest 0 0 → z ≡ finding_at S2 file.Manifest 0 0
     → ((P : Finding → Type 0) → (nat_lt 100000 p.items ≡ true → P y) → ((x : Finding) → P x → (nat_lt 100000 p.items ≡ true) × (x ≡ y)) → Adds P p.gathered.findings.items b)
     → ((P : Finding → Type 0) → (nat_lt 1000000 p.positions ≡ true → P z) → ((x : Finding) → P x → (nat_lt 1000000 p.positions ≡ true) × (x ≡ z)) → Adds P b d)
     → IsReport (Contains d) out → IsReport (IsBroken files) out
@@ -224,10 +204,11 @@ report files p y z b d out e up ys zs one two listed =
     listed
 
 -- notes are due in feature files alone
-noted_feature : (kind : ReadingNote) (f : File) (v : Json) → ItemNotes kind f v → f ≢ file.Manifest
+noted_feature : (kind : NoteKind) (f : File) (v : Json) → ItemNotes kind f v → f ≢ file.Manifest
 noted_feature N1 f v h e = let is : f ≡ file.Unit = h.0 in cc
 noted_feature N2 f v h e = let is : f ≡ file.Relationship = h.0 in cc
 noted_feature N5 f v h e = let is : f ≡ file.Unit = h.0 in cc
+noted_feature _ f v h e = h
 
 noted : (files : Files) (x : Note) → NotedUpTo files.slots 16 x → IsNoted files x
 noted files x h =

@@ -18,12 +18,11 @@ use Rattle.venue_types.specs.FolderFiles.{geometry_of}
 use Rattle.imdf_schema.specs.Items.{is_feature, geometry, fits_geometry}
 use Rattle.imdf_rows.specs.declared.figure.Figure.{Figure}
 use Rattle.imdf_rows.specs.Figures.{HasFigure}
-use Rattle.imdf_read.specs.declared.rules.ReadingRule.TheVariants.{C2, C5, G1, G2}
+use Rattle.imdf_schema.specs.declared.rules.Rule.TheVariants.{C2, C5, G1, G2}
 use Rattle.imdf_read.specs.declared.figures.Judged.{Judged}
 use Rattle.imdf_read.specs.Counts.{places_of, is_judged, item_positions}
 use Rattle.rule_reports.specs.Passes.{Adds}
 use Rattle.imdf_schema.specs.Places.{finding_at}
-use Rattle.imdf_read.specs.Rules.{rule_of}
 use Rattle.imdf_read.specs.Gathering.{FindsInItem, FindsInItems, NotesInItem, NotesInItems}
 use Rattle.imdf_read.specs.Judging.{IsJudged, StandsFor}
 use Rattle.rule_reports.proofs.Adding.{Adds-same, Among}
@@ -43,7 +42,7 @@ stands kind.Unjudged item f h = h
 pub sound_feature : (f : File) (i : ℕ) (item : Json) → ((x : Finding) → ¬ FindsInItem f i item x) → is_feature item ≡ true
 sound_feature f i item sound = elim (cases_Bool (is_feature item)) [
   | inl feature ↦ feature
-  | inr not ↦ absurd (sound (finding_at (rule_of C2) f i 0) (record { rule = C2; finds = record { breaks = (not, refl); is = refl } }))
+  | inr not ↦ absurd (sound (finding_at C2 f i 0) (record { rule = C2; finds = record { breaks = (not, refl); is = refl } }))
 ]
 
 -- and it is judged
@@ -51,7 +50,7 @@ sound_judged : (f : File) (i : ℕ) (item : Json) → ((x : Finding) → ¬ Find
 sound_judged f i item sound =
     let feature = sound_feature f i item sound in
     elim (cases_Bool (fits_geometry (geometry_of f) (geometry item))) [
-      | inr unfit ↦ absurd (sound (finding_at (rule_of C5) f i 0) (record { rule = C5; finds = record { breaks = (feature, unfit, refl); is = refl } }))
+      | inr unfit ↦ absurd (sound (finding_at C5 f i 0) (record { rule = C5; finds = record { breaks = (feature, unfit, refl); is = refl } }))
       | inl fits ↦ ap (λ (b : Bool). b && fits_geometry (geometry_of f) (geometry item)) feature ∙ fits
     ]
 
@@ -60,8 +59,8 @@ pub sound_figure : (f : File) (i : ℕ) (item : Json) (j : Judged) → IsJudged 
 sound_figure f i item j judged sound =
     let ours = sound_judged f i item sound in
     let read = judged.read ours in
-    let position = flag_down j.bad_position (λ e. sound (finding_at (rule_of G1) f i 0) (record { rule = G1; finds = record { breaks = (ours, read.bad_position.0 e, refl); is = refl } })) in
-    let form = flag_down j.bad_form (λ e. sound (finding_at (rule_of G2) f i 0) (record { rule = G2; finds = record { breaks = (ours, read.bad_form.0 e, refl); is = refl } })) in
+    let position = flag_down j.bad_position (λ e. sound (finding_at G1 f i 0) (record { rule = G1; finds = record { breaks = (ours, read.bad_position.0 e, refl); is = refl } })) in
+    let form = flag_down j.bad_form (λ e. sound (finding_at G2 f i 0) (record { rule = G2; finds = record { breaks = (ours, read.bad_form.0 e, refl); is = refl } })) in
     stands (geometry_of f) item j.figure (read.figure position form)
 
 chosen_positions : (b : Bool) (n p : ℕ) → (b ≡ true → p ≡ min n (2 ^ 64 - 1)) → (b ≡ false → p ≡ 0) → p ≡ min (cond b n 0) (2 ^ 64 - 1)

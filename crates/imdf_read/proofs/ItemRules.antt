@@ -8,30 +8,29 @@ use Rattle.exact_json.specs.Json.{Json}
 use Rattle.venue_types.specs.declared.folder_file.File.{File}
 use Rattle.imdf_schema.specs.Items.{is_feature}
 use Rattle.imdf_schema.specs.Properties.{properties}
-use Rattle.imdf_read.specs.declared.rules.ReadingRule.{ReadingRule}
-use Rattle.imdf_read.specs.declared.rules.ReadingRule.TheVariants.{F1, F2, F3, F4, M1, M2, M3, C1, C2, C3, C4, C5, C6, V1, L1, Q1, S1, S2, S3, S4, G1, G2}
+use Rattle.imdf_schema.specs.declared.rules.Rule.{Rule}
+use Rattle.imdf_schema.specs.declared.rules.Rule.TheVariants.{C2, C3, C4, C5, C6, L1, Q1, S3, S4, G1, G2}
 use Rattle.imdf_read.specs.declared.figures.Judged.{Judged}
 use Rattle.imdf_read.specs.Counts.{is_judged}
 use Rattle.imdf_read.specs.Broken.{ItemBreaks}
 use Rattle.rule_reports.specs.Passes.{Adds}
 use Rattle.imdf_schema.specs.Places.{finding_at}
-use Rattle.imdf_read.specs.Rules.{rule_of}
 use Rattle.imdf_read.specs.Gathering.{FindsBy, FindsRule, FindsInGeometry, FindsInItem, FindsMisformedOf, plain_rules}
 use Rattle.imdf_read.specs.Judging.{IsJudged, IsPassed}
 use Rattle.rule_reports.proofs.Adding.{Adds-same, Adds-then}
 
 -- a test of a rule that is told of the feature itself
-pub adds_one : (r : ReadingRule) (f : File) (i : ℕ) (item : Json) (broken : Bool) (place : Finding) (old new : List Finding)
-    → (broken ≡ true → ItemBreaks r f item 0) → ((n : ℕ) → ItemBreaks r f item n → (broken ≡ true) × (n ≡ 0)) → place ≡ finding_at (rule_of r) f i 0
+pub adds_one : (r : Rule) (f : File) (i : ℕ) (item : Json) (broken : Bool) (place : Finding) (old new : List Finding)
+    → (broken ≡ true → ItemBreaks r f item 0) → ((n : ℕ) → ItemBreaks r f item n → (broken ≡ true) × (n ≡ 0)) → place ≡ finding_at r f i 0
     → ((P : Finding → Type 0) → (broken ≡ true → P place) → ((x : Finding) → P x → (broken ≡ true) × (x ≡ place)) → Adds P old new)
     → Adds (FindsRule f i item r) old new
 adds_one r f i item broken place old new into back is adds =
     adds (FindsRule f i item r)
     (λ h. record {
       breaks = subst (λ (n : ℕ). ItemBreaks r f item n) (sym (ap (λ (z : Finding). z.member) is)) (into h);
-      is = is ∙ ap (finding_at (rule_of r) f i) (sym (ap (λ (z : Finding). z.member) is));
+      is = is ∙ ap (finding_at r f i) (sym (ap (λ (z : Finding). z.member) is));
     })
-    (λ x h. let at = back x.member h.breaks in (at.0, h.is ∙ ap (finding_at (rule_of r) f i) at.1 ∙ sym is))
+    (λ x h. let at = back x.member h.breaks in (at.0, h.is ∙ ap (finding_at r f i) at.1 ∙ sym is))
 
 -- what the counts and the two flags say of a geometry
 long_into : (f : File) (item : Json) (j : Judged) → IsJudged f item j → nat_lt 20000 j.longest ≡ true → ItemBreaks S3 f item 0
@@ -65,7 +64,7 @@ form_back f item j judged n b = ((judged.read b.0).bad_form.1 b.1, b.2)
 
 -- the three tests of a geometry
 pub geometry_adds : (f : File) (i : ℕ) (item : Json) (j : Judged) (x y z : Finding) (a b c d : List Finding) → IsJudged f item j
-    → x ≡ finding_at (rule_of S3) f i 0 → y ≡ finding_at (rule_of G1) f i 0 → z ≡ finding_at (rule_of G2) f i 0
+    → x ≡ finding_at S3 f i 0 → y ≡ finding_at G1 f i 0 → z ≡ finding_at G2 f i 0
     → ((P : Finding → Type 0) → (nat_lt 20000 j.longest ≡ true → P x) → ((w : Finding) → P w → (nat_lt 20000 j.longest ≡ true) × (w ≡ x)) → Adds P a b)
     → ((P : Finding → Type 0) → (j.bad_position ≡ true → P y) → ((w : Finding) → P w → (j.bad_position ≡ true) × (w ≡ y)) → Adds P b c)
     → ((P : Finding → Type 0) → (j.bad_form ≡ true → P z) → ((w : Finding) → P w → (j.bad_form ≡ true) × (w ≡ z)) → Adds P c d)
@@ -81,11 +80,11 @@ geometry_adds f i item j x y z a b c d judged xs ys zs one two three =
 abbrev Parts : File → ℕ → Json → Finding → Type 0
 Parts f i item x = FindsBy plain_rules f i item x ⊎ (FindsMisformedOf properties f i item x ⊎ FindsInGeometry f i item x)
 
-plain_part : (f : File) (i : ℕ) (item : Json) (r : ReadingRule) (x : Finding) → Contains plain_rules r → FindsRule f i item r x → Parts f i item x
+plain_part : (f : File) (i : ℕ) (item : Json) (r : Rule) (x : Finding) → Contains plain_rules r → FindsRule f i item r x → Parts f i item x
 plain_part f i item r x listed finds = inl (record { rule = r; listed = listed; finds = finds })
 
 -- each rule on a feature is in one of the parts
-parts : (f : File) (i : ℕ) (item : Json) (x : Finding) → is_feature item ≡ true → (r : ReadingRule) → FindsRule f i item r x → Parts f i item x
+parts : (f : File) (i : ℕ) (item : Json) (x : Finding) → is_feature item ≡ true → (r : Rule) → FindsRule f i item r x → Parts f i item x
 parts f i item x feature C3 h = plain_part f i item C3 x (0, omega arith, refl) h
 parts f i item x feature C4 h = plain_part f i item C4 x (1, omega arith, refl) h
 parts f i item x feature C5 h = plain_part f i item C5 x (2, omega arith, refl) h
@@ -97,17 +96,7 @@ parts f i item x feature S3 h = inr (inr (inl h))
 parts f i item x feature G1 h = inr (inr (inr (inl h)))
 parts f i item x feature G2 h = inr (inr (inr (inr h)))
 parts f i item x feature C2 h = let b = h.breaks in let e : is_feature item ≡ false = b.0 in cc
-parts f i item x feature F1 h = absurd h.breaks
-parts f i item x feature F2 h = absurd h.breaks
-parts f i item x feature F3 h = absurd h.breaks
-parts f i item x feature F4 h = absurd h.breaks
-parts f i item x feature M1 h = absurd h.breaks
-parts f i item x feature M2 h = absurd h.breaks
-parts f i item x feature M3 h = absurd h.breaks
-parts f i item x feature C1 h = absurd h.breaks
-parts f i item x feature V1 h = absurd h.breaks
-parts f i item x feature S1 h = absurd h.breaks
-parts f i item x feature S2 h = absurd h.breaks
+parts f i item x feature _ h = absurd h.breaks
 
 -- the parts of what a feature adds
 pub feature_adds : (f : File) (i : ℕ) (item : Json) (a b c d : List Finding) → is_feature item ≡ true
@@ -133,7 +122,7 @@ judged_feature : (a b : Bool) → (a && b) ≡ true → a ≡ true
 judged_feature true b e = refl
 judged_feature false b e = e
 
-no_feature : (f : File) (item : Json) (r : ReadingRule) (n : ℕ) → is_feature item ≡ false → ItemBreaks r f item n → (r ≡ C2) × (n ≡ 0)
+no_feature : (f : File) (item : Json) (r : Rule) (n : ℕ) → is_feature item ≡ false → ItemBreaks r f item n → (r ≡ C2) × (n ≡ 0)
 no_feature f item C2 n not b = (refl, b.1)
 no_feature f item C3 n not b = let e : is_feature item ≡ true = b.0 in cc
 no_feature f item C4 n not b = let e : is_feature item ≡ true = b.0 in cc
@@ -145,27 +134,17 @@ no_feature f item S4 n not b = let e : is_feature item ≡ true = b.1 in cc
 no_feature f item S3 n not b = let e : is_feature item ≡ true = judged_feature (is_feature item) _ b.0 in cc
 no_feature f item G1 n not b = let e : is_feature item ≡ true = judged_feature (is_feature item) _ b.0 in cc
 no_feature f item G2 n not b = let e : is_feature item ≡ true = judged_feature (is_feature item) _ b.0 in cc
-no_feature f item F1 n not b = absurd b
-no_feature f item F2 n not b = absurd b
-no_feature f item F3 n not b = absurd b
-no_feature f item F4 n not b = absurd b
-no_feature f item M1 n not b = absurd b
-no_feature f item M2 n not b = absurd b
-no_feature f item M3 n not b = absurd b
-no_feature f item C1 n not b = absurd b
-no_feature f item V1 n not b = absurd b
-no_feature f item S1 n not b = absurd b
-no_feature f item S2 n not b = absurd b
+no_feature f item _ n not b = absurd b
 
 -- what an item that is no feature adds
-pub no_feature_adds : (f : File) (i : ℕ) (item : Json) (place : Finding) (old new : List Finding) → is_feature item ≡ false → place ≡ finding_at (rule_of C2) f i 0
+pub no_feature_adds : (f : File) (i : ℕ) (item : Json) (place : Finding) (old new : List Finding) → is_feature item ≡ false → place ≡ finding_at C2 f i 0
     → ((P : Finding → Type 0) → (true ≡ true → P place) → ((x : Finding) → P x → (true ≡ true) × (x ≡ place)) → Adds P old new)
     → Adds (FindsInItem f i item) old new
 no_feature_adds f i item place old new not is adds =
     adds (FindsInItem f i item)
-    (λ h. record { rule = C2; finds = record { breaks = (not, ap (λ (z : Finding). z.member) is); is = is ∙ ap (finding_at (rule_of C2) f i) (sym (ap (λ (z : Finding). z.member) is)) } })
+    (λ h. record { rule = C2; finds = record { breaks = (not, ap (λ (z : Finding). z.member) is); is = is ∙ ap (finding_at C2 f i) (sym (ap (λ (z : Finding). z.member) is)) } })
     (λ x h. let at = no_feature f item h.rule x.member not h.finds.breaks in
-    (refl, h.finds.is ∙ ap (λ (r : ReadingRule). finding_at (rule_of r) f i x.member) at.0 ∙ ap (finding_at (rule_of C2) f i) at.1 ∙ sym is))
+    (refl, h.finds.is ∙ ap (λ (r : Rule). finding_at r f i x.member) at.0 ∙ ap (finding_at C2 f i) at.1 ∙ sym is))
 
 -- nothing was read of it
 pub no_feature_judged : (f : File) (item : Json) (j : Judged) → is_feature item ≡ false → IsPassed j → IsJudged f item j

@@ -7,22 +7,21 @@ use Rattle.exact_json.specs.Json.{Json, member}
 use Rattle.venue_types.specs.declared.folder_file.File.TheVariants as file
 use Rattle.imdf_schema.specs.Values.{is_null, is_object, is_text, is_word}
 use Rattle.imdf_schema.specs.Contents.{HasValue, IsLarge, IsNoText, IsDeep}
-use Rattle.imdf_read.specs.declared.rules.ReadingRule.{ReadingRule}
-use Rattle.imdf_read.specs.declared.rules.ReadingRule.TheVariants.{F1, F2, F3, F4, M1, M2, M3, C1, C2, C3, C4, C5, C6, V1, L1, Q1, S1, S2, S3, S4, G1, G2}
+use Rattle.imdf_schema.specs.declared.rules.Rule.{Rule}
+use Rattle.imdf_schema.specs.declared.rules.Rule.TheVariants.{F1, F2, F3, F4, M1, M2, M3, C1, V1}
 use Rattle.imdf_read.specs.Broken.{FileBreaks}
 use Rattle.rule_reports.specs.Passes.{Adds}
 use Rattle.imdf_schema.specs.Places.{finding_at}
-use Rattle.imdf_read.specs.Rules.{rule_of}
 use Rattle.imdf_read.specs.Gathering.{FindsInSlot}
 use Rattle.imdf_read.specs.Taking.{HasOnlyValue, HasFault}
 use Rattle.rule_reports.proofs.Adding.{Adds-same, Adds-then}
 use Rattle.imdf_read.proofs.Slots.{Whole, adds_whole, text_of, not_absent, not_large, some_text, not_deep, fault_value, fault_there, large_text, large_deep, text_deep}
 
-abbrev One : Slot → ReadingRule → Finding → Type 0
+abbrev One : Slot → Rule → Finding → Type 0
 One slot r x = Whole file.Manifest slot r x
 
 -- the rules on a manifest that has a value
-value_rules : (slot : Slot) (v : Json) → HasOnlyValue slot v → (r : ReadingRule) → FileBreaks r file.Manifest slot → (r ≡ M1) ⊎ ((r ≡ M2) ⊎ (r ≡ M3))
+value_rules : (slot : Slot) (v : Json) → HasOnlyValue slot v → (r : Rule) → FileBreaks r file.Manifest slot → (r ≡ M1) ⊎ ((r ≡ M2) ⊎ (r ≡ M3))
 value_rules slot v known M1 b = inl refl
 value_rules slot v known M2 b = inr (inl refl)
 value_rules slot v known M3 b = inr (inr refl)
@@ -32,22 +31,10 @@ value_rules slot v known F3 b = absurd (some_text slot v known.has b)
 value_rules slot v known F4 b = absurd (not_deep slot v known.has known.only b)
 value_rules slot v known C1 b = absurd (b.0 refl)
 value_rules slot v known V1 b = let e : file.Manifest ≡ file.Venue = b.0 in cc
-value_rules slot v known C2 b = absurd b
-value_rules slot v known C3 b = absurd b
-value_rules slot v known C4 b = absurd b
-value_rules slot v known C5 b = absurd b
-value_rules slot v known C6 b = absurd b
-value_rules slot v known L1 b = absurd b
-value_rules slot v known Q1 b = absurd b
-value_rules slot v known S1 b = absurd b
-value_rules slot v known S2 b = absurd b
-value_rules slot v known S3 b = absurd b
-value_rules slot v known S4 b = absurd b
-value_rules slot v known G1 b = absurd b
-value_rules slot v known G2 b = absurd b
+value_rules slot v known _ b = absurd b
 
 -- what may be broken by a manifest that has no value
-none_rules : (slot : Slot) → ((v : Json) → ¬ HasValue slot v) → (r : ReadingRule) → FileBreaks r file.Manifest slot
+none_rules : (slot : Slot) → ((v : Json) → ¬ HasValue slot v) → (r : Rule) → FileBreaks r file.Manifest slot
     → ((r ≡ F1) × (slot ≡ Absent)) ⊎ (((r ≡ F2) × IsLarge slot) ⊎ (((r ≡ F3) × IsNoText slot) ⊎ ((r ≡ F4) × IsDeep slot)))
 none_rules slot none F1 b = inl (refl, b.1)
 none_rules slot none F2 b = inr (inl (refl, b))
@@ -58,26 +45,14 @@ none_rules slot none M2 b = absurd (none b.1.0 b.1.1)
 none_rules slot none M3 b = absurd (none b.1.0 b.1.1)
 none_rules slot none C1 b = absurd (b.0 refl)
 none_rules slot none V1 b = let e : file.Manifest ≡ file.Venue = b.0 in cc
-none_rules slot none C2 b = absurd b
-none_rules slot none C3 b = absurd b
-none_rules slot none C4 b = absurd b
-none_rules slot none C5 b = absurd b
-none_rules slot none C6 b = absurd b
-none_rules slot none L1 b = absurd b
-none_rules slot none Q1 b = absurd b
-none_rules slot none S1 b = absurd b
-none_rules slot none S2 b = absurd b
-none_rules slot none S3 b = absurd b
-none_rules slot none S4 b = absurd b
-none_rules slot none G1 b = absurd b
-none_rules slot none G2 b = absurd b
+none_rules slot none _ b = absurd b
 
-one_alone : (slot : Slot) (r : ReadingRule) (a b : List Finding) → ((q : ReadingRule) → FileBreaks q file.Manifest slot → q ≡ r) → Adds (One slot r) a b → Adds (FindsInSlot file.Manifest slot) a b
+one_alone : (slot : Slot) (r : Rule) (a b : List Finding) → ((q : Rule) → FileBreaks q file.Manifest slot → q ≡ r) → Adds (One slot r) a b → Adds (FindsInSlot file.Manifest slot) a b
 one_alone slot r a b one adds = Adds-same (FindsInSlot file.Manifest slot) adds
     (λ x h. record { rule = r; breaks = h.0; is = h.1 })
-    (λ x h. let e = one h.rule h.breaks in (subst (λ (q : ReadingRule). FileBreaks q file.Manifest slot) e h.breaks, h.is ∙ ap (λ (q : ReadingRule). finding_at (rule_of q) file.Manifest 0 0) e))
+    (λ x h. let e = one h.rule h.breaks in (subst (λ (q : Rule). FileBreaks q file.Manifest slot) e h.breaks, h.is ∙ ap (λ (q : Rule). finding_at q file.Manifest 0 0) e))
 
-pub absent_adds : (place : Finding) (a b : List Finding) → place ≡ finding_at (rule_of F1) file.Manifest 0 0
+pub absent_adds : (place : Finding) (a b : List Finding) → place ≡ finding_at F1 file.Manifest 0 0
     → ((P : Finding → Type 0) → (true ≡ true → P place) → ((x : Finding) → P x → (true ≡ true) × (x ≡ place)) → Adds P a b)
     → Adds (FindsInSlot file.Manifest Absent) a b
 absent_adds place a b is adds = one_alone Absent F1 a b
@@ -88,7 +63,7 @@ absent_adds place a b is adds = one_alone Absent F1 a b
     (adds_whole file.Manifest Absent F1 true place a b (λ h. (refl, refl)) (λ h. refl) is adds)
 
 -- the cause of a fault is broken, and no other rule
-fault_breaks : (slot : Slot) (r : ReadingRule) → HasFault r slot → FileBreaks r file.Manifest slot × ((q : ReadingRule) → FileBreaks q file.Manifest slot → q ≡ r)
+fault_breaks : (slot : Slot) (r : Rule) → HasFault r slot → FileBreaks r file.Manifest slot × ((q : Rule) → FileBreaks q file.Manifest slot → q ≡ r)
 fault_breaks slot F2 fault = (
   fault,
   (λ q b. elim (none_rules slot (fault_value F2 slot fault) q b) [
@@ -110,27 +85,9 @@ fault_breaks slot F4 fault = (
     | inr rest ↦ elim rest [ inl large ↦ absurd (large_deep slot large.1 fault.0) | inr more ↦ elim more [ inl text ↦ absurd (text_deep slot text.1 fault.0) | inr deep ↦ deep.0 ] ]
   ]),
 )
-fault_breaks slot F1 fault = absurd fault
-fault_breaks slot M1 fault = absurd fault
-fault_breaks slot M2 fault = absurd fault
-fault_breaks slot M3 fault = absurd fault
-fault_breaks slot C1 fault = absurd fault
-fault_breaks slot C2 fault = absurd fault
-fault_breaks slot C3 fault = absurd fault
-fault_breaks slot C4 fault = absurd fault
-fault_breaks slot C5 fault = absurd fault
-fault_breaks slot C6 fault = absurd fault
-fault_breaks slot V1 fault = absurd fault
-fault_breaks slot L1 fault = absurd fault
-fault_breaks slot Q1 fault = absurd fault
-fault_breaks slot S1 fault = absurd fault
-fault_breaks slot S2 fault = absurd fault
-fault_breaks slot S3 fault = absurd fault
-fault_breaks slot S4 fault = absurd fault
-fault_breaks slot G1 fault = absurd fault
-fault_breaks slot G2 fault = absurd fault
+fault_breaks slot _ fault = absurd fault
 
-pub fault_adds : (slot : Slot) (r : ReadingRule) (place : Finding) (a b : List Finding) → HasFault r slot → place ≡ finding_at (rule_of r) file.Manifest 0 0
+pub fault_adds : (slot : Slot) (r : Rule) (place : Finding) (a b : List Finding) → HasFault r slot → place ≡ finding_at r file.Manifest 0 0
     → ((P : Finding → Type 0) → (true ≡ true → P place) → ((x : Finding) → P x → (true ≡ true) × (x ≡ place)) → Adds P a b)
     → Adds (FindsInSlot file.Manifest slot) a b
 fault_adds slot r place a b fault is adds =
@@ -156,13 +113,13 @@ abbrev Test : Finding → List Finding → List Finding → Bool → Type 1
 Test place a b holds = (P : Finding → Type 0) → (holds ≡ true → P place) → ((x : Finding) → P x → (holds ≡ true) × (x ≡ place)) → Adds P a b
 
 part : (slot : Slot) (w : Finding) (h : FindsInSlot file.Manifest slot w) → (h.rule ≡ M1) ⊎ ((h.rule ≡ M2) ⊎ (h.rule ≡ M3)) → One slot M1 w ⊎ (One slot M2 w ⊎ One slot M3 w)
-part slot w h (inl e) = inl (subst (λ (q : ReadingRule). FileBreaks q file.Manifest slot) e h.breaks, h.is ∙ ap (λ (q : ReadingRule). finding_at (rule_of q) file.Manifest 0 0) e)
-part slot w h (inr (inl e)) = inr (inl (subst (λ (q : ReadingRule). FileBreaks q file.Manifest slot) e h.breaks, h.is ∙ ap (λ (q : ReadingRule). finding_at (rule_of q) file.Manifest 0 0) e))
-part slot w h (inr (inr e)) = inr (inr (subst (λ (q : ReadingRule). FileBreaks q file.Manifest slot) e h.breaks, h.is ∙ ap (λ (q : ReadingRule). finding_at (rule_of q) file.Manifest 0 0) e))
+part slot w h (inl e) = inl (subst (λ (q : Rule). FileBreaks q file.Manifest slot) e h.breaks, h.is ∙ ap (λ (q : Rule). finding_at q file.Manifest 0 0) e)
+part slot w h (inr (inl e)) = inr (inl (subst (λ (q : Rule). FileBreaks q file.Manifest slot) e h.breaks, h.is ∙ ap (λ (q : Rule). finding_at q file.Manifest 0 0) e))
+part slot w h (inr (inr e)) = inr (inr (subst (λ (q : Rule). FileBreaks q file.Manifest slot) e h.breaks, h.is ∙ ap (λ (q : Rule). finding_at q file.Manifest 0 0) e))
 
 -- the three tests of a manifest's members
 pub value_adds : (slot : Slot) (v : Json) (x y z : Finding) (a b c d : List Finding) (version created language : Bool) → HasOnlyValue slot v
-    → x ≡ finding_at (rule_of M1) file.Manifest 0 0 → y ≡ finding_at (rule_of M2) file.Manifest 0 0 → z ≡ finding_at (rule_of M3) file.Manifest 0 0
+    → x ≡ finding_at M1 file.Manifest 0 0 → y ≡ finding_at M2 file.Manifest 0 0 → z ≡ finding_at M3 file.Manifest 0 0
     → version ≡ not (is_word (member v (codes "version")) (codes "1.0.0"))
     → created ≡ (is_object v && not (is_text (member v (codes "created"))))
     → language ≡ (is_object v && not (is_null (member v (codes "language")) || is_text (member v (codes "language"))))

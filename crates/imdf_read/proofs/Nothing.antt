@@ -11,12 +11,11 @@ use Rattle.venue_types.specs.declared.folder_file.File.TheVariants as file
 use Rattle.venue_types.specs.FolderFiles.{geometry_of}
 use Rattle.imdf_schema.specs.Items.{is_collection, is_feature, items_in, geometry, fits_geometry}
 use Rattle.imdf_schema.specs.Contents.{IsSlotOf, HasValue, HasContent, content_items}
-use Rattle.imdf_read.specs.declared.rules.ReadingRule.{ReadingRule}
-use Rattle.imdf_read.specs.declared.rules.ReadingRule.TheVariants.{F2, F3, F4, C1, C2, C5, V1}
+use Rattle.imdf_schema.specs.declared.rules.Rule.{Rule}
+use Rattle.imdf_schema.specs.declared.rules.Rule.TheVariants.{F2, F3, F4, C1, C2, C5, V1}
 use Rattle.imdf_read.specs.Counts.{is_judged, collected}
 use Rattle.imdf_read.specs.Broken.{FolderBreaks, FileBreaks, ItemBreaks, IsBroken}
 use Rattle.imdf_schema.specs.Places.{finding_at}
-use Rattle.imdf_read.specs.Rules.{rule_of}
 
 -- the first phase finds nothing
 abbrev pub FindsNothing : Files → Type 0
@@ -24,24 +23,24 @@ FindsNothing files = (x : Finding) → ¬ IsBroken files x
 
 -- the item of this file breaks no rule
 abbrev pub BreaksNone : File → Json → Type 0
-BreaksNone f v = (r : ReadingRule) (place : ℕ) → ¬ ItemBreaks r f v place
+BreaksNone f v = (r : Rule) (place : ℕ) → ¬ ItemBreaks r f v place
 
-pub folder_keeps : (files : Files) (r : ReadingRule) → FindsNothing files → ¬ FolderBreaks r files
-folder_keeps files r none b = none (finding_at (rule_of r) file.Manifest 0 0) (record {
+pub folder_keeps : (files : Files) (r : Rule) → FindsNothing files → ¬ FolderBreaks r files
+folder_keeps files r none b = none (finding_at r file.Manifest 0 0) (record {
   rule = r;
   number = refl;
   breaks = inl (b, record { in_file = refl; at_index = refl; at_member = refl });
 })
 
-pub file_keeps : (files : Files) (r : ReadingRule) (f : File) (slot : Slot) → FindsNothing files → IsSlotOf files f slot → ¬ FileBreaks r f slot
-file_keeps files r f slot none held b = none (finding_at (rule_of r) f 0 0) (record {
+pub file_keeps : (files : Files) (r : Rule) (f : File) (slot : Slot) → FindsNothing files → IsSlotOf files f slot → ¬ FileBreaks r f slot
+file_keeps files r f slot none held b = none (finding_at r f 0 0) (record {
   rule = r;
   number = refl;
   breaks = inr (inl (record { source = f; slot = slot; held = held; breaks = b; at = record { in_file = refl; at_index = refl; at_member = refl } }));
 })
 
 pub item_keeps : (files : Files) (f : File) (c : Option Json) → FindsNothing files → f ≢ file.Manifest → HasContent files f c → (k : ℕ) (v : Json) → slice_get (content_items c) k ≡ Some v → BreaksNone f v
-item_keeps files f c none features held k v there r place b = none (finding_at (rule_of r) f k place) (record {
+item_keeps files f c none features held k v there r place b = none (finding_at r f k place) (record {
   rule = r;
   number = refl;
   breaks = inr (inr (record { source = f; features = features; content = c; held = held; item = v; there = there; breaks = b; in_file = refl }));

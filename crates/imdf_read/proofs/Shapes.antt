@@ -19,7 +19,7 @@ use Rattle.venue_types.specs.FolderFiles.{geometry_of}
 use Rattle.imdf_schema.specs.Items.{geometry}
 use Rattle.imdf_schema.specs.Contents.{content_items}
 use Rattle.imdf_rows.specs.Folder.{AreRows}
-use Rattle.imdf_read.specs.declared.rules.ReadingRule.TheVariants.{S3}
+use Rattle.imdf_schema.specs.declared.rules.Rule.TheVariants.{S3}
 use Rattle.imdf_read.specs.Counts.{places_of, item_positions, file_positions, longest_ring}
 use Rattle.plane_exact.specs.Figure.{vertices}
 use Rattle.feature_rows.specs.Sound.{IsOnEarth, IsSoundShape}

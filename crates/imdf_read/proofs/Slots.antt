@@ -13,22 +13,21 @@ use Rattle.venue_types.specs.declared.folder_file.File.TheVariants as file
 use Rattle.imdf_schema.specs.Items.{is_collection, items_in}
 use Rattle.imdf_schema.specs.Contents.{IsContent, content_items, HasValue, IsLarge, IsNoText, IsDeep}
 use Rattle.imdf_read.specs.declared.items.Taken.{Taken}
-use Rattle.imdf_read.specs.declared.rules.ReadingRule.{ReadingRule}
-use Rattle.imdf_read.specs.declared.rules.ReadingRule.TheVariants.{F1, F2, F3, F4, M1, M2, M3, C1, C2, C3, C4, C5, C6, V1, L1, Q1, S1, S2, S3, S4, G1, G2}
+use Rattle.imdf_schema.specs.declared.rules.Rule.{Rule}
+use Rattle.imdf_schema.specs.declared.rules.Rule.TheVariants.{F1, F2, F3, F4, M1, M2, M3, C1, V1}
 use Rattle.imdf_read.specs.Broken.{FileBreaks}
 use Rattle.rule_reports.specs.Passes.{Adds}
 use Rattle.imdf_schema.specs.Places.{finding_at}
-use Rattle.imdf_read.specs.Rules.{rule_of}
 use Rattle.imdf_read.specs.Gathering.{FindsInSlot, FindsInItems, FindsInFile, NotesInItems, NotesInFile}
 use Rattle.imdf_read.specs.Taking.{Takes, TakesItems, TakesNothing, HasOnlyValue, HasFault, IsTextOf}
 use Rattle.rule_reports.proofs.Adding.{Adds-same, Adds-then, Adds-none}
 
 -- one rule on the file
-abbrev pub Whole : File → Slot → ReadingRule → Finding → Type 0
-Whole f slot r x = FileBreaks r f slot × (x ≡ finding_at (rule_of r) f 0 0)
+abbrev pub Whole : File → Slot → Rule → Finding → Type 0
+Whole f slot r x = FileBreaks r f slot × (x ≡ finding_at r f 0 0)
 
-pub adds_whole : (f : File) (slot : Slot) (r : ReadingRule) (broken : Bool) (place : Finding) (old new : List Finding)
-    → (broken ≡ true → FileBreaks r f slot) → (FileBreaks r f slot → broken ≡ true) → place ≡ finding_at (rule_of r) f 0 0
+pub adds_whole : (f : File) (slot : Slot) (r : Rule) (broken : Bool) (place : Finding) (old new : List Finding)
+    → (broken ≡ true → FileBreaks r f slot) → (FileBreaks r f slot → broken ≡ true) → place ≡ finding_at r f 0 0
     → ((P : Finding → Type 0) → (broken ≡ true → P place) → ((x : Finding) → P x → (broken ≡ true) × (x ≡ place)) → Adds P old new)
     → Adds (Whole f slot r) old new
 adds_whole f slot r broken place old new into back is adds = adds (Whole f slot r) (λ h. (into h, is)) (λ x h. (back h.0, h.1 ∙ sym is))
@@ -64,7 +63,7 @@ one_content slot v known None h = absurd (h v known.has)
 one_content slot v known (Some w) h = ap Some (known.only w (text_of slot w h))
 
 -- the rules on a file that has a value
-value_rules : (f : File) (slot : Slot) (v : Json) → f ≢ file.Manifest → HasOnlyValue slot v → (r : ReadingRule) → FileBreaks r f slot → (r ≡ C1) ⊎ (r ≡ V1)
+value_rules : (f : File) (slot : Slot) (v : Json) → f ≢ file.Manifest → HasOnlyValue slot v → (r : Rule) → FileBreaks r f slot → (r ≡ C1) ⊎ (r ≡ V1)
 value_rules f slot v features known C1 b = inl refl
 value_rules f slot v features known V1 b = inr refl
 value_rules f slot v features known F1 b = absurd (features b.0)
@@ -74,19 +73,7 @@ value_rules f slot v features known F4 b = absurd (not_deep slot v known.has kno
 value_rules f slot v features known M1 b = absurd (features b.0)
 value_rules f slot v features known M2 b = absurd (features b.0)
 value_rules f slot v features known M3 b = absurd (features b.0)
-value_rules f slot v features known C2 b = absurd b
-value_rules f slot v features known C3 b = absurd b
-value_rules f slot v features known C4 b = absurd b
-value_rules f slot v features known C5 b = absurd b
-value_rules f slot v features known C6 b = absurd b
-value_rules f slot v features known L1 b = absurd b
-value_rules f slot v features known Q1 b = absurd b
-value_rules f slot v features known S1 b = absurd b
-value_rules f slot v features known S2 b = absurd b
-value_rules f slot v features known S3 b = absurd b
-value_rules f slot v features known S4 b = absurd b
-value_rules f slot v features known G1 b = absurd b
-value_rules f slot v features known G2 b = absurd b
+value_rules f slot v features known _ b = absurd b
 
 not_false : (b : Bool) → b ≡ false → not b ≡ true
 not_false b e = ap not e
@@ -95,7 +82,7 @@ not_true : (b : Bool) → not b ≡ true → b ≡ false
 not_true true e = cc
 not_true false e = refl
 
-pub adds_collection : (f : File) (slot : Slot) (v : Json) (is : Bool) (place : Finding) (old new : List Finding) → f ≢ file.Manifest → HasOnlyValue slot v → is ≡ is_collection v → place ≡ finding_at (rule_of C1) f 0 0
+pub adds_collection : (f : File) (slot : Slot) (v : Json) (is : Bool) (place : Finding) (old new : List Finding) → f ≢ file.Manifest → HasOnlyValue slot v → is ≡ is_collection v → place ≡ finding_at C1 f 0 0
     → ((P : Finding → Type 0) → (not is ≡ true → P place) → ((x : Finding) → P x → (not is ≡ true) × (x ≡ place)) → Adds P old new)
     → Adds (Whole f slot C1) old new
 adds_collection f slot v is place old new features known same at adds =
@@ -105,7 +92,7 @@ adds_collection f slot v is place old new features known same at adds =
     at adds
 
 pub adds_not_one : (f : File) (slot : Slot) (v : Json) (is broken : Bool) (items : ℕ) (place : Finding) (old new : List Finding) → HasOnlyValue slot v → is ≡ is_collection v → items ≡ length (items_in v)
-    → (IsTrue broken ↔ ((f ≡ file.Venue) × (is ≡ true) × (items ≢ 1))) → place ≡ finding_at (rule_of V1) f 0 0
+    → (IsTrue broken ↔ ((f ≡ file.Venue) × (is ≡ true) × (items ≢ 1))) → place ≡ finding_at V1 f 0 0
     → ((P : Finding → Type 0) → (broken ≡ true → P place) → ((x : Finding) → P x → (broken ≡ true) × (x ≡ place)) → Adds P old new)
     → Adds (Whole f slot V1) old new
 adds_not_one f slot v is broken items place old new known same count decides at adds =
@@ -120,8 +107,8 @@ adds_not_one f slot v is broken items place old new known same count decides at 
     at adds
 
 whole_part : (f : File) (slot : Slot) (v : Json) (x : Finding) (h : FindsInSlot f slot x) → (h.rule ≡ C1) ⊎ (h.rule ≡ V1) → Whole f slot C1 x ⊎ (FindsInItems f (items_in v) x ⊎ Whole f slot V1 x)
-whole_part f slot v x h (inl e) = inl (subst (λ (r : ReadingRule). FileBreaks r f slot) e h.breaks, h.is ∙ ap (λ (r : ReadingRule). finding_at (rule_of r) f 0 0) e)
-whole_part f slot v x h (inr e) = inr (inr (subst (λ (r : ReadingRule). FileBreaks r f slot) e h.breaks, h.is ∙ ap (λ (r : ReadingRule). finding_at (rule_of r) f 0 0) e))
+whole_part f slot v x h (inl e) = inl (subst (λ (r : Rule). FileBreaks r f slot) e h.breaks, h.is ∙ ap (λ (r : Rule). finding_at r f 0 0) e)
+whole_part f slot v x h (inr e) = inr (inr (subst (λ (r : Rule). FileBreaks r f slot) e h.breaks, h.is ∙ ap (λ (r : Rule). finding_at r f 0 0) e))
 
 -- what a file that has a value adds
 pub value_adds : (f : File) (slot : Slot) (v : Json) (a b c d : List Finding) → f ≢ file.Manifest → HasOnlyValue slot v
@@ -173,12 +160,12 @@ no_notes f slot none o held x h =
     cc
 
 -- what a file without a value adds, where one rule alone can be broken
-pub no_value_adds : (f : File) (slot : Slot) (r : ReadingRule) (a b : List Finding) → ((v : Json) → ¬ HasValue slot v) → ((q : ReadingRule) → FileBreaks q f slot → q ≡ r)
+pub no_value_adds : (f : File) (slot : Slot) (r : Rule) (a b : List Finding) → ((v : Json) → ¬ HasValue slot v) → ((q : Rule) → FileBreaks q f slot → q ≡ r)
     → Adds (Whole f slot r) a b → Adds (FindsInFile f slot) a b
 no_value_adds f slot r a b none one adds = Adds-same (FindsInFile f slot) adds
     (λ x h. inl (record { rule = r; breaks = h.0; is = h.1 }))
     (λ x h. elim h [
-      | inl whole ↦ let e = one whole.rule whole.breaks in (subst (λ (q : ReadingRule). FileBreaks q f slot) e whole.breaks, whole.is ∙ ap (λ (q : ReadingRule). finding_at (rule_of q) f 0 0) e)
+      | inl whole ↦ let e = one whole.rule whole.breaks in (subst (λ (q : Rule). FileBreaks q f slot) e whole.breaks, whole.is ∙ ap (λ (q : Rule). finding_at q f 0 0) e)
       | inr item ↦ absurd (no_finds f slot none item.0 item.1 x item.2)
     ])
 
@@ -196,29 +183,14 @@ no_value_takes {Row} IsRow f slot taken none nothing = record {
 }
 
 -- the rules on a file that is absent
-pub absent_rules : (f : File) → f ≢ file.Manifest → (q : ReadingRule) → FileBreaks q f Absent → q ≡ V1
+pub absent_rules : (f : File) → f ≢ file.Manifest → (q : Rule) → FileBreaks q f Absent → q ≡ V1
 absent_rules f features V1 b = refl
 absent_rules f features F1 b = absurd (features b.0)
-absent_rules f features F2 b = absurd b
-absent_rules f features F3 b = absurd b
-absent_rules f features F4 b = absurd b
 absent_rules f features M1 b = absurd (features b.0)
 absent_rules f features M2 b = absurd (features b.0)
 absent_rules f features M3 b = absurd (features b.0)
 absent_rules f features C1 b = absurd b.1.1
-absent_rules f features C2 b = absurd b
-absent_rules f features C3 b = absurd b
-absent_rules f features C4 b = absurd b
-absent_rules f features C5 b = absurd b
-absent_rules f features C6 b = absurd b
-absent_rules f features L1 b = absurd b
-absent_rules f features Q1 b = absurd b
-absent_rules f features S1 b = absurd b
-absent_rules f features S2 b = absurd b
-absent_rules f features S3 b = absurd b
-absent_rules f features S4 b = absurd b
-absent_rules f features G1 b = absurd b
-absent_rules f features G2 b = absurd b
+absent_rules f features _ b = absurd b
 
 -- the causes of a fault exclude each other
 pub large_text : (slot : Slot) → IsLarge slot → IsNoText slot → ⊥
@@ -233,62 +205,26 @@ pub text_deep : (slot : Slot) → IsNoText slot → IsDeep slot → ⊥
 text_deep Absent none deep = none
 text_deep (Held bytes) none deep = none.1 deep.1.0 deep.1.1
 
-pub fault_value : (r : ReadingRule) (slot : Slot) → HasFault r slot → (v : Json) → ¬ HasValue slot v
+pub fault_value : (r : Rule) (slot : Slot) → HasFault r slot → (v : Json) → ¬ HasValue slot v
 fault_value F2 slot fault v h = not_large slot v h fault
 fault_value F3 slot fault v h = some_text slot v h fault
 fault_value F4 slot fault v h = fault.1 v h
-fault_value F1 slot fault v h = fault
-fault_value M1 slot fault v h = fault
-fault_value M2 slot fault v h = fault
-fault_value M3 slot fault v h = fault
-fault_value C1 slot fault v h = fault
-fault_value C2 slot fault v h = fault
-fault_value C3 slot fault v h = fault
-fault_value C4 slot fault v h = fault
-fault_value C5 slot fault v h = fault
-fault_value C6 slot fault v h = fault
-fault_value V1 slot fault v h = fault
-fault_value L1 slot fault v h = fault
-fault_value Q1 slot fault v h = fault
-fault_value S1 slot fault v h = fault
-fault_value S2 slot fault v h = fault
-fault_value S3 slot fault v h = fault
-fault_value S4 slot fault v h = fault
-fault_value G1 slot fault v h = fault
-fault_value G2 slot fault v h = fault
+fault_value _ slot fault v h = fault
 
-pub fault_there : (r : ReadingRule) (slot : Slot) → HasFault r slot → slot ≡ Absent → ⊥
+pub fault_there : (r : Rule) (slot : Slot) → HasFault r slot → slot ≡ Absent → ⊥
 fault_there F2 Absent fault e = fault
 fault_there F3 Absent fault e = fault
 fault_there F4 Absent fault e = fault.0
 fault_there F2 (Held bytes) fault e = cc
 fault_there F3 (Held bytes) fault e = cc
 fault_there F4 (Held bytes) fault e = cc
-fault_there F1 slot fault e = fault
-fault_there M1 slot fault e = fault
-fault_there M2 slot fault e = fault
-fault_there M3 slot fault e = fault
-fault_there C1 slot fault e = fault
-fault_there C2 slot fault e = fault
-fault_there C3 slot fault e = fault
-fault_there C4 slot fault e = fault
-fault_there C5 slot fault e = fault
-fault_there C6 slot fault e = fault
-fault_there V1 slot fault e = fault
-fault_there L1 slot fault e = fault
-fault_there Q1 slot fault e = fault
-fault_there S1 slot fault e = fault
-fault_there S2 slot fault e = fault
-fault_there S3 slot fault e = fault
-fault_there S4 slot fault e = fault
-fault_there G1 slot fault e = fault
-fault_there G2 slot fault e = fault
+fault_there _ slot fault e = fault
 
-abbrev IsOneOf : Slot → ReadingRule → Type 0
+abbrev IsOneOf : Slot → Rule → Type 0
 IsOneOf slot q = ((q ≡ F2) × IsLarge slot) ⊎ (((q ≡ F3) × IsNoText slot) ⊎ ((q ≡ F4) × IsDeep slot))
 
 -- what may be broken by a file that is there and has no value
-fault_of : (f : File) (slot : Slot) → f ≢ file.Manifest → ((v : Json) → ¬ HasValue slot v) → (slot ≡ Absent → ⊥) → (q : ReadingRule) → FileBreaks q f slot → IsOneOf slot q
+fault_of : (f : File) (slot : Slot) → f ≢ file.Manifest → ((v : Json) → ¬ HasValue slot v) → (slot ≡ Absent → ⊥) → (q : Rule) → FileBreaks q f slot → IsOneOf slot q
 fault_of f slot features none there F2 b = inl (refl, b)
 fault_of f slot features none there F3 b = inr (inl (refl, b))
 fault_of f slot features none there F4 b = inr (inr (refl, b))
@@ -298,22 +234,10 @@ fault_of f slot features none there M2 b = absurd (features b.0)
 fault_of f slot features none there M3 b = absurd (features b.0)
 fault_of f slot features none there C1 b = absurd (none b.1.0 b.1.1)
 fault_of f slot features none there V1 b = elim b.1 [ inl absent ↦ absurd (there absent) | inr held ↦ absurd (none held.0 held.1) ]
-fault_of f slot features none there C2 b = absurd b
-fault_of f slot features none there C3 b = absurd b
-fault_of f slot features none there C4 b = absurd b
-fault_of f slot features none there C5 b = absurd b
-fault_of f slot features none there C6 b = absurd b
-fault_of f slot features none there L1 b = absurd b
-fault_of f slot features none there Q1 b = absurd b
-fault_of f slot features none there S1 b = absurd b
-fault_of f slot features none there S2 b = absurd b
-fault_of f slot features none there S3 b = absurd b
-fault_of f slot features none there S4 b = absurd b
-fault_of f slot features none there G1 b = absurd b
-fault_of f slot features none there G2 b = absurd b
+fault_of f slot features none there _ b = absurd b
 
 -- the cause of a fault is broken, and no other rule
-pub fault_breaks : (f : File) (slot : Slot) (r : ReadingRule) → f ≢ file.Manifest → HasFault r slot → FileBreaks r f slot × ((q : ReadingRule) → FileBreaks q f slot → q ≡ r)
+pub fault_breaks : (f : File) (slot : Slot) (r : Rule) → f ≢ file.Manifest → HasFault r slot → FileBreaks r f slot × ((q : Rule) → FileBreaks q f slot → q ≡ r)
 fault_breaks f slot F2 features fault = (
   fault,
   (λ q b. elim (fault_of f slot features (fault_value F2 slot fault) (fault_there F2 slot fault) q b) [
@@ -335,37 +259,19 @@ fault_breaks f slot F4 features fault = (
     | inr rest ↦ elim rest [ inl text ↦ absurd (text_deep slot text.1 fault.0) | inr deep ↦ deep.0 ]
   ]),
 )
-fault_breaks f slot F1 features fault = absurd fault
-fault_breaks f slot M1 features fault = absurd fault
-fault_breaks f slot M2 features fault = absurd fault
-fault_breaks f slot M3 features fault = absurd fault
-fault_breaks f slot C1 features fault = absurd fault
-fault_breaks f slot C2 features fault = absurd fault
-fault_breaks f slot C3 features fault = absurd fault
-fault_breaks f slot C4 features fault = absurd fault
-fault_breaks f slot C5 features fault = absurd fault
-fault_breaks f slot C6 features fault = absurd fault
-fault_breaks f slot V1 features fault = absurd fault
-fault_breaks f slot L1 features fault = absurd fault
-fault_breaks f slot Q1 features fault = absurd fault
-fault_breaks f slot S1 features fault = absurd fault
-fault_breaks f slot S2 features fault = absurd fault
-fault_breaks f slot S3 features fault = absurd fault
-fault_breaks f slot S4 features fault = absurd fault
-fault_breaks f slot G1 features fault = absurd fault
-fault_breaks f slot G2 features fault = absurd fault
+fault_breaks f slot _ features fault = absurd fault
 
-pub fault_adds : (f : File) (slot : Slot) (r : ReadingRule) (place : Finding) (old new : List Finding) → f ≢ file.Manifest → HasFault r slot → place ≡ finding_at (rule_of r) f 0 0
+pub fault_adds : (f : File) (slot : Slot) (r : Rule) (place : Finding) (old new : List Finding) → f ≢ file.Manifest → HasFault r slot → place ≡ finding_at r f 0 0
     → ((P : Finding → Type 0) → (true ≡ true → P place) → ((x : Finding) → P x → (true ≡ true) × (x ≡ place)) → Adds P old new)
     → Adds (FindsInFile f slot) old new
 fault_adds f slot r place old new features fault is adds =
     let known = fault_breaks f slot r features fault in
     no_value_adds f slot r old new (fault_value r slot fault) known.1 (adds_whole f slot r true place old new (λ h. known.0) (λ b. refl) is adds)
 
-pub fault_notes : (f : File) (slot : Slot) (r : ReadingRule) (a : List Note) → HasFault r slot → Adds (NotesInFile f slot) a a
+pub fault_notes : (f : File) (slot : Slot) (r : Rule) (a : List Note) → HasFault r slot → Adds (NotesInFile f slot) a a
 fault_notes f slot r a fault = no_value_notes f slot a (fault_value r slot fault)
 
-pub fault_takes : {Row : Type 0} (IsRow : Json → Row → Type 0) (f : File) (slot : Slot) (r : ReadingRule) (taken : Taken Row) → HasFault r slot → TakesNothing taken → Takes IsRow f slot taken
+pub fault_takes : {Row : Type 0} (IsRow : Json → Row → Type 0) (f : File) (slot : Slot) (r : Rule) (taken : Taken Row) → HasFault r slot → TakesNothing taken → Takes IsRow f slot taken
 fault_takes IsRow f slot r taken fault nothing = no_value_takes IsRow f slot taken (fault_value r slot fault) nothing
 
 -- a file that was read is known

@@ -25,7 +25,7 @@ use Rattle.imdf_schema.specs.Items.{geometry}
 use Rattle.imdf_schema.specs.Items as item
 use Rattle.imdf_rows.specs.Fields.{IsDisplay}
 use Rattle.imdf_rows.specs.Rows.{IsPlainRow, IsAmenityRow, IsAnchorRow, IsBuildingRow, IsDetailRow, IsFixtureRow, IsFootprintRow, IsKioskRow, IsLevelRow, IsOccupantRow, IsOpeningRow, IsRelationshipRow, IsUnitRow, IsVenueRow}
-use Rattle.imdf_read.specs.declared.rules.ReadingRule.TheVariants.{L1}
+use Rattle.imdf_schema.specs.declared.rules.Rule.TheVariants.{L1}
 use Rattle.imdf_read.proofs.Nothing.{BreaksNone, is_feature_of}
 use Rattle.imdf_read.proofs.SameRows.{same_plain, same_amenity, same_anchor, same_building, same_detail, same_fixture, same_footprint, same_kiosk, same_level, same_occupant, same_opening, same_relationship, same_unit, same_venue}
 

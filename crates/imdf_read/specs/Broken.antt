@@ -19,10 +19,9 @@ use Rattle.imdf_schema.specs.Forms.{Fits, items_of, item_fits}
 use Rattle.imdf_schema.specs.Items.{is_collection, is_feature, items_in, geometry, property, unlisted_property, fits_geometry}
 use Rattle.imdf_schema.specs.Contents.{IsLarge, IsNoText, IsDeep, HasValue, IsSlotOf, HasContent, content_items}
 use Rattle.imdf_rows.specs.Fields.{IsOrdinal}
-use Rattle.imdf_read.specs.declared.rules.ReadingRule.{ReadingRule}
-use Rattle.imdf_read.specs.declared.rules.ReadingRule.TheVariants.{F1, F2, F3, F4, M1, M2, M3, C1, C2, C3, C4, C5, C6, V1, L1, Q1, S1, S2, S3, S4, G1, G2}
+use Rattle.imdf_schema.specs.declared.rules.Rule.{Rule}
+use Rattle.imdf_schema.specs.declared.rules.Rule.TheVariants.{F1, F2, F3, F4, M1, M2, M3, C1, C2, C3, C4, C5, C6, V1, L1, Q1, S1, S2, S3, S4, G1, G2}
 use Rattle.imdf_schema.specs.Rules.{rule_number}
-use Rattle.imdf_read.specs.Rules.{rule_of}
 use Rattle.imdf_read.specs.Counts.{places_of, is_judged, collected, total_positions, AreContents, longest_ring, elements}
 
 -- a property of an item isn't of its form; or an item of its list isn't, whose place goes into the finding
@@ -40,7 +39,7 @@ BreaksForm kind.Shape v = BreaksShapeForm v
 BreaksForm kind.Unjudged v = ⊥
 
 -- the rules on the folder
-abbrev pub FolderBreaks : ReadingRule → Files → Type 0
+abbrev pub FolderBreaks : Rule → Files → Type 0
 -- all collections have more than 100,000 items together
 FolderBreaks S1 files = (contents : List (Option Json)) × AreContents files contents × (100000 < sum_by collected contents)
 -- all judged geometries have more than 1,000,000 positions together
@@ -48,7 +47,7 @@ FolderBreaks S2 files = (contents : List (Option Json)) × AreContents files con
 FolderBreaks _ files = ⊥
 
 -- the rules on a file
-abbrev pub FileBreaks : ReadingRule → File → Slot → Type 0
+abbrev pub FileBreaks : Rule → File → Slot → Type 0
 -- the manifest is absent
 FileBreaks F1 f slot = (f ≡ file.Manifest) × (slot ≡ Absent)
 -- the file has more than 33,554,432 bytes
@@ -70,7 +69,7 @@ FileBreaks V1 f slot = (f ≡ file.Venue) × ((slot ≡ Absent) ⊎ ((v : Json) 
 FileBreaks _ f slot = ⊥
 
 -- the rules on an item of a feature file, and the number of the member
-abbrev pub ItemBreaks : ReadingRule → File → Json → ℕ → Type 0
+abbrev pub ItemBreaks : Rule → File → Json → ℕ → Type 0
 -- it isn't an object of the type "Feature" with an object `properties`
 ItemBreaks C2 f item place = (is_feature item ≡ false) × (place ≡ 0)
 -- its `id` isn't an identifier
@@ -102,11 +101,11 @@ pub record IsAt (f : File) (k place : ℕ) (x : Finding) : Type 0 where
   pub at_member : x.member ≡ place
 
 -- a rule on the folder is broken, which is told of the manifest
-abbrev pub BreaksInFolder : Files → ReadingRule → Finding → Type 0
+abbrev pub BreaksInFolder : Files → Rule → Finding → Type 0
 BreaksInFolder files r x = FolderBreaks r files × IsAt file.Manifest 0 0 x
 
 -- a rule on a file is broken
-pub record BreaksInFile (files : Files) (r : ReadingRule) (x : Finding) : Type 0 where
+pub record BreaksInFile (files : Files) (r : Rule) (x : Finding) : Type 0 where
   pub source : File
   pub slot : Slot
   pub held : IsSlotOf files source slot
@@ -114,7 +113,7 @@ pub record BreaksInFile (files : Files) (r : ReadingRule) (x : Finding) : Type 0
   pub at : IsAt source 0 0 x
 
 -- a rule on an item of a feature file is broken
-pub record BreaksInItem (files : Files) (r : ReadingRule) (x : Finding) : Type 0 where
+pub record BreaksInItem (files : Files) (r : Rule) (x : Finding) : Type 0 where
   pub source : File
   pub features : source ≢ file.Manifest
   pub content : Option Json
@@ -126,6 +125,6 @@ pub record BreaksInItem (files : Files) (r : ReadingRule) (x : Finding) : Type 0
 
 -- a rule of the first phase is broken there
 pub record IsBroken (files : Files) (x : Finding) : Type 0 where
-  pub rule : ReadingRule
-  pub number : x.rule ≡ rule_number (rule_of rule)
+  pub rule : Rule
+  pub number : x.rule ≡ rule_number rule
   pub breaks : BreaksInFolder files rule x ⊎ (BreaksInFile files rule x ⊎ BreaksInItem files rule x)

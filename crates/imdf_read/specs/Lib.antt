@@ -1,4 +1,3 @@
-pub mod Rules
 pub mod Counts
 pub mod Broken
 pub mod Noted

@@ -11,24 +11,25 @@ use Rattle.venue_types.specs.FolderFiles.{file_number}
 use Rattle.imdf_schema.specs.Items.{is_feature}
 use Rattle.imdf_schema.specs.Items as item
 use Rattle.imdf_schema.specs.Contents.{HasContent, content_items}
-use Rattle.imdf_read.specs.declared.rules.ReadingNote.{ReadingNote}
-use Rattle.imdf_read.specs.declared.rules.ReadingNote.TheVariants.{N1, N2, N5}
+use Rattle.imdf_schema.specs.declared.rules.NoteKind.{NoteKind}
+use Rattle.imdf_schema.specs.declared.rules.NoteKind.TheVariants.{N1, N2, N5}
 use Rattle.imdf_schema.specs.Rules.{note_number}
-use Rattle.imdf_read.specs.Rules.{note_of}
 
 -- what is noted of an item that is a feature
-abbrev pub ItemNotes : ReadingNote → File → Json → Type 0
+abbrev pub ItemNotes : NoteKind → File → Json → Type 0
 -- a unit's category is none of the known ones
 ItemNotes N1 f v = (f ≡ file.Unit) × ((category : List ℕ) × (text_bytes (item.property v property.Category) ≡ Some category) × (is_known_unit category ≡ false))
 -- a relationship's category makes no passage
 ItemNotes N2 f v = (f ≡ file.Relationship) × ((category : List ℕ) × (text_bytes (item.property v property.Category) ≡ Some category) × (passage_of category ≡ None))
 -- a unit's restriction is another text than "employeesonly" and "restricted"
 ItemNotes N5 f v = (f ≡ file.Unit) × ((text : List ℕ) × (text_bytes (item.property v property.Restriction) ≡ Some text) × (text ≢ codes "employeesonly") × (text ≢ codes "restricted"))
+-- no other note is told of an item
+ItemNotes _ f v = ⊥
 
 -- a note is due there
 pub record IsNoted (files : Files) (x : Note) : Type 0 where
-  pub kind : ReadingNote
-  pub number : x.note ≡ note_number (note_of kind)
+  pub kind : NoteKind
+  pub number : x.note ≡ note_number kind
   pub source : File
   pub content : Option Json
   pub held : HasContent files source content

@@ -12,8 +12,8 @@ use Rattle.venue_types.specs.declared.finding.Finding.{Finding}
 use Rattle.venue_types.specs.declared.folder_file.File.{File}
 use Rattle.venue_types.specs.declared.folder_file.Geometry.{Geometry}
 use Rattle.imdf_schema.specs.Contents.{IsContent, content_items, HasValue, IsLarge, IsNoText, IsDeep}
-use Rattle.imdf_read.specs.declared.rules.ReadingRule.{ReadingRule}
-use Rattle.imdf_read.specs.declared.rules.ReadingRule.TheVariants.{F2, F3, F4}
+use Rattle.imdf_schema.specs.declared.rules.Rule.{Rule}
+use Rattle.imdf_schema.specs.declared.rules.Rule.TheVariants.{F2, F3, F4}
 use Rattle.imdf_read.specs.declared.items.Taken.{Taken}
 use Rattle.imdf_rows.specs.declared.figure.Figure.{Figure}
 use Rattle.imdf_rows.specs.Figures.{HasFigure}
@@ -67,7 +67,7 @@ pub record HasOnlyValue (slot : Slot) (v : Json) : Type 0 where
   pub only : (w : Json) → IsTextOf slot w → w ≡ v
 
 -- the file has no value, for the cause that the rule tells
-abbrev pub HasFault : ReadingRule → Slot → Type 0
+abbrev pub HasFault : Rule → Slot → Type 0
 HasFault F2 slot = IsLarge slot
 HasFault F3 slot = IsNoText slot
 HasFault F4 slot = IsDeep slot × ((v : Json) → ¬ HasValue slot v)

@@ -8,15 +8,13 @@ ghost use Rattle.venue_types.specs.declared.files.Slot.TheVariants.{Absent};
 ghost use Rattle.venue_types.specs.FolderFiles.{geometry_of};
 ghost use Rattle.rule_reports.specs.Passes.{Adds};
 ghost use Rattle.imdf_schema.specs.Places.{finding_at};
-ghost use Rattle.imdf_read.specs.Rules.{rule_of};
 ghost use Rattle.imdf_read.specs.Gathering.{FindsInFile, FindsInItems, NotesInFile, NotesInItems, IsShort};
 ghost use Rattle.imdf_read.specs.Taking.{Serves, Takes, TakesItems, HasOnlyValue, HasFault, TakesNothing, AreShort, AreTexts, trees_of};
 
 use crate::items::{Gathered, Taken, take_items};
-use crate::rules::ReadingRule;
 use exact_json::{Arena, JsonFault, Tree, read};
 use imdf_rows::FeatureRow;
-use imdf_schema::{FeatureAt, File, is_collection, items};
+use imdf_schema::{FeatureAt, File, Rule, is_collection, items};
 use rule_reports::add;
 use std::alloc::Global;
 use venue_types::{Finding, OutOfMemory, Slot};
@@ -24,10 +22,10 @@ use venue_types::{Finding, OutOfMemory, Slot};
 pub(crate) const MAX_BYTES: usize = 33_554_432;
 
 /// The finding of a rule on a file as a whole.
-pub(crate) fn whole(rule: ReadingRule, file: File) -> Finding
-    ensures { result ≡ finding_at (rule_of rule) file 0 0 }
+pub(crate) fn whole(rule: Rule, file: File) -> Finding
+    ensures { result ≡ finding_at rule file 0 0 }
 {
-    FeatureAt { file, index: 0 }.finding(rule.rule(), 0)
+    FeatureAt { file, index: 0 }.finding(rule, 0)
 }
 
 impl<R: FeatureRow> Taken<R> {
@@ -96,18 +94,14 @@ fn take_tree<R: FeatureRow>(
     ensures taken { IfOk result (λ t. (slot : ASlot) → HasOnlyValue slot (tree_view tree.now) → Takes R.is_row file slot t) }
 {
     let collection = is_collection(Some(tree));
-    add(
-        &mut gathered.findings,
-        !collection,
-        whole(ReadingRule::C1, file),
-    )?;
+    add(&mut gathered.findings, !collection, whole(Rule::C1, file))?;
     let Taken {
         rows,
         items,
         positions,
     } = take_list(alloc, gathered, file, items(Some(tree)))?;
     let broken = is_not_one(file, collection, items);
-    add(&mut gathered.findings, broken, whole(ReadingRule::V1, file))?;
+    add(&mut gathered.findings, broken, whole(Rule::V1, file))?;
     Ok(Taken {
         rows,
         items: counted(collection, items),
@@ -129,7 +123,7 @@ fn take_absent<R: FeatureRow>(
     add(
         &mut gathered.findings,
         file == File::Venue,
-        whole(ReadingRule::V1, file),
+        whole(Rule::V1, file),
     )?;
     Ok(Taken::nothing(alloc))
 }
@@ -139,7 +133,7 @@ fn take_fault<R: FeatureRow>(
     alloc: Global,
     gathered: &mut Gathered,
     file: File,
-    rule: ReadingRule,
+    rule: Rule,
 ) -> Result<Taken<R>, OutOfMemory>
     requires { file ≢ File.Manifest }
     ensures findings { OnOk result ((slot : ASlot) → HasFault rule slot
@@ -170,13 +164,13 @@ pub(crate) fn read_file<R: FeatureRow>(
         Slot::Held(bytes) => bytes.as_slice(),
     };
     if bytes.len() > MAX_BYTES {
-        return take_fault(alloc, gathered, file, ReadingRule::F2);
+        return take_fault(alloc, gathered, file, Rule::F2);
     }
     let arena = Arena::new(alloc);
     match read(&arena, bytes) {
         Ok(tree) => take_tree(alloc, gathered, file, &tree),
-        Err(JsonFault::Text) => take_fault(alloc, gathered, file, ReadingRule::F3),
-        Err(JsonFault::Deep) => take_fault(alloc, gathered, file, ReadingRule::F4),
+        Err(JsonFault::Text) => take_fault(alloc, gathered, file, Rule::F3),
+        Err(JsonFault::Deep) => take_fault(alloc, gathered, file, Rule::F4),
         Err(JsonFault::OutOfMemory) => Err(OutOfMemory),
     }
 }

@@ -8,8 +8,7 @@ use crate::items::Gathered;
 use crate::progress::{Progress, read_manifest};
 use crate::read_out::ReadOut;
 use crate::rows::read_rows;
-use crate::rules::ReadingRule;
-use imdf_schema::File;
+use imdf_schema::{File, Rule};
 use rule_reports::{add, in_order, notes_in_order};
 use std::alloc::Global;
 use venue_types::{Files, OutOfMemory};
@@ -38,12 +37,12 @@ pub fn read_folder(alloc: Global, files: &Files) -> Result<ReadOut, OutOfMemory>
     add(
         &mut findings,
         items > MAX_ITEMS,
-        whole(ReadingRule::S1, File::Manifest),
+        whole(Rule::S1, File::Manifest),
     )?;
     add(
         &mut findings,
         positions > MAX_POSITIONS,
-        whole(ReadingRule::S2, File::Manifest),
+        whole(Rule::S2, File::Manifest),
     )?;
     Ok(ReadOut {
         features,

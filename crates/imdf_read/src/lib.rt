@@ -14,11 +14,9 @@ mod progress;
 mod property_rule;
 mod read_out;
 mod rows;
-mod rules;
 
 pub use feature_rows::{HasId, Index};
 pub use folder::read_folder;
 pub use imdf_schema::{FeatureAt, File, Rule};
 pub use laws::{one_reading_law, ordinals_law, sound_reading_law};
 pub use read_out::ReadOut;
-pub use rules::{ReadingNote, ReadingRule};

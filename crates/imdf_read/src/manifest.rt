@@ -11,9 +11,8 @@ ghost use Rattle.imdf_read.specs.Gathering.{FindsInSlot};
 ghost use Rattle.imdf_read.specs.Taking.{HasOnlyValue, HasFault};
 
 use crate::file::{MAX_BYTES, whole};
-use crate::rules::ReadingRule;
 use exact_json::{Arena, JsonFault, Tree, read};
-use imdf_schema::{File, is_null, is_object, is_text, is_word, member};
+use imdf_schema::{File, Rule, is_null, is_object, is_text, is_word, member};
 use rule_reports::add;
 use std::alloc::Global;
 use venue_types::{Finding, OutOfMemory, Slot};
@@ -50,15 +49,15 @@ fn judge_tree(findings: &mut Vec<Finding>, tree: &Tree) -> Result<(), OutOfMemor
         → Adds (FindsInSlot File.Manifest slot) findings.old.items findings.new.items) }
 {
     let version = lacks_version(tree);
-    add(findings, version, whole(ReadingRule::M1, File::Manifest))?;
+    add(findings, version, whole(Rule::M1, File::Manifest))?;
     let created = lacks_created(tree);
-    add(findings, created, whole(ReadingRule::M2, File::Manifest))?;
+    add(findings, created, whole(Rule::M2, File::Manifest))?;
     let language = lacks_language(tree);
-    add(findings, language, whole(ReadingRule::M3, File::Manifest))
+    add(findings, language, whole(Rule::M3, File::Manifest))
 }
 
 // It has no value for this cause.
-fn judge_fault(findings: &mut Vec<Finding>, rule: ReadingRule) -> Result<(), OutOfMemory>
+fn judge_fault(findings: &mut Vec<Finding>, rule: Rule) -> Result<(), OutOfMemory>
     ensures { OnOk result ((slot : ASlot) → HasFault rule slot
         → Adds (FindsInSlot File.Manifest slot) findings.old.items findings.new.items) }
 {
@@ -69,7 +68,7 @@ fn judge_fault(findings: &mut Vec<Finding>, rule: ReadingRule) -> Result<(), Out
 fn judge_absent(findings: &mut Vec<Finding>) -> Result<(), OutOfMemory>
     ensures { OnOk result (Adds (FindsInSlot File.Manifest Absent) findings.old.items findings.new.items) }
 {
-    add(findings, true, whole(ReadingRule::F1, File::Manifest))
+    add(findings, true, whole(Rule::F1, File::Manifest))
 }
 
 /// The rules on the manifest.
@@ -85,13 +84,13 @@ pub(crate) fn judge_manifest(
         Slot::Held(bytes) => bytes.as_slice(),
     };
     if bytes.len() > MAX_BYTES {
-        return judge_fault(findings, ReadingRule::F2);
+        return judge_fault(findings, Rule::F2);
     }
     let arena = Arena::new(alloc);
     match read(&arena, bytes) {
         Ok(tree) => judge_tree(findings, &tree),
-        Err(JsonFault::Text) => judge_fault(findings, ReadingRule::F3),
-        Err(JsonFault::Deep) => judge_fault(findings, ReadingRule::F4),
+        Err(JsonFault::Text) => judge_fault(findings, Rule::F3),
+        Err(JsonFault::Deep) => judge_fault(findings, Rule::F4),
         Err(JsonFault::OutOfMemory) => Err(OutOfMemory),
     }
 }

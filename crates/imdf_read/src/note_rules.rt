@@ -9,14 +9,13 @@ ghost use Rattle.imdf_read.specs.Noted.{ItemNotes};
 ghost use Rattle.rule_reports.specs.Passes.{Adds};
 ghost use Rattle.imdf_read.specs.Gathering.{NotesBy, NotesInItem};
 
-use crate::rules::ReadingNote;
 use exact_json::Tree;
 use imdf_access::{known_unit, passage};
-use imdf_schema::{FeatureAt, File, Property, is_feature, property, text};
+use imdf_schema::{FeatureAt, File, NoteKind, Property, is_feature, property, text};
 use rule_reports::add;
 use venue_types::{Note, OutOfMemory};
 
-static KINDS: [ReadingNote; 3] = [ReadingNote::N1, ReadingNote::N2, ReadingNote::N5];
+static KINDS: [NoteKind; 3] = [NoteKind::N1, NoteKind::N2, NoteKind::N5];
 
 // A category that no rule of units is for.
 fn is_unknown(category: Option<&Tree>) -> bool
@@ -49,14 +48,15 @@ fn is_other(restriction: Option<&Tree>) -> bool
 }
 
 // Whether the note is due.
-fn is_due(kind: ReadingNote, file: File, item: &Tree) -> bool
+fn is_due(kind: NoteKind, file: File, item: &Tree) -> bool
     ensures { IsTrue result ↔ ItemNotes kind file (tree_view item.now) }
 {
     match kind {
-        ReadingNote::N1 => file == File::Unit && is_unknown(property(item, Property::Category)),
-        ReadingNote::N2 => file == File::Relationship
+        NoteKind::N1 => file == File::Unit && is_unknown(property(item, Property::Category)),
+        NoteKind::N2 => file == File::Relationship
             && makes_none(property(item, Property::Category)),
-        ReadingNote::N5 => file == File::Unit && is_other(property(item, Property::Restriction)),
+        NoteKind::N5 => file == File::Unit && is_other(property(item, Property::Restriction)),
+        NoteKind::N3 | NoteKind::N4 => false,
     }
 }
 
@@ -65,13 +65,13 @@ fn judge_kinds(
     notes: &mut Vec<Note>,
     place: FeatureAt,
     item: &Tree,
-    kinds: &[ReadingNote],
+    kinds: &[NoteKind],
 ) -> Result<(), OutOfMemory>
     ensures { OnOk result (Adds (NotesBy kinds.now place.file place.index (tree_view item.now)) notes.old.items notes.new.items) }
 {
     for kind in kinds {
         let due = is_due(*kind, place.file, item);
-        add(notes, due, place.note(kind.kind(), 0))?;
+        add(notes, due, place.note(*kind, 0))?;
     }
     Ok(())
 }

@@ -11,26 +11,18 @@ ghost use Rattle.imdf_read.specs.Broken.{ItemBreaks};
 ghost use Rattle.rule_reports.specs.Passes.{Adds};
 ghost use Rattle.imdf_read.specs.Gathering.{FindsBy, IsShort, is_plain, plain_rules};
 
-use crate::rules::ReadingRule;
 use exact_json::Tree;
 use imdf_rows::ordinal;
 use imdf_schema::{
-    FeatureAt, File, Property, fits_geometry, geometry, is_id, is_null, is_word, list, member,
-    property, unlisted_property,
+    FeatureAt, File, Property, Rule, fits_geometry, geometry, is_id, is_null, is_word, list,
+    member, property, unlisted_property,
 };
 use rule_reports::add;
 use venue_types::{Finding, OutOfMemory};
 
 const MAX_ELEMENTS: usize = 65;
 
-static RULES: [ReadingRule; 6] = [
-    ReadingRule::C3,
-    ReadingRule::C4,
-    ReadingRule::C5,
-    ReadingRule::L1,
-    ReadingRule::Q1,
-    ReadingRule::S4,
-];
+static RULES: [Rule; 6] = [Rule::C3, Rule::C4, Rule::C5, Rule::L1, Rule::Q1, Rule::S4];
 
 fn is_ordinal(value: Option<&Tree>) -> bool
     ensures { IsTrue result ↔ ((n : ℤ) × IsOrdinal (seen value.entry) n) }
@@ -80,7 +72,7 @@ fn elements(item: &Tree) -> usize
 // The rule on a level's ordinal.
 fn breaks_ordinal(file: File, item: &Tree) -> bool
     requires { is_feature (tree_view item.now) ≡ true }
-    ensures { IsTrue result ↔ ItemBreaks ReadingRule.L1 file (tree_view item.now) 0 }
+    ensures { IsTrue result ↔ ItemBreaks Rule.L1 file (tree_view item.now) 0 }
 {
     file == File::Level && !is_ordinal(unlisted_property(item, b"ordinal"))
 }
@@ -88,7 +80,7 @@ fn breaks_ordinal(file: File, item: &Tree) -> bool
 // The rule on a relationship's direction.
 fn breaks_direction(file: File, item: &Tree) -> bool
     requires { is_feature (tree_view item.now) ≡ true }
-    ensures { IsTrue result ↔ ItemBreaks ReadingRule.Q1 file (tree_view item.now) 0 }
+    ensures { IsTrue result ↔ ItemBreaks Rule.Q1 file (tree_view item.now) 0 }
 {
     file == File::Relationship && !is_direction(unlisted_property(item, b"direction"))
 }
@@ -97,25 +89,25 @@ fn breaks_direction(file: File, item: &Tree) -> bool
 fn breaks_length(file: File, item: &Tree) -> bool
     requires feature { is_feature (tree_view item.now) ≡ true }
     requires short { IsShort (tree_view item.now) }
-    ensures { IsTrue result ↔ ItemBreaks ReadingRule.S4 file (tree_view item.now) 0 }
+    ensures { IsTrue result ↔ ItemBreaks Rule.S4 file (tree_view item.now) 0 }
 {
     file == File::Relationship && elements(item) > MAX_ELEMENTS
 }
 
 // Whether a feature breaks the rule.
-fn breaks(rule: ReadingRule, file: File, item: &Tree) -> bool
+fn breaks(rule: Rule, file: File, item: &Tree) -> bool
     requires feature { is_feature (tree_view item.now) ≡ true }
     requires short { IsShort (tree_view item.now) }
     requires plain { is_plain rule ≡ true }
     ensures { IsTrue result ↔ ItemBreaks rule file (tree_view item.now) 0 }
 {
     match rule {
-        ReadingRule::C3 => !is_id(member(Some(item), b"id")),
-        ReadingRule::C4 => !is_word(member(Some(item), b"feature_type"), file.type_name()),
-        ReadingRule::C5 => !fits_geometry(file.geometry(), geometry(item)),
-        ReadingRule::L1 => breaks_ordinal(file, item),
-        ReadingRule::Q1 => breaks_direction(file, item),
-        ReadingRule::S4 => breaks_length(file, item),
+        Rule::C3 => !is_id(member(Some(item), b"id")),
+        Rule::C4 => !is_word(member(Some(item), b"feature_type"), file.type_name()),
+        Rule::C5 => !fits_geometry(file.geometry(), geometry(item)),
+        Rule::L1 => breaks_ordinal(file, item),
+        Rule::Q1 => breaks_direction(file, item),
+        Rule::S4 => breaks_length(file, item),
         _ => false,
     }
 }
@@ -125,7 +117,7 @@ fn judge_rules(
     findings: &mut Vec<Finding>,
     place: FeatureAt,
     item: &Tree,
-    rules: &[ReadingRule],
+    rules: &[Rule],
 ) -> Result<(), OutOfMemory>
     requires feature { is_feature (tree_view item.now) ≡ true }
     requires short { IsShort (tree_view item.now) }
@@ -134,7 +126,7 @@ fn judge_rules(
 {
     for rule in rules {
         let broken = breaks(*rule, place.file, item);
-        add(findings, broken, place.finding(rule.rule(), 0))?;
+        add(findings, broken, place.finding(*rule, 0))?;
     }
     Ok(())
 }

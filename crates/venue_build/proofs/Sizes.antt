@@ -8,7 +8,7 @@ use Rattle.venue_types.specs.declared.folder_file.File.{File}
 use Rattle.venue_types.specs.declared.folder_file.File.TheVariants as file
 use Rattle.venue_types.specs.FolderFiles.{file_number}
 use Rattle.imdf_read.specs.Broken.{IsBroken}
-use Rattle.imdf_read.specs.declared.rules.ReadingRule.TheVariants.{F2}
+use Rattle.imdf_read.specs.Rule.TheVariants.{F2}
 
 -- the file of each number
 numbered : (n : ℕ) → n < 17 → (f : File) × (file_number f ≡ n)

@@ -37,8 +37,8 @@ use Rattle.imdf_schema.specs.Values.{is_word, is_id, listed}
 use Rattle.imdf_schema.specs.Items as item
 use Rattle.imdf_schema.specs.Items.{is_feature, geometry, unlisted_property, fits_geometry}
 use Rattle.imdf_rows.specs.Fields.{IsOrdinal}
-use Rattle.imdf_read.specs.declared.rules.ReadingRule.{ReadingRule}
-use Rattle.imdf_read.specs.declared.rules.ReadingRule.TheVariants.{F1, F2, F3, F4, M1, M2, M3, C1, C2, C3, C4, C5, C6, V1, L1, Q1, S1, S2, S3, S4, G1, G2}
+use Rattle.imdf_schema.specs.declared.rules.Rule.{Rule}
+use Rattle.imdf_schema.specs.declared.rules.Rule.TheVariants.{C2, C3, C4, C5, C6, L1, Q1, S3, S4, G1, G2}
 use Rattle.imdf_read.specs.Counts.{places_of, longest_ring, one_unless_null, elements}
 use Rattle.imdf_read.specs.Broken.{IsMisformed, BreaksForm, ItemBreaks}
 use Rattle.imdf_read.specs.Sound.{IsOnEarth, element_count}
@@ -86,17 +86,9 @@ right_form p v place is broken = elim broken [ inl bad ↦ bad.0 is.fits | inr b
 
 -- the item of this file breaks no rule
 abbrev pub BreaksNone : File → Json → Type 0
-BreaksNone f v = (r : ReadingRule) (place : ℕ) → ¬ ItemBreaks r f v place
+BreaksNone f v = (r : Rule) (place : ℕ) → ¬ ItemBreaks r f v place
 
 keeps : (f : File) (v : Json) → IsRightItem f v → BreaksNone f v
-keeps f v is F1 place b = b
-keeps f v is F2 place b = b
-keeps f v is F3 place b = b
-keeps f v is F4 place b = b
-keeps f v is M1 place b = b
-keeps f v is M2 place b = b
-keeps f v is M3 place b = b
-keeps f v is C1 place b = b
 keeps f v is C2 place b = not_both (is_feature v) is.feature b.0
 keeps f v is C3 place b = not_both _ is.id b.1
 keeps f v is C4 place b = not_both _ is.type b.1
@@ -105,15 +97,13 @@ keeps f v is C6 place b =
     let p = b.1.0 in
     let all : OfFile (IsRight v) p.file = subst (OfFile (IsRight v)) (sym b.1.2) is.properties in
     right_form p (item.property v p.property) place (of_table (IsRight v) p b.1.1 all) b.1.3
-keeps f v is V1 place b = b
 keeps f v is L1 place b = let n = is.ordinal b.0 in b.2 n.0 n.1
 keeps f v is Q1 place b = not_both _ (is.direction b.0) b.2
-keeps f v is S1 place b = b
-keeps f v is S2 place b = b
 keeps f v is S3 place b = let few = is.drawn.few in omega (arith, b.1)
 keeps f v is S4 place b = let few = is.elements b.0 in omega (arith, b.2)
 keeps f v is G1 place b = is.drawn.positions b.1
 keeps f v is G2 place b = is.drawn.form b.1
+keeps f v is _ place b = b
 
 -- ---- geometries
 

@@ -14,8 +14,8 @@ use Rattle.venue_types.specs.declared.folder_file.File.TheVariants as file
 use Rattle.imdf_schema.specs.Values.{is_null, is_text, is_word}
 use Rattle.imdf_schema.specs.Items.{is_collection, items_in}
 use Rattle.imdf_schema.specs.Contents.{IsNoText, IsDeep, HasValue, IsSlotOf}
-use Rattle.imdf_read.specs.declared.rules.ReadingRule.{ReadingRule}
-use Rattle.imdf_read.specs.declared.rules.ReadingRule.TheVariants.{F1, F2, F3, F4, M1, M2, M3, C1, C2, C3, C4, C5, C6, V1, L1, Q1, S1, S2, S3, S4, G1, G2}
+use Rattle.imdf_schema.specs.declared.rules.Rule.{Rule}
+use Rattle.imdf_schema.specs.declared.rules.Rule.TheVariants.{F1, F2, F3, F4, M1, M2, M3, C1, V1}
 use Rattle.imdf_read.specs.Broken.{FileBreaks}
 use Rattle.imdf_write.specs.Rows.{venue_feature}
 use Rattle.imdf_write.specs.Folder.{manifest, features_of, collection, collection_file, canonical_file}
@@ -96,7 +96,7 @@ module _ (spells : SpellsItself) (one : HasOneJson) (same : SameNumbers) (featur
   manifest_there : (f : File) (w : Json) → f ≡ file.Manifest → HasValue (canonical_file features f) w → manifest ≡ w
   manifest_there f w e h = manifest_value spells one w (subst (λ (g : File). HasValue (canonical_file features g) w) e h)
 
-  keeps : (r : ReadingRule) (f : File) → ¬ FileBreaks r f (canonical_file features f)
+  keeps : (r : Rule) (f : File) → ¬ FileBreaks r f (canonical_file features f)
   keeps F1 f b = let e : canonical_file features file.Manifest ≡ Absent = subst (λ (g : File). canonical_file features g ≡ Absent) b.0 b.1 in held_absent (compact manifest) e
     where
       held_absent : (bytes : List ℕ) → Held bytes ≢ Absent
@@ -116,22 +116,10 @@ module _ (spells : SpellsItself) (one : HasOneJson) (same : SameNumbers) (featur
         | inl none ↦ not_absent (features_of f features) here (sym (slot_of features f venue) ∙ none)
         | inr w ↦ w.3 (ap length (items_are (features_of f features) w.0 (value_there f w.0 venue w.1)) ∙ here)
       ]
-  keeps C2 f b = b
-  keeps C3 f b = b
-  keeps C4 f b = b
-  keeps C5 f b = b
-  keeps C6 f b = b
-  keeps L1 f b = b
-  keeps Q1 f b = b
-  keeps S1 f b = b
-  keeps S2 f b = b
-  keeps S3 f b = b
-  keeps S4 f b = b
-  keeps G1 f b = b
-  keeps G2 f b = b
+  keeps _ f b = b
 
   -- no file breaks a rule on files
-  pub file_keeps : (r : ReadingRule) (f : File) (slot : Slot) → IsSlotOf (written features) f slot → ¬ FileBreaks r f slot
+  pub file_keeps : (r : Rule) (f : File) (slot : Slot) → IsSlotOf (written features) f slot → ¬ FileBreaks r f slot
   file_keeps r f slot at b =
       let there = slot_there features f in
       let is : canonical_file features f ≡ slot = same_slot (canonical_file features f) slot _ there at in

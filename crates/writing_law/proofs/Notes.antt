@@ -20,9 +20,8 @@ use Rattle.imdf_rows.specs.Folder.{AreFeatures}
 use Rattle.imdf_write.specs.Values.{if_so}
 use Rattle.imdf_write.specs.Rows.{unit_feature}
 use Rattle.imdf_write.specs.Folder.{features_of}
-use Rattle.imdf_read.specs.declared.rules.ReadingNote.{ReadingNote}
-use Rattle.imdf_read.specs.declared.rules.ReadingNote.TheVariants.{N1, N2, N5}
-use Rattle.imdf_read.specs.Rules.{note_of}
+use Rattle.imdf_schema.specs.declared.rules.NoteKind.{NoteKind}
+use Rattle.imdf_schema.specs.declared.rules.NoteKind.TheVariants.{N1, N2, N5}
 use Rattle.imdf_read.specs.Noted.{ItemNotes, IsNoted}
 use Rattle.writing_law.specs.Written.{written, content_of, FindsNothing}
 use Rattle.writing_law.proofs.Files.{items_there}
@@ -33,7 +32,7 @@ use Rattle.writing_law.proofs.Twins.{twin_of, is_one, unit_text, relationship_te
 
 -- a note on an item of the one folder is due to its twin in the other
 module _ (one : HasOneJson) (files again : Files) (features : Features) (are : AreFeatures files features) (others : AreFeatures again features) (none : FindsNothing again) where
-  of_kind : (note : ReadingNote) → note ≢ N5 → (x : Note) → x.note ≡ note_number (note_of note) → (source : File) (content : Option Json) (v : Json) → HasContent files source content
+  of_kind : (note : NoteKind) → note ≢ N5 → (x : Note) → x.note ≡ note_number note → (source : File) (content : Option Json) (v : Json) → HasContent files source content
       → slice_get (content_items content) x.index ≡ Some v → ItemNotes note source v → x.file ≡ file_number source → x.member ≡ 0 → IsNoted again x
   of_kind N1 kept x number source content v held there notes at_file at_member =
       let unit : HasContent files file.Unit content = subst (λ (f : File). HasContent files f content) notes.0 held in
@@ -78,10 +77,11 @@ module _ (one : HasOneJson) (files again : Files) (features : Features) (are : A
         at_member = at_member;
       }
   of_kind N5 kept x number source content v held there notes at_file at_member = absurd (kept refl)
+  of_kind _ kept x number source content v held there notes at_file at_member = absurd notes
 
   pub noted_again : (x : Note) → x.note ≢ 5 → IsNoted files x → IsNoted again x
   noted_again x kept noted =
-      of_kind noted.kind (λ e. kept (noted.number ∙ ap (λ (n : ReadingNote). note_number (note_of n)) e)) x noted.number noted.source noted.content noted.feature noted.held noted.there noted.notes noted.at_file noted.at_member
+      of_kind noted.kind (λ e. kept (noted.number ∙ ap note_number e)) x noted.number noted.source noted.content noted.feature noted.held noted.there noted.notes noted.at_file noted.at_member
 
 -- what is written of a restriction is no other text
 restricted_text : (holds : Bool) (bytes : List ℕ) → text_bytes (if_so holds (text (codes "restricted"))) ≡ Some bytes → bytes ≡ codes "restricted"
@@ -96,16 +96,15 @@ unit_plain : (row : UnitRow) → ¬ ItemNotes N5 file.Unit (unit_feature file.Un
 unit_plain row notes = notes.1.3 (restricted_text row.restricted notes.1.0 notes.1.1)
 
 module _ (one : HasOneJson) (features : Features) (held : HasContent (written features) file.Unit (content_of (features_of file.Unit features))) where
-  none_of_kind : (note : ReadingNote) (source : File) (content : Option Json) (k : ℕ) (v : Json) → HasContent (written features) source content → slice_get (content_items content) k ≡ Some v
-      → ItemNotes note source v → note_number (note_of note) ≢ 5
-  none_of_kind N1 source content k v is there notes e = omega arith
-  none_of_kind N2 source content k v is there notes e = omega arith
+  none_of_kind : (note : NoteKind) (source : File) (content : Option Json) (k : ℕ) (v : Json) → HasContent (written features) source content → slice_get (content_items content) k ≡ Some v
+      → ItemNotes note source v → note_number note ≢ 5
   none_of_kind N5 source content k v is there notes e =
       let unit : HasContent (written features) file.Unit content = subst (λ (f : File). HasContent (written features) f content) notes.0 is in
       let same : content ≡ content_of (features_of file.Unit features) = one_content one (written features) file.Unit content (content_of (features_of file.Unit features)) unit held in
       let at : slice_get (content_items (content_of (features_of file.Unit features))) k ≡ Some v = subst (λ (c : Option Json). slice_get (content_items c) k ≡ Some v) same there in
       let row = from_map (unit_feature file.Unit) features.units k v (subst (λ (vs : List Json). slice_get vs k ≡ Some v) (items_there (features_of file.Unit features)) at) in
       unit_plain row.0 (subst (λ (w : Json). ItemNotes N5 file.Unit w) (sym row.2) (refl, notes.1))
+  none_of_kind _ source content k v is there notes e = omega arith
 
   pub none_on_restrictions : (x : Note) → IsNoted (written features) x → x.note ≢ 5
   none_on_restrictions x noted e = none_of_kind noted.kind noted.source noted.content x.index noted.feature noted.held noted.there noted.notes (sym noted.number ∙ e)

@@ -9,8 +9,8 @@ use Rattle.venue_types.specs.declared.features.Features.{Features}
 use Rattle.venue_types.specs.declared.finding.Finding.{Finding}
 use Rattle.venue_types.proofs.Items.{member_at}
 use Rattle.imdf_schema.specs.Contents.{content_items}
-use Rattle.imdf_read.specs.declared.rules.ReadingRule.{ReadingRule}
-use Rattle.imdf_read.specs.declared.rules.ReadingRule.TheVariants.{F1, F2, F3, F4, M1, M2, M3, C1, C2, C3, C4, C5, C6, V1, L1, Q1, S1, S2, S3, S4, G1, G2}
+use Rattle.imdf_schema.specs.declared.rules.Rule.{Rule}
+use Rattle.imdf_schema.specs.declared.rules.Rule.TheVariants.{S1, S2}
 use Rattle.imdf_read.specs.Broken.{FolderBreaks, BreaksInFile, BreaksInItem}
 use Rattle.imdf_write.specs.Folder.{features_of}
 use Rattle.writing_law.specs.Written.{FitsFeatures, written, IsWithinLimit, content_of, FindsNothing}
@@ -20,35 +20,16 @@ use Rattle.writing_law.proofs.KeptFiles.{HasOneJson, file_keeps}
 use Rattle.writing_law.proofs.KeptFolder.{one_content, few_features, few_positions}
 
 module _ (spells : SpellsItself) (one : HasOneJson) (point : HasOnePoint) (same : SameNumbers) (features : Features) (fits : FitsFeatures features) (limit : IsWithinLimit features) where
-  folder_keeps : (r : ReadingRule) → ¬ FolderBreaks r (written features)
+  folder_keeps : (r : Rule) → ¬ FolderBreaks r (written features)
   folder_keeps S1 b = let few = few_features spells one same features fits limit b.0 b.1 in omega (arith, b.2)
   folder_keeps S2 b = let few = few_positions spells one same features fits limit b.0 b.1 in omega (arith, b.2)
-  folder_keeps F1 b = b
-  folder_keeps F2 b = b
-  folder_keeps F3 b = b
-  folder_keeps F4 b = b
-  folder_keeps M1 b = b
-  folder_keeps M2 b = b
-  folder_keeps M3 b = b
-  folder_keeps C1 b = b
-  folder_keeps C2 b = b
-  folder_keeps C3 b = b
-  folder_keeps C4 b = b
-  folder_keeps C5 b = b
-  folder_keeps C6 b = b
-  folder_keeps V1 b = b
-  folder_keeps L1 b = b
-  folder_keeps Q1 b = b
-  folder_keeps S3 b = b
-  folder_keeps S4 b = b
-  folder_keeps G1 b = b
-  folder_keeps G2 b = b
+  folder_keeps _ b = b
 
-  in_file : (r : ReadingRule) (x : Finding) → ¬ BreaksInFile (written features) r x
+  in_file : (r : Rule) (x : Finding) → ¬ BreaksInFile (written features) r x
   in_file r x b = file_keeps spells one same features fits limit r b.source b.slot b.held b.breaks
 
   -- an item of a file is one of its features
-  in_item : (r : ReadingRule) (x : Finding) → ¬ BreaksInItem (written features) r x
+  in_item : (r : Rule) (x : Finding) → ¬ BreaksInItem (written features) r x
   in_item r x b =
       let ours = content_held spells same features fits limit b.source b.features in
       let content : b.content ≡ content_of (features_of b.source features) = one_content one (written features) b.source b.content (content_of (features_of b.source features)) b.held ours in

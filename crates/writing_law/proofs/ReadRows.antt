@@ -51,8 +51,7 @@ use Rattle.imdf_rows.specs.Laws.{IsOneDoor, IsPassageOrNone}
 use Rattle.imdf_rows.specs.Rows.{IsPlainRow, IsAmenityRow, IsAnchorRow, IsBuildingRow, IsDetailRow, IsFixtureRow, IsFootprintRow, IsKioskRow, IsLevelRow, IsOccupantRow, IsOpeningRow, IsRelationshipRow, IsUnitRow, IsVenueRow}
 use Rattle.imdf_rows.specs.Folder.{AreRows, AreFeatures}
 use Rattle.imdf_rows.proofs.Texts.{member_has, listed_has, text_has}
-use Rattle.imdf_read.specs.declared.rules.ReadingRule.TheVariants.{C2, C6}
-use Rattle.imdf_read.specs.Rules.{rule_of}
+use Rattle.imdf_schema.specs.declared.rules.Rule.TheVariants.{C2, C6}
 use Rattle.imdf_read.specs.Ordinals.{IsInRange}
 use Rattle.plane_exact.specs.Figure.{vertices}
 use Rattle.imdf_read.specs.Sound.{IsOnEarth, IsSoundShape, AreSound}
@@ -261,7 +260,7 @@ unmapped P g (x ∷ xs) all = All-cons (λ x. P (g x)) x xs (All-head P (g x) (m
 
 module _ (files : Files) (features : Features) (none : FindsNothing files) where
   pub item_keeps : (f : File) (c : Option Json) → f ≢ file.Manifest → HasContent files f c → (k : ℕ) (v : Json) → slice_get (content_items c) k ≡ Some v → BreaksNone f v
-  item_keeps f c not_manifest held k v there r place b = none (finding_at (rule_of r) f k place) (record {
+  item_keeps f c not_manifest held k v there r place b = none (finding_at r f k place) (record {
     rule = r;
     number = refl;
     breaks = inr (inr (record { source = f; features = not_manifest; content = c; held = held; item = v; there = there; breaks = b; in_file = refl }));

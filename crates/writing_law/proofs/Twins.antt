@@ -19,7 +19,7 @@ use Rattle.imdf_schema.specs.Items.{is_feature}
 use Rattle.imdf_schema.specs.Contents.{HasContent, content_items}
 use Rattle.imdf_rows.specs.Fields.{text_field}
 use Rattle.imdf_rows.specs.Folder.{AreRows}
-use Rattle.imdf_read.specs.declared.rules.ReadingRule.TheVariants.{C2, C6}
+use Rattle.imdf_schema.specs.declared.rules.Rule.TheVariants.{C2, C6}
 use Rattle.writing_law.proofs.Zipped.{twin_at}
 use Rattle.writing_law.proofs.Keeps.{BreaksNone}
 use Rattle.writing_law.proofs.KeptFiles.{HasOneJson}

@@ -3,7 +3,7 @@ use denote.Enum.Bare.{same_true, true_same}
 use Rattle.venue_types.specs.declared.files.Slot.TheVariants.{Absent}
 use Rattle.venue_types.specs.contracts.folder_file.File.{the_type}
 use Rattle.venue_types.specs.declared.folder_file.File.TheVariants as file
-use Rattle.imdf_read.specs.declared.rules.ReadingRule.TheVariants.{V1}
+use Rattle.imdf_schema.specs.declared.rules.Rule.TheVariants.{V1}
 use Rattle.rule_reports.proofs.Adding.{Adds-found}
 use Rattle.imdf_read.proofs.Slots.{no_value_adds, adds_whole, absent_rules}
 use Rattle.imdf_read.proofs.file.take_absent.Goals as goal

@@ -6,7 +6,7 @@ use Rattle.geo_decimal.specs.Value.{IsWithin}
 use Rattle.venue_types.specs.declared.features.LevelRow.{LevelRow}
 use Rattle.venue_types.specs.declared.folder_file.File.TheVariants as file
 use Rattle.imdf_rows.specs.Rows.{IsLevelRow}
-use Rattle.imdf_read.specs.declared.rules.ReadingRule.TheVariants.{L1}
+use Rattle.imdf_schema.specs.declared.rules.Rule.TheVariants.{L1}
 use Rattle.imdf_read.specs.Ordinals.{IsInRange}
 use Rattle.imdf_read.proofs.Nothing.{BreaksNone, is_feature_of}
 use Rattle.imdf_read.proofs.Shapes.{all_kept}

@@ -1,8 +1,6 @@
-use Rattle.std.proofs.Common.{◌<◌, ◌∙◌, length, ap, arith}
+use Rattle.std.proofs.Common.{◌<◌, length, arith}
 use Rattle.std.proofs.lemmas.Option.{slice_get-get_or}
 use Rattle.exact_json.specs.View.{tree_view}
-use Rattle.imdf_schema.specs.declared.rules.NoteKind.{NoteKind}
-use Rattle.imdf_schema.specs.Places.{note_at}
 use Rattle.rule_reports.proofs.Adding.{Adds-start, Adds-step, Adds-end, Adds-found}
 use Rattle.imdf_read.proofs.NoteRules.{Due, adds_note, notes_by}
 use Rattle.imdf_read.proofs.note_rules.judge_kinds.Goals as goal
@@ -19,7 +17,7 @@ loop-kind-preserved c =
     let item = tree_view c.args.item.now in
     let within : k < length kinds = omega arith in
     Adds-step (λ n kind. Due f i item kind) kinds k _ (slice_get-get_or kinds k _ within) c.loop-kind.invariant
-    (adds_note _ f i item c.is_due-due.result c.note.result c.loop-kind.notes.items c.add.new.places.items c.is_due-due.ensures (c.note.ensures ∙ ap (λ (n : NoteKind). note_at n f i 0) c.kind.ensures)
+    (adds_note _ f i item c.is_due-due.result c.note.result c.loop-kind.notes.items c.add.new.places.items c.is_due-due.ensures c.note.ensures
     (λ P into back. Adds-found P c.is_due-due.result c.note.result c.loop-kind.notes.items c.add.new.places.items c.in_ok-add.ensures.ok into back))
 
 pub returns : goal.returns

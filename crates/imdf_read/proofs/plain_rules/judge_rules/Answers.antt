@@ -1,9 +1,7 @@
-use Rattle.std.proofs.Common.{◌<◌, ◌∙◌, length, ap, arith}
+use Rattle.std.proofs.Common.{◌<◌, length, arith}
 use Rattle.std.proofs.lemmas.Option.{slice_get-get_or}
 use Rattle.exact_json.specs.View.{tree_view}
-use Rattle.imdf_schema.specs.declared.rules.Rule.{Rule}
-use Rattle.imdf_schema.specs.Places.{finding_at}
-use Rattle.imdf_read.specs.declared.rules.ReadingRule.TheVariants.{C3}
+use Rattle.imdf_schema.specs.declared.rules.Rule.TheVariants.{C3}
 use Rattle.imdf_read.specs.Gathering.{FindsRule}
 use Rattle.rule_reports.proofs.Adding.{Adds-step, Adds-end, Adds-found}
 use Rattle.imdf_read.proofs.PlainRules.{adds_rule, finds_by, next_plain}
@@ -20,7 +18,7 @@ loop-rule-preserved c =
     record {
       adds = Adds-step (λ n r. FindsRule f i item r) rules k _ (slice_get-get_or rules k _ within) c.loop-rule.invariant.adds
           (adds_rule _ f i item c.breaks-broken.result c.finding.result c.loop-rule.findings.items c.add.new.places.items
-          (next_plain rules k _ within c.loop-rule.invariant.plain).0 c.breaks-broken.ensures (c.finding.ensures ∙ ap (λ (r : Rule). finding_at r f i 0) c.rule.ensures)
+          (next_plain rules k _ within c.loop-rule.invariant.plain).0 c.breaks-broken.ensures c.finding.ensures
           (λ P into back. Adds-found P c.breaks-broken.result c.finding.result c.loop-rule.findings.items c.add.new.places.items c.in_ok-add.ensures.ok into back));
       plain = (next_plain rules k C3 within c.loop-rule.invariant.plain).1;
     }

@@ -4,9 +4,8 @@ use Rattle.std.proofs.lemmas.Option.{slice_get_read}
 use Rattle.venue_types.proofs.Items.{at_map}
 use Rattle.exact_json.specs.View.{tree_view}
 use Rattle.imdf_schema.specs.Properties.{property_number}
-use Rattle.imdf_read.specs.declared.rules.ReadingRule.TheVariants.{C6}
+use Rattle.imdf_schema.specs.declared.rules.Rule.TheVariants.{C6}
 use Rattle.imdf_schema.specs.Places.{finding_at}
-use Rattle.imdf_read.specs.Rules.{rule_of}
 use Rattle.rule_reports.proofs.Adding.{Adds-start, Adds-step, Adds-end, Adds-found}
 use Rattle.imdf_read.proofs.PropertyRule.{BadItem, adds_bad_item, bad_items}
 use Rattle.imdf_read.proofs.property_rule.judge_list.Goals as goal
@@ -22,7 +21,7 @@ loop-k-preserved c =
     let k = c.loop-k.k in
     let item = c.index-items-k.result in
     let at = slice_get_read c.args.items.now (length c.args.items.now) k item refl (omega arith) c.index-items-k.is in
-    let is : c.finding.result ≡ finding_at (rule_of C6) f i (property_number row.property + 64 * k) = c.finding.ensures ∙ ap (λ (n : ℕ). finding_at (rule_of C6) f i (n + 64 * k)) c.number.ensures in
+    let is : c.finding.result ≡ finding_at C6 f i (property_number row.property + 64 * k) = c.finding.ensures ∙ ap (λ (n : ℕ). finding_at C6 f i (n + 64 * k)) c.number.ensures in
     Adds-step (BadItem row f i) (map tree_view c.args.items.now) k (tree_view item) (at_map tree_view c.args.items.now k item at) c.loop-k.invariant
     (adds_bad_item row f i k (tree_view item) c.item_fits-unfit.result c.finding.result c.loop-k.findings.items c.add.new.places.items c.item_fits-unfit.ensures is
     (λ P into back. Adds-found P (not c.item_fits-unfit.result) c.finding.result c.loop-k.findings.items c.add.new.places.items c.in_ok-add.ensures.ok into back))

@@ -7,10 +7,9 @@ use Rattle.venue_types.specs.contracts.folder_file.File.{the_type}
 use Rattle.imdf_schema.specs.Forms.{Fits, items_of}
 use Rattle.imdf_schema.specs.Items.{property}
 use Rattle.imdf_schema.specs.Properties.{property_number}
-use Rattle.imdf_read.specs.declared.rules.ReadingRule.TheVariants.{C6}
+use Rattle.imdf_schema.specs.declared.rules.Rule.TheVariants.{C6}
 use Rattle.rule_reports.specs.Passes.{Adds}
 use Rattle.imdf_schema.specs.Places.{finding_at}
-use Rattle.imdf_read.specs.Rules.{rule_of}
 use Rattle.rule_reports.proofs.Adding.{Adds-found}
 use Rattle.imdf_read.proofs.Narrow.{narrow_property, few_items}
 use Rattle.imdf_read.proofs.PropertyRule.{BadWhole, adds_bad_whole, misformed, no_items, not_ours}
@@ -44,7 +43,7 @@ returns-in-Some c =
     let b = c.add.new.places.items in
     let own = differs_false the_type (search rules) row.file f (sym c.if-ne.ensures) in
     let fits : IsTrue c.in_ok-fit.fit ↔ Fits row.form v = subst (λ (w : Json). IsTrue c.in_ok-fit.fit ↔ Fits row.form w) c.property-value.ensures c.in_ok-fit.ensures in
-    let is : c.finding.result ≡ finding_at (rule_of C6) f i (property_number row.property) = c.finding.ensures ∙ ap (finding_at (rule_of C6) f i) c.number-member.ensures in
+    let is : c.finding.result ≡ finding_at C6 f i (property_number row.property) = c.finding.ensures ∙ ap (finding_at C6 f i) c.number-member.ensures in
     let one : Adds (BadWhole row f i v) a b = adds_bad_whole row f i v c.in_ok-fit.fit c.finding.result a b fits is
     (λ P into back. Adds-found P (not c.in_ok-fit.fit) c.finding.result a b c.in_ok-add.ensures.ok into back) in
     let list : items_of row.form v ≡ map tree_view c.in-Some.items.now = sym (shown _ _ c.in-Some.ensures ∙ ap (items_of row.form) c.property-value.ensures) in
@@ -61,7 +60,7 @@ returns-in-None c =
     let b = c.add.new.places.items in
     let own = differs_false the_type (search rules) row.file f (sym c.if-ne.ensures) in
     let fits : IsTrue c.in_ok-fit.fit ↔ Fits row.form v = subst (λ (w : Json). IsTrue c.in_ok-fit.fit ↔ Fits row.form w) c.property-value.ensures c.in_ok-fit.ensures in
-    let is : c.finding.result ≡ finding_at (rule_of C6) f i (property_number row.property) = c.finding.ensures ∙ ap (finding_at (rule_of C6) f i) c.number-member.ensures in
+    let is : c.finding.result ≡ finding_at C6 f i (property_number row.property) = c.finding.ensures ∙ ap (finding_at C6 f i) c.number-member.ensures in
     let one : Adds (BadWhole row f i v) a b = adds_bad_whole row f i v c.in_ok-fit.fit c.finding.result a b fits is
     (λ P into back. Adds-found P (not c.in_ok-fit.fit) c.finding.result a b c.in_ok-add.ensures.ok into back) in
     let list : items_of row.form v ≡ [] = sym (shown _ _ c.in-None.ensures ∙ ap (items_of row.form) c.property-value.ensures) in
