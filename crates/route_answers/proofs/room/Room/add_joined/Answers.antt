@@ -7,8 +7,8 @@ use Rattle.route_answers.specs.Adding.{Adds, rows_joined_to}
 use Rattle.route_answers.specs.Passing.{passes_node}
 use Rattle.route_answers.proofs.Gathering.{adds_none}
 use Rattle.route_answers.proofs.JoinedRows.{kept_piece, left_piece}
-use Rattle.route_answers.proofs.rows.Room.add_joined.Goals as goal
-use Rattle.route_answers.proofs.rows.Room.add_joined.Goals.{then-has+in_ok-add_joined_from, else-has}
+use Rattle.route_answers.proofs.room.Room.add_joined.Goals as goal
+use Rattle.route_answers.proofs.room.Room.add_joined.Goals.{then-has+in_ok-add_joined_from, else-has}
 
 pub loop-i-init : goal.loop-i-init
 loop-i-init c = adds_none (length (network c.args.self.now.graph.now).nodes) c.args.rows.now.items

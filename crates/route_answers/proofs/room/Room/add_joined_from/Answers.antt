@@ -8,8 +8,8 @@ use Rattle.route_answers.specs.Adding.{Adds, pair_row, rows_joined_to}
 use Rattle.route_answers.specs.Passing.{passes_node}
 use Rattle.route_answers.proofs.Gathering.{adds_none, kept_more, left_more, row_is, row_fits}
 use Rattle.route_answers.proofs.MemberPlaces.{first_fails, first_passes, joined_at}
-use Rattle.route_answers.proofs.rows.Room.add_joined_from.Goals as goal
-use Rattle.route_answers.proofs.rows.Room.add_joined_from.Goals.{then-joins+then-has+in_ok-push, else-joins, else-joins-via-then-joins+else-has, else-joins-via-else-joins}
+use Rattle.route_answers.proofs.room.Room.add_joined_from.Goals as goal
+use Rattle.route_answers.proofs.room.Room.add_joined_from.Goals.{then-joins+then-has+in_ok-push, else-joins, else-joins-via-then-joins+else-has, else-joins-via-else-joins}
 
 pub loop-j-init : goal.loop-j-init
 loop-j-init c = adds_none (length (network c.args.self.now.graph.now).nodes) c.args.rows.now.items
