@@ -43,7 +43,7 @@ joined_place-requires-clause-from c = (inside c.args.graph.now c.area.result.0 c
 pub joined_place-requires-clause-to : goal.joined_place-requires-clause-to
 joined_place-requires-clause-to c = (inside c.args.graph.now c.area.result.0 c.area.result.1.now c.area.result.2.now c.args.link.now (c.requires.there _ c.area.ensures.there)).to
 
-pub returns-then-not-is_whole : goal.returns-in_ok-mask
+pub returns-then-not-is_whole : goal.returns-then-not-is_whole
 returns-then-not-is_whole c = λ listed there.
     let graph = c.args.graph.now in
     let profile = c.args.profile.now in
