@@ -14,6 +14,7 @@ pub mod Rising
 pub mod PairPlaces
 pub mod JoinedRows
 pub mod MemberPlaces
+pub mod MarkedPlaces
 pub mod JoinedPlaces
 pub mod Keys
 pub mod UnitPlaces

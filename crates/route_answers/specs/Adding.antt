@@ -9,8 +9,8 @@ use Rattle.link_graph.specs.Areas.{inside_area, joined_across}
 use Rattle.link_graph.specs.Graphs.{network}
 use Rattle.route_certificate.specs.declared.table.TableLink.{TableLink}
 use Rattle.route_certificate.specs.Forms.{FitsLink}
-use Rattle.route_answers.specs.declared.rows.Room.{Room}
-use Rattle.route_answers.specs.Passing.{link_row, other_than, passes_node}
+use Rattle.route_answers.specs.declared.room.Room.{Room}
+use Rattle.route_answers.specs.Passing.{AreMarked, link_row, other_than, passes_node}
 
 -- behind the rows before stand these, which fit a table of so many nodes
 pub record Adds (count : ℕ) (old new added : List TableLink) : Type 0 where
@@ -29,12 +29,13 @@ joined_passing graph profile members table a = filter (λ b. joined_across table
 unfoldable pub rows_joined_to : Graph → Profile → Area → List ℕ → List (List Bool) → ℕ → List TableLink
 rows_joined_to graph profile area members table a = map (pair_row graph area a) (joined_passing graph profile members table a)
 
--- the members of a room are few nodes that rise, with a place each in its table
+-- the members of a room are few nodes that rise, with a place each in its table, and the places of those that pass are marked
 pub record IsRoom (room : Room) : Type 0 where
   pub within : All (λ (m : ℕ). m < length (network room.graph.now).nodes) room.members.now
   pub rise : IsStrictlyIncreasing room.members.now
   pub fits : length room.members.now ≤ length room.sights.now
   pub short : length room.members.now ≤ 4096
+  pub marked : AreMarked (passes_node (network room.graph.now) room.profile.now) room.members.now (length room.members.now) (length room.sights.now) room.mask.now
 
 -- the rows of the links from one of these members to all others
 unfoldable pub rows_from : Graph → Area → List ℕ → ℕ → List TableLink

@@ -1,5 +1,5 @@
 -- What a profile passes of a network, as tests: the code's own machinery, which no public contract cites.
-use Rattle.std.specs.Prelude.{ℕ, ◌==◌, List, map, filter, Bool, not, ◌&&◌, ◌||◌, Some, None, slice_get}
+use Rattle.std.specs.Prelude.{◌≡◌, ℕ, ◌<◌, ◌≤◌, ◌==◌, List, length, get_or, map, filter, Bool, false, not, ◌&&◌, ◌||◌, Some, None, slice_get}
 use Rattle.venue_types.specs.declared.feature_id.FeatureId.{FeatureId}
 use Rattle.venue_types.specs.declared.kind.Kind.{Kind}
 use Rattle.venue_types.specs.declared.link.Link.{Link}
@@ -27,6 +27,12 @@ passes_facts profile facts =
 -- whether somebody with the profile may pass the node
 unfoldable pub passes_node : Network → Profile → ℕ → Bool
 passes_node network profile n = passes_facts profile (network.ends n)
+
+-- a set of the places of a room, so many: in it are those of the first so many of these members that pass the test, and no others
+pub record AreMarked (ok : ℕ → Bool) (members : List ℕ) (first size : ℕ) (mask : List Bool) : Type 0 where
+  pub count : length mask ≡ size
+  pub marked : (j : ℕ) → j < first → get_or mask j false ≡ ok (get_or members j 0)
+  pub rest : (j : ℕ) → first ≤ j → get_or mask j false ≡ false
 
 -- whether the profile allows the link
 unfoldable pub passes_link : Network → Profile → Link → Bool

@@ -1,6 +1,6 @@
 //! Where the rows of a unit's links stand among each other.
 
-ghost use Rattle.std.specs.Prelude.{◌≡◌, ℕ, ◌+◌, ◌*◌, ◌-◌, ◌<◌, ◌≤◌, ◌&&◌, nat_lt, List, All, Contains, Some, filter, length, slice_get, Bool};
+ghost use Rattle.std.specs.Prelude.{◌≡◌, ℕ, ◌+◌, ◌*◌, ◌-◌, ◌<◌, ◌≤◌, ◌&&◌, nat_lt, IfOk, List, All, Contains, Some, filter, length, slice_get, Bool};
 ghost use Rattle.std.specs.List.{flat_map};
 ghost use Rattle.std.specs.List.Sorted.{IsStrictlyIncreasing};
 ghost use Rattle.imdf_access.specs.Access.{IsAllowed};
@@ -8,55 +8,60 @@ ghost use Rattle.link_graph.specs.declared.areas.Area.{Area as AnArea};
 ghost use Rattle.link_graph.specs.Areas.{area_links, areas, joined_across};
 ghost use Rattle.link_graph.specs.Graphs.{network};
 ghost use Rattle.link_graph.specs.Networks.{link_facts};
-ghost use Rattle.route_answers.specs.Adding.{joined_passing};
+ghost use Rattle.route_answers.specs.Adding.{IsRoom, joined_passing};
 ghost use Rattle.route_answers.specs.Passing.{passes_node};
 ghost use Rattle.route_answers.specs.Placing.{StandsFirst};
 
-use crate::counts::{joined_below, joined_count, passing_count};
-use crate::passes::may_pass;
+use crate::counts::passing_count;
+use crate::passes::{may_pass, passing_places};
+use crate::room::Room;
 use link_graph::{Graph, network_parts_law};
-use unit_sight::Sights;
-use venue_types::{Link, Profile};
+use std::alloc::Global;
+use venue_types::{Link, OutOfMemory, Profile};
 
 /// Where the row of a link across a unit stands among those of the unit.
-pub(crate) fn place_inside(graph: &Graph, profile: &Profile, w: u32, link: &Link) -> usize
+pub(crate) fn place_inside(
+    alloc: Global,
+    graph: &Graph,
+    profile: &Profile,
+    w: u32,
+    link: &Link,
+) -> Result<usize, OutOfMemory>
     requires within { w < length (areas graph.now) }
     requires there { (area : AnArea × List ℕ × List (List Bool)) → slice_get (areas graph.now) w ≡ Some area → Contains (area_links graph.now area) link.now }
     requires allowed { IsAllowed profile.now (link_facts (network graph.now) link.now) }
-    ensures { (area : AnArea × List ℕ × List (List Bool)) → slice_get (areas graph.now) w ≡ Some area → StandsFirst (network graph.now) profile.now (area_links graph.now area) link.now result }
+    ensures { IfOk result (λ place. (area : AnArea × List ℕ × List (List Bool)) → slice_get (areas graph.now) w ≡ Some area → StandsFirst (network graph.now) profile.now (area_links graph.now area) link.now place) }
 {
     network_parts_law();
     let (_, members, sights) = graph.area(w);
     if !sights.is_whole() {
-        return joined_place(graph, profile, members, sights, link);
+        let mask = passing_places(alloc, graph, profile, members, sights.size())?;
+        let room = Room {
+            graph,
+            profile,
+            members,
+            sights,
+            mask: &mask,
+        };
+        return Ok(joined_place(&room, link));
     }
     let count = passing_count(graph, profile, members);
     let start = passing_below(graph, profile, members, link.from);
     let end = passing_below(graph, profile, members, link.to);
-    pair_place(count, start, end)
+    Ok(pair_place(count, start, end))
 }
 
 // Where the row of a link stands in a unit some of whose members aren't joined: behind those from lesser members, and those to lesser ones.
-fn joined_place(
-    graph: &Graph,
-    profile: &Profile,
-    members: &[u32],
-    sights: &Sights,
-    link: &Link,
-) -> usize
-    requires within { All (λ m. m < length (network graph.now).nodes) members.now }
-    requires fits { length members.now ≤ length sights.now }
-    requires short { length members.now ≤ 4096 }
-    requires rise { IsStrictlyIncreasing members.now }
-    requires from { Contains members.now link.now.from }
-    requires to { Contains members.now link.now.to }
-    ensures { result ≡ length (flat_map (joined_passing graph.now profile.now members.now sights.now) (filter (λ m. nat_lt m link.now.from && passes_node (network graph.now) profile.now m) members.now))
-        + length (filter (λ b. nat_lt b link.now.to && (joined_across sights.now members.now link.now.from b && passes_node (network graph.now) profile.now b)) members.now) }
+fn joined_place(room: &Room, link: &Link) -> usize
+    requires room { IsRoom room.now }
+    requires from { Contains room.now.members.now link.now.from }
+    requires to { Contains room.now.members.now link.now.to }
+    ensures { result ≡ length (flat_map (joined_passing room.now.graph.now room.now.profile.now room.now.members.now room.now.sights.now) (filter (λ m. nat_lt m link.now.from && passes_node (network room.now.graph.now) room.now.profile.now m) room.now.members.now))
+        + length (filter (λ b. nat_lt b link.now.to && (joined_across room.now.sights.now room.now.members.now link.now.from b && passes_node (network room.now.graph.now) room.now.profile.now b)) room.now.members.now) }
 {
-    let start = place_of(members, link.from);
-    let end = place_of(members, link.to);
-    joined_count(graph, profile, members, sights, start)
-        + joined_below(graph, profile, members, sights, start, end)
+    let start = place_of(room.members, link.from);
+    let end = place_of(room.members, link.to);
+    room.joined_count(start) + room.joined_below(start, end)
 }
 
 // Where a member stands. Takes log n time.

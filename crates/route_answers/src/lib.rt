@@ -9,6 +9,7 @@ mod ids;
 mod inside;
 mod passes;
 mod places;
+mod room;
 mod rows;
 mod search;
 mod starts;

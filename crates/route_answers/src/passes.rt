@@ -1,12 +1,13 @@
 //! What a profile passes.
 
-ghost use Rattle.std.specs.Prelude.{◌≡◌, ◌<◌, IfOk, All, Contains, filter, length};
+ghost use Rattle.std.specs.Prelude.{◌≡◌, ◌<◌, ◌≤◌, IfOk, All, Contains, filter, length};
 ghost use Rattle.link_graph.specs.Graphs.{network};
-ghost use Rattle.route_answers.specs.Passing.{passes_by, passes_link, passes_node};
+ghost use Rattle.route_answers.specs.Passing.{AreMarked, passes_by, passes_link, passes_node};
 
 use imdf_access::{allows, passes_end, passes_way};
 use link_graph::{Area, Graph};
 use std::alloc::Global;
+use unit_sight::Mask;
 use venue_types::{Link, OutOfMemory, Profile};
 
 /// Whether somebody with the profile may cross the unit.
@@ -50,4 +51,26 @@ pub(crate) fn passing(
         }
     }
     Ok(passed)
+}
+
+/// The places of those of the members that somebody with the profile may pass, in a room of so many places.
+pub(crate) fn passing_places(
+    alloc: Global,
+    graph: &Graph,
+    profile: &Profile,
+    members: &[u32],
+    size: u32,
+) -> Result<Mask, OutOfMemory>
+    requires within { All (λ m. m < length (network graph.now).nodes) members.now }
+    requires fits { length members.now ≤ size }
+    requires range { size ≤ 4096 }
+    ensures { IfOk result (AreMarked (passes_node (network graph.now) profile.now) members.now (length members.now) size) }
+{
+    let mut mask = Mask::new(alloc, size)?;
+    for (i, m) in members.iter().enumerate() {
+        if may_pass(graph, profile, *m) {
+            mask.put(i as u32);
+        }
+    }
+    Ok(mask)
 }

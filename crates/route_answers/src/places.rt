@@ -39,45 +39,55 @@ pub fn row_places(
     let firsts = first_passages(alloc, graph, profile)?;
     let mut places = Vec::with_capacity(alloc, links.len())?;
     for link in links {
-        places.push(place(graph, profile, &starts, &firsts, link) as u32)?;
+        let at = place(alloc, graph, profile, &starts, &firsts, link)?;
+        places.push(at as u32)?;
     }
     Ok(places)
 }
 
 // Where the row of a link stands.
 fn place(
+    alloc: Global,
     graph: &Graph,
     profile: &Profile,
     starts: &Starts,
     firsts: &BTreeMap<RowKey, usize>,
     link: &Link,
-) -> usize
+) -> Result<usize, OutOfMemory>
     requires starts { AreStarts graph.now profile.now starts.now }
     requires firsts { KnowsFirsts (network graph.now) profile.now (passages graph.now) firsts.now }
     requires there { Contains (network graph.now).links link.now }
     requires allowed { IsAllowed profile.now (link_facts (network graph.now) link.now) }
-    ensures { StandsFirst (network graph.now) profile.now (network graph.now).links link.now result }
+    ensures { IfOk result (StandsFirst (network graph.now) profile.now (network graph.now).links link.now) }
 {
     graph.areas_law();
     graph.range_law();
     units_law(graph);
     match start_by(&starts.units, link.via) {
-        Some(start) => across(graph, profile, starts, start, link),
-        None => starts.passages + first_place(firsts, link),
+        Some(start) => across(alloc, graph, profile, starts, start, link),
+        None => Ok(starts.passages + first_place(firsts, link)),
     }
 }
 
 // Where the row of a link across a unit stands.
-fn across(graph: &Graph, profile: &Profile, starts: &Starts, start: AreaStart, link: &Link) -> usize
+fn across(
+    alloc: Global,
+    graph: &Graph,
+    profile: &Profile,
+    starts: &Starts,
+    start: AreaStart,
+    link: &Link,
+) -> Result<usize, OutOfMemory>
     requires starts { AreStarts graph.now profile.now starts.now }
     requires start { Contains starts.now.units.items start }
     requires via { start.via ≡ link.now.via }
     requires there { Contains (network graph.now).links link.now }
     requires allowed { IsAllowed profile.now (link_facts (network graph.now) link.now) }
-    ensures { StandsFirst (network graph.now) profile.now (network graph.now).links link.now result }
+    ensures { IfOk result (StandsFirst (network graph.now) profile.now (network graph.now).links link.now) }
 {
     graph.areas_law();
     graph.range_law();
     units_law(graph);
-    start.first + place_inside(graph, profile, start.area, link)
+    let inside = place_inside(alloc, graph, profile, start.area, link)?;
+    Ok(start.first + inside)
 }

@@ -10,11 +10,11 @@ ghost use Rattle.route_answers.specs.Passing.{id_at, link_row, passes_node, rows
 ghost use Rattle.route_certificate.specs.Forms.{FitsId};
 
 use crate::ids::way_id;
-use crate::passes::{may_cross, may_pass, may_use, passing};
+use crate::passes::{may_cross, may_use, passing, passing_places};
+use crate::room::Room;
 use link_graph::{Area, Graph, network_parts_law};
 use route_certificate::TableLink;
 use std::alloc::Global;
-use unit_sight::Sights;
 use venue_types::{FeatureId, Link, OutOfMemory, Profile};
 
 /// Adds a row for each link across a unit that the profile allows.
@@ -53,23 +53,16 @@ fn add_area(
         let passed = passing(alloc, graph, profile, members)?;
         add_pairs(graph, area, via, &passed, rows)
     } else {
+        let mask = passing_places(alloc, graph, profile, members, sights.size())?;
         let room = Room {
             graph,
             profile,
             members,
             sights,
+            mask: &mask,
         };
         room.add_joined(area, via, rows)
     }
-}
-
-// A unit some of whose members aren't joined, as a profile passes it.
-#[derive(Clone, Copy)]
-struct Room<'a> {
-    graph: &'a Graph,
-    profile: &'a Profile,
-    members: &'a [u32],
-    sights: &'a Sights,
 }
 
 impl Room<'_> {
@@ -88,9 +81,9 @@ impl Room<'_> {
         requires fits { FitsId via }
         ensures { OnOk result (Adds (length (network self.now.graph.now).nodes) rows.old.items rows.new.items (flat_map (rows_joined_to self.now.graph.now self.now.profile.now area self.now.members.now self.now.sights.now) (filter (passes_node (network self.now.graph.now) self.now.profile.now) self.now.members.now))) }
     {
-        for (i, a) in self.members.iter().enumerate() {
-            if may_pass(self.graph, self.profile, *a) {
-                self.add_joined_from(area, via, i as u32, rows)?;
+        for i in 0..self.members.len() as u32 {
+            if self.mask.has(i) {
+                self.add_joined_from(area, via, i, rows)?;
             }
         }
         Ok(())
@@ -112,7 +105,7 @@ impl Room<'_> {
     {
         let a = self.members[i as usize];
         for (j, b) in self.members.iter().enumerate() {
-            if self.sights.joins(i, j as u32) && may_pass(self.graph, self.profile, *b) {
+            if self.sights.joins(i, j as u32) && self.mask.has(j as u32) {
                 rows.push(row(&self.graph.across(area, a, *b), via))?;
             }
         }

@@ -51,7 +51,8 @@ pub(crate) fn row_starts(
             area: w,
             first: count,
         })?;
-        count += area_count(graph, profile, w);
+        let rows = area_count(alloc, graph, profile, w)?;
+        count += rows;
     }
     Ok(Starts {
         units,

@@ -43,7 +43,8 @@ fn allowed_rows(
     ensures fits { IfOk result (λ rows. AllByRecursion (FitsLink (length (network graph.now).nodes)) rows.items) }
 {
     graph.areas_law();
-    let mut rows = Vec::with_capacity(alloc, row_count(graph, profile))?;
+    let count = row_count(alloc, graph, profile)?;
+    let mut rows = Vec::with_capacity(alloc, count)?;
     add_areas(alloc, graph, profile, &mut rows)?;
     add_passages(graph, profile, &mut rows)?;
     Ok(rows)

@@ -14,7 +14,7 @@ overflow_add-count c =
     let more = c.loop-w-test.true in
     let count = c.areas-w-end.ensures in
     let at = at_place (areas c.args.graph.now) c.loop-w.w (omega (arith, more, count)) in
-    let few = areas_few c.args.graph.now c.args.profile.now c.loop-w.w at.0 c.loop-w.count c.area_count-count.result at.1 c.loop-w.invariant (c.area_count-count.ensures at.0 at.1) c.areas_law.ensures in
+    let few = areas_few c.args.graph.now c.args.profile.now c.loop-w.w at.0 c.loop-w.count c.in_ok-more.more at.1 c.loop-w.invariant (c.in_ok-more.ensures at.0 at.1) c.areas_law.ensures in
     let bound = c.range_law.ensures.links in
     omega (arith, few, bound)
 
@@ -23,4 +23,4 @@ loop-w-preserved c =
     let more = c.loop-w-test.true in
     let count = c.areas-w-end.ensures in
     let at = at_place (areas c.args.graph.now) c.loop-w.w (omega (arith, more, count)) in
-    areas_counted c.args.graph.now c.args.profile.now c.loop-w.w at.0 c.loop-w.count c.area_count-count.result _ at.1 c.loop-w.invariant (c.area_count-count.ensures at.0 at.1) refl
+    areas_counted c.args.graph.now c.args.profile.now c.loop-w.w at.0 c.loop-w.count c.in_ok-more.more _ at.1 c.loop-w.invariant (c.in_ok-more.ensures at.0 at.1) refl

@@ -14,7 +14,7 @@ overflow_add-result c =
     let graph = c.args.graph.now in
     let profile = c.args.profile.now in
     let between = between_count graph profile c.passages.result.now c.link_count-between.result c.passages.ensures c.link_count-between.ensures in
-    let few = all_few graph profile c.across_count-across.result c.link_count-between.result c.across_count-across.ensures between c.areas_law.ensures in
+    let few = all_few graph profile c.in_ok-across.across c.link_count-between.result c.in_ok-across.ensures between c.areas_law.ensures in
     let bound = c.range_law.ensures.links in
     omega (arith, few, bound)
 
@@ -23,4 +23,4 @@ returns c =
     let graph = c.args.graph.now in
     let profile = c.args.profile.now in
     let between = between_count graph profile c.passages.result.now c.link_count-between.result c.passages.ensures c.link_count-between.ensures in
-    all_counted graph profile c.across_count-across.result c.link_count-between.result _ c.across_count-across.ensures between c.areas_law.ensures refl
+    all_counted graph profile c.in_ok-across.across c.link_count-between.result _ c.in_ok-across.ensures between c.areas_law.ensures refl

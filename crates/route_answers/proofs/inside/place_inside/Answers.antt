@@ -4,6 +4,7 @@ use Rattle.link_graph.specs.Graphs.{network}
 use Rattle.route_certificate.specs.declared.table.TableLink.{TableLink}
 use Rattle.route_answers.specs.Passing.{link_row, passes_node}
 use Rattle.route_answers.specs.Places.{IsFirstPlace}
+use Rattle.route_answers.proofs.MarkedPlaces.{is_room}
 use Rattle.route_answers.proofs.Numbers.{told}
 use Rattle.route_answers.proofs.UnitPlaces.{inside, joined_place, ranks, unit_place}
 use Rattle.route_answers.proofs.inside.place_inside.Goals as goal
@@ -67,3 +68,6 @@ returns c = λ listed there.
     told graph profile c.args.w area members table listed (λ (rows : List TableLink). IsFirstPlace rows (link_row (network graph) link) c.pair_place.result) c.area.ensures.there there
     (unit_place c.network_parts_law.ensures graph profile area members table link c.passing_count-count.result c.passing_below-start.result c.passing_below-end.result c.pair_place.result c.area.ensures.area
     (c.is_whole.ensures.0 c.if-not-is_whole.false) is_link c.requires.allowed c.passing_count-count.ensures.number are c.pair_place.ensures.before c.pair_place.ensures.behind)
+
+pub joined_place-requires-clause-room : goal.joined_place-requires-clause-room
+joined_place-requires-clause-room c = is_room _ c.area.result.0 c.size.result c.area.ensures.area c.size.ensures.size c.in_ok-mask.ensures

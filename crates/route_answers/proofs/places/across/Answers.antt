@@ -10,15 +10,15 @@ place_inside-requires-clause-there c = λ area at.
 
 pub returns : goal.returns
 returns c =
-    across c.args.graph.now c.args.profile.now c.args.starts.now c.args.start c.args.link.now c.place_inside.result
+    across c.args.graph.now c.args.profile.now c.args.starts.now c.args.start c.args.link.now c.in_ok-inside.inside
     (record { links = c.areas_law.ensures; once = c.range_law.ensures.once; units = c.units_law.ensures.within; vias = c.range_law.ensures.via })
-    c.units_law.ensures.rise c.requires.starts c.requires.start c.requires.via c.requires.there c.place_inside.ensures
+    c.units_law.ensures.rise c.requires.starts c.requires.start c.requires.via c.requires.there c.in_ok-inside.ensures
 
 pub overflow_add-result : goal.overflow_add-result
 overflow_add-result c =
-    let few = place_few c.args.graph.now c.args.profile.now c.args.link.now (c.args.start.first + c.place_inside.result)
-    (across c.args.graph.now c.args.profile.now c.args.starts.now c.args.start c.args.link.now c.place_inside.result
+    let few = place_few c.args.graph.now c.args.profile.now c.args.link.now (c.args.start.first + c.in_ok-inside.inside)
+    (across c.args.graph.now c.args.profile.now c.args.starts.now c.args.start c.args.link.now c.in_ok-inside.inside
     (record { links = c.areas_law.ensures; once = c.range_law.ensures.once; units = c.units_law.ensures.within; vias = c.range_law.ensures.via })
-    c.units_law.ensures.rise c.requires.starts c.requires.start c.requires.via c.requires.there c.place_inside.ensures) in
+    c.units_law.ensures.rise c.requires.starts c.requires.start c.requires.via c.requires.there c.in_ok-inside.ensures) in
     let bound = c.range_law.ensures.links in
     omega (arith, few, bound)

@@ -26,9 +26,9 @@ place-requires-clause-there c = c.requires.there c.loop-link.link-index nothing 
 pub place-requires-clause-allowed : goal.place-requires-clause-allowed
 place-requires-clause-allowed c = c.requires.allowed c.loop-link.link-index nothing c.loop-link-test.true
 
-pub overflow_cast-place : goal.overflow_cast-place
-overflow_cast-place c =
-    let few = place_few c.args.graph.now c.args.profile.now (get_or c.args.links.now c.loop-link.link-index nothing) c.place.result c.place.ensures in
+pub overflow_cast-at : goal.overflow_cast-at
+overflow_cast-at c =
+    let few = place_few c.args.graph.now c.args.profile.now (get_or c.args.links.now c.loop-link.link-index nothing) c.in_ok-at.at c.in_ok-at.ensures in
     let bound = c.range_law.ensures.links in
     omega (arith, few, bound)
 
@@ -40,9 +40,9 @@ loop-link-preserved c =
     let i = c.loop-link.link-index in
     let link : Link = get_or links i nothing in
     let old = c.loop-link.places.items in
-    let more = one_more rows (map (link_row given) (take i links)) old (link_row given link) c.place.result c.loop-link.invariant c.place.ensures in
+    let more = one_more rows (map (link_row given) (take i links)) old (link_row given link) c.in_ok-at.at c.loop-link.invariant c.in_ok-at.ensures in
     subst (AreFirstPlaces rows (map (link_row given) (take (i + 1) links))) (sym c.in_ok-push.ensures.items)
-    (subst (λ (wanted : List TableLink). AreFirstPlaces rows wanted (old ++ c.place.result ∷ [])) (sym (map_more (link_row given) links i nothing c.loop-link-test.true)) more)
+    (subst (λ (wanted : List TableLink). AreFirstPlaces rows wanted (old ++ c.in_ok-at.at ∷ [])) (sym (map_more (link_row given) links i nothing c.loop-link-test.true)) more)
 
 pub returns-clause-numbered : goal.returns-clause-numbered
 returns-clause-numbered c = λ features settings is.

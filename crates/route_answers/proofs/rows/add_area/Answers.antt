@@ -9,6 +9,7 @@ use Rattle.route_answers.specs.Passing.{passes_node}
 use Rattle.route_answers.proofs.Choosing.{crossed_rows, closed_rows}
 use Rattle.route_answers.proofs.Gathering.{adds_none}
 use Rattle.route_answers.proofs.JoinedRows.{joined_rows}
+use Rattle.route_answers.proofs.MarkedPlaces.{is_room}
 use Rattle.route_answers.proofs.Numbers.{told}
 use Rattle.route_answers.proofs.rows.add_area.Goals as goal
 
@@ -47,9 +48,9 @@ returns-in_ok-passed c = λ listed there.
     ∙ sym (crossed_rows c.network_parts_law.ensures graph profile area members table (is.whole (c.is_whole.ensures.0 c.if-is_whole.true)) is.barred (sym c.may_cross.ensures ∙ c.if-not-may_cross.false)))
     c.add_pairs.ensures)
 
-pub returns-else-is_whole : goal.returns-else-is_whole
+pub returns-in_ok-mask : goal.returns-in_ok-mask
 unfolding rows_joined_to
-returns-else-is_whole c = λ listed there.
+returns-in_ok-mask c = λ listed there.
     let graph = c.args.graph.now in
     let profile = c.args.profile.now in
     let area = c.area.result.0 in
@@ -58,3 +59,6 @@ returns-else-is_whole c = λ listed there.
     let added : List TableLink → Type 0 = λ rows. OnOk c.add_joined.result (Adds (length (network graph).nodes) c.args.rows.now.items c.add_joined.new.rows.items rows) in
     told graph profile c.args.w area members table listed added c.area.ensures.there there
     (subst added (sym (joined_rows c.network_parts_law.ensures graph profile area members (joined_across table members) c.area.ensures.area.barred (sym c.may_cross.ensures ∙ c.if-not-may_cross.false))) c.add_joined.ensures)
+
+pub add_joined-requires-clause-room : goal.add_joined-requires-clause-room
+add_joined-requires-clause-room c = is_room _ c.area.result.0 c.size.result c.area.ensures.area c.size.ensures.size c.in_ok-mask.ensures

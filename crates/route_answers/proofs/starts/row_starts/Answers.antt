@@ -27,7 +27,7 @@ overflow_add-count c =
     let more = c.loop-w-test.true in
     let count = c.areas-w-end.ensures in
     let at = at_place (areas c.args.graph.now) c.loop-w.w (omega (arith, more, count)) in
-    let few = areas_few c.args.graph.now c.args.profile.now c.loop-w.w at.0 c.loop-w.count c.area_count-count.result at.1 c.loop-w.invariant.rows (c.area_count-count.ensures at.0 at.1) c.areas_law.ensures in
+    let few = areas_few c.args.graph.now c.args.profile.now c.loop-w.w at.0 c.loop-w.count c.in_ok-rows.rows at.1 c.loop-w.invariant.rows (c.in_ok-rows.ensures at.0 at.1) c.areas_law.ensures in
     let bound = c.range_law.ensures.links in
     omega (arith, few, bound)
 
@@ -50,7 +50,7 @@ loop-w-preserved c =
       number = omega (arith, all, sum, number);
       units = starts_more graph profile old new w start number before.units c.in_ok-push.ensures.items
           (start_is graph profile w start c.area.result.0 c.area.result.1.now c.area.result.2.now c.area.ensures.there refl refl before.rows);
-      rows = areas_counted graph profile w at.0 c.loop-w.count c.area_count-count.result _ at.1 before.rows (c.area_count-count.ensures at.0 at.1) refl;
+      rows = areas_counted graph profile w at.0 c.loop-w.count c.in_ok-rows.rows _ at.1 before.rows (c.in_ok-rows.ensures at.0 at.1) refl;
     }
 
 pub returns : goal.returns

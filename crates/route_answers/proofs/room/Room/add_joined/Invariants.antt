@@ -2,7 +2,7 @@ use Rattle.std.proofs.Common.{length, take, filter, flat_map}
 use Rattle.link_graph.specs.Graphs.{network}
 use Rattle.route_answers.specs.Adding.{Adds, rows_joined_to}
 use Rattle.route_answers.specs.Passing.{passes_node}
-use Rattle.route_answers.proofs.rows.Room.add_joined.Given as goal
+use Rattle.route_answers.proofs.room.Room.add_joined.Given as goal
 
 abbrev pub invariant-loop-i : goal.invariant-loop-i
 invariant-loop-i l =

@@ -7,8 +7,8 @@ use Rattle.route_answers.specs.Adding.{Adds, rows_joined_to}
 use Rattle.route_answers.specs.Passing.{passes_node}
 use Rattle.route_answers.proofs.Gathering.{adds_none}
 use Rattle.route_answers.proofs.JoinedRows.{kept_piece, left_piece}
-use Rattle.route_answers.proofs.rows.Room.add_joined.Goals as goal
-use Rattle.route_answers.proofs.rows.Room.add_joined.Goals.{then-may_pass+in_ok-add_joined_from, else-may_pass}
+use Rattle.route_answers.proofs.room.Room.add_joined.Goals as goal
+use Rattle.route_answers.proofs.room.Room.add_joined.Goals.{then-has+in_ok-add_joined_from, else-has}
 
 pub loop-i-init : goal.loop-i-init
 loop-i-init c = adds_none (length (network c.args.self.now.graph.now).nodes) c.args.rows.now.items
@@ -23,12 +23,13 @@ loop-i-preserved c =
     let ok : ℕ → Bool = passes_node (network graph) room.profile.now in
     let joined : ℕ → List TableLink = rows_joined_to graph room.profile.now c.args.area members room.sights.now in
     let within = c.loop-i-test.true in
-    elim c.if-may_pass.branch [
-      | then-may_pass+in_ok-add_joined_from w ↦
-          kept_piece joined ok members i 0 count c.args.rows.now.items c.loop-i.rows.items c.if-may_pass.rows.items within c.loop-i.invariant (sym c.may_pass.ensures ∙ w.if-may_pass.true)
+    let passes = c.requires.room.marked.marked i within in
+    elim c.if-has.branch [
+      | then-has+in_ok-add_joined_from w ↦
+          kept_piece joined ok members i 0 count c.args.rows.now.items c.loop-i.rows.items c.if-has.rows.items within c.loop-i.invariant (sym passes ∙ sym c.has.ensures ∙ w.if-has.true)
           (subst (λ (v : Vec TableLink Global). Adds count c.loop-i.rows.items v.items (joined (get_or members i 0))) (sym w.rows-is) (w.in_ok-add_joined_from.ensures (get_or members i 0) (slice_get-get_or members i 0 within)))
-      | else-may_pass w ↦
-          left_piece joined ok members i 0 count c.args.rows.now.items c.loop-i.rows.items c.if-may_pass.rows.items within c.loop-i.invariant (sym c.may_pass.ensures ∙ w.if-may_pass.false)
+      | else-has w ↦
+          left_piece joined ok members i 0 count c.args.rows.now.items c.loop-i.rows.items c.if-has.rows.items within c.loop-i.invariant (sym passes ∙ sym c.has.ensures ∙ w.if-has.false)
           (ap (λ (v : Vec TableLink Global). v.items) w.rows-is)
     ]
 

@@ -8,8 +8,8 @@ use Rattle.route_answers.specs.Adding.{Adds, pair_row, rows_joined_to}
 use Rattle.route_answers.specs.Passing.{passes_node}
 use Rattle.route_answers.proofs.Gathering.{adds_none, kept_more, left_more, row_is, row_fits}
 use Rattle.route_answers.proofs.MemberPlaces.{first_fails, first_passes, joined_at}
-use Rattle.route_answers.proofs.rows.Room.add_joined_from.Goals as goal
-use Rattle.route_answers.proofs.rows.Room.add_joined_from.Goals.{then-joins+then-may_pass+in_ok-push, else-joins, else-joins-via-then-joins+else-may_pass, else-joins-via-else-joins}
+use Rattle.route_answers.proofs.room.Room.add_joined_from.Goals as goal
+use Rattle.route_answers.proofs.room.Room.add_joined_from.Goals.{then-joins+then-has+in_ok-push, else-joins, else-joins-via-then-joins+else-has, else-joins-via-else-joins}
 
 pub loop-j-init : goal.loop-j-init
 loop-j-init c = adds_none (length (network c.args.self.now.graph.now).nodes) c.args.rows.now.items
@@ -30,11 +30,12 @@ loop-j-preserved c =
     let test : ℕ → Bool = λ m. joined_across table members a m && ok m in
     let within = c.loop-j-test.true in
     let here = slice_get-get_or members c.args.i 0 c.requires.place in
+    let passes = c.requires.room.marked.marked j within in
     let joined = joined_at table members c.args.i j a c.requires.room.rise here within ∙ sym c.joins.ensures in
     elim c.if-joins.branch [
-      | then-joins+then-may_pass+in_ok-push w ↦
+      | then-joins+then-has+in_ok-push w ↦
           kept_more (pair_row graph area a) test members j 0 count c.args.rows.now.items c.loop-j.rows.items c.if-joins.rows.items within c.loop-j.invariant
-          (first_passes (joined_across table members a b) (ok b) true (joined ∙ w.if-joins.true) (sym w.may_pass.ensures ∙ w.if-may_pass.true))
+          (first_passes (joined_across table members a b) (ok b) true (joined ∙ w.if-joins.true) (sym passes ∙ sym w.has.ensures ∙ w.if-has.true))
           (ap (λ (v : Vec TableLink Global). v.items) w.rows-is ∙ w.in_ok-push.ensures.items
           ∙ ap (λ (row : TableLink). c.loop-j.rows.items ++ row ∷ []) (row_is given w.across.result (inside_area graph area a b) c.args.via w.row.result w.row.ensures w.across.ensures.link c.requires.via))
           (row_fits given count w.across.result (inside_area graph area a b) c.args.via w.across.ensures.link c.requires.via c.requires.fits (c.requires.room.within c.args.i 0 c.requires.place) (c.requires.room.within j 0 within)
@@ -42,7 +43,7 @@ loop-j-preserved c =
       | else-joins w ↦
           left_more (pair_row graph area a) test members j 0 count c.args.rows.now.items c.loop-j.rows.items c.if-joins.rows.items within c.loop-j.invariant
           (elim w.else-joins.branch [
-            | else-joins-via-then-joins+else-may_pass v ↦ first_passes (joined_across table members a b) (ok b) false (joined ∙ v.if-joins.true) (sym v.may_pass.ensures ∙ v.if-may_pass.false)
+            | else-joins-via-then-joins+else-has v ↦ first_passes (joined_across table members a b) (ok b) false (joined ∙ v.if-joins.true) (sym passes ∙ sym v.has.ensures ∙ v.if-has.false)
             | else-joins-via-else-joins v ↦ first_fails (joined_across table members a b) (ok b) (joined ∙ v.if-joins.false)
           ])
           (ap (λ (v : Vec TableLink Global). v.items) w.rows-is)

@@ -3,7 +3,7 @@ use Rattle.link_graph.specs.Areas.{joined_across}
 use Rattle.link_graph.specs.Graphs.{network}
 use Rattle.route_answers.specs.Adding.{Adds, pair_row}
 use Rattle.route_answers.specs.Passing.{passes_node}
-use Rattle.route_answers.proofs.rows.Room.add_joined_from.Given as goal
+use Rattle.route_answers.proofs.room.Room.add_joined_from.Given as goal
 
 abbrev pub invariant-loop-j : goal.invariant-loop-j
 invariant-loop-j l =
