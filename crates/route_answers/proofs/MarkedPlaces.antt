@@ -7,7 +7,7 @@ use Rattle.std.proofs.lemmas.Bool.{cases_lt, ne_eqb}
 use Rattle.std.proofs.lemmas.List.{get_or_past, length-map, take_all}
 use Rattle.std.proofs.lemmas.List.Filters.{length-filter_more}
 use Rattle.unit_sight.specs.Tables.{joins, neighbours, places}
-use Rattle.unit_sight.proofs.Counts.{count_more, count_same_next, count_next, filter_twice}
+use Rattle.unit_sight.proofs.Counts.{count_same_next, count_next, filter_twice}
 use Rattle.unit_sight.proofs.TableLemmas.{get_or_row, length_places}
 use Rattle.link_graph.specs.declared.areas.Area.{Area}
 use Rattle.link_graph.specs.Areas.{IsArea, joined_across}

@@ -1,6 +1,6 @@
-use Rattle.std.proofs.Common.{ℕ, Bool, sym, ◌∙◌, subst, arith}
+use Rattle.std.proofs.Common.{ℕ, Bool, sym, ◌∙◌, arith}
 use Rattle.link_graph.specs.Graphs.{network}
-use Rattle.route_answers.specs.Passing.{AreMarked, passes_node}
+use Rattle.route_answers.specs.Passing.{passes_node}
 use Rattle.route_answers.proofs.MarkedPlaces.{none_marked, put_marked, left_marked}
 use Rattle.route_answers.proofs.passes.passing_places.Goals as goal
 use Rattle.route_answers.proofs.passes.passing_places.Goals.{then-may_pass, else-may_pass}

@@ -1,4 +1,4 @@
-use Rattle.std.proofs.Common.{◌<◌, ◌&&◌, ℕ, List, Bool, length, filter, get_or, sym, ap, ◌∙◌, arith}
+use Rattle.std.proofs.Common.{◌<◌, ◌&&◌, ℕ, List, Bool, length, get_or, sym, ◌∙◌, arith}
 use Rattle.std.proofs.lemmas.Option.{slice_get-get_or}
 use Rattle.link_graph.specs.Areas.{joined_across}
 use Rattle.link_graph.specs.Graphs.{network}
