@@ -132,7 +132,10 @@ impl Ranked {
     {
         let last = row_words(self.size()) - 1;
         let mut w = k / 64;
-        while w < last && self.front(i, w + 1) <= k {
+        while w < last {
+            if k < self.front(i, w + 1) {
+                return w;
+            }
             w += 1;
         }
         w
