@@ -11,6 +11,7 @@ use std::alloc::{AllocError, Global};
 use std::process::Abort;
 use std::sync::Arc;
 use std::test::Fail;
+use test_station::no_rows;
 use venue_types::{
     AnchorRow, FeatureId, Features, Files, Finding, List, Point, Shape, Text, UnitRow,
 };
@@ -169,24 +170,10 @@ fn unit_rows(alloc: Global, display: Corner) -> Result<List<UnitRow>, AllocError
 
 // A folder of anchors and units alone.
 fn rows_of(alloc: Global, anchors: List<AnchorRow>, units: List<UnitRow>) -> Features {
-    Features {
-        addresses: List::new(alloc),
-        amenities: List::new(alloc),
-        anchors,
-        buildings: List::new(alloc),
-        details: List::new(alloc),
-        fixtures: List::new(alloc),
-        footprints: List::new(alloc),
-        geofences: List::new(alloc),
-        kiosks: List::new(alloc),
-        levels: List::new(alloc),
-        occupants: List::new(alloc),
-        openings: List::new(alloc),
-        relationships: List::new(alloc),
-        sections: List::new(alloc),
-        units,
-        venues: List::new(alloc),
-    }
+    let mut rows = no_rows(alloc);
+    rows.anchors = anchors;
+    rows.units = units;
+    rows
 }
 
 // A folder of anchors, and of a unit that has only a display point.

@@ -17,7 +17,7 @@ use venue_types::{
 };
 
 // A feature is named by the last digits of its identifier. A step: where it leads, over what, its cost and its kind.
-type Step = (u128, u128, u32, Kind);
+pub(crate) type Step = (u128, u128, u32, Kind);
 
 // What is done at a board, or asked.
 #[derive(Clone, Copy)]
@@ -223,7 +223,8 @@ fn judge_reached(rt: &impl Abort, found: &[NodeName], listed: &[u128]) {
     }
 }
 
-fn judge_steps(rt: &impl Abort, found: &[StepRow], steps: &[Step]) {
+/// The steps are these.
+pub(crate) fn judge_steps(rt: &impl Abort, found: &[StepRow], steps: &[Step]) {
     assert!(rt; found.len() == steps.len());
     for (found, (to, via, cost, kind)) in found.iter().zip(steps) {
         let step = StepRow {

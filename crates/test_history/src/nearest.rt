@@ -1,7 +1,7 @@
 //! The nearest amenities at boards over the station, whose costs were worked out elsewhere, by plain rounds over its links. A feature is named by the
 //! last digits of its identifier, and the identifiers of the nodes rise with their numbers.
 
-use crate::boards::settings_until;
+use crate::boards::{Step, judge_steps, settings_until};
 use std::alloc::Global;
 use std::process::Abort;
 use std::sync::Arc;
@@ -14,9 +14,6 @@ use venue_types::{
     Ask, FeatureId, Kind, List, Mark, NearQuery, NearRow, NearTold, NodeName, Query, Reply,
     StepRow, Text, Which,
 };
-
-// A step: where it leads, over what, its cost and its kind.
-type Step = (u128, u128, u32, Kind);
 
 // An amenity, what a way to it costs, and its steps; where several ways cost so little, none.
 type Place = (u128, u64, &'static [Step]);
@@ -258,20 +255,6 @@ fn told_of(reply: &Reply) -> Told {
         Reply::NoProfile => Told::NoProfile,
         Reply::Ahead { since, number } => Told::Ahead(*since, *number),
         _ => Told::Else,
-    }
-}
-
-fn judge_steps(rt: &impl Abort, found: &[StepRow], steps: &[Step]) {
-    assert!(rt; found.len() == steps.len());
-    for (found, (to, via, cost, kind)) in found.iter().zip(steps) {
-        let step = StepRow {
-            corner: None,
-            to: id(*to),
-            via: id(*via),
-            cost: *cost,
-            kind: *kind,
-        };
-        assert!(rt; *found == step);
     }
 }
 

@@ -8,15 +8,12 @@ use std::alloc::Global;
 use std::process::Abort;
 use std::sync::Arc;
 use std::test::Fail;
-use test_station::station_settings;
+use test_station::{AS_ASKED, CLOSED_LIFT, FIRST, LIFT_CLOSED, VERSION, station_settings};
 use venue_ports::{MemoryFolders, MemoryStream};
 use venue_session::{End, Venue, serve_session};
 use venue_types::Settings;
 use venue_wire::Front;
 use version_board::{Alone, Hall, Unopened};
-
-// The version asked for.
-const VERSION: &str = "GET /v1/version HTTP/1.1\r\nhost: a\r\n\r\n";
 
 // It is asked for, and nothing else.
 const LAST: &str = "GET /v1/version HTTP/1.1\r\nhost: a\r\nconnection: close\r\n\r\n";
@@ -55,25 +52,9 @@ const CLOSURES: &str = "GET /v1/closures HTTP/1.1\r\nhost: a\r\n\r\n";
 const PLACE: &str =
     "GET /v1/place/00000000-0000-4000-8000-000000000301 HTTP/1.1\r\nhost: a\r\n\r\n";
 
-// Version 1.
-const FIRST: &str =
-    "HTTP/1.1 200 OK\r\ncontent-type: application/json\r\ncontent-length: 36\r\n\r\n{\"closed\":0,\"places\":33,\"version\":1}";
-
 // Version 1, and the end.
 const FIRST_LAST: &str =
     "HTTP/1.1 200 OK\r\ncontent-type: application/json\r\ncontent-length: 36\r\nconnection: close\r\n\r\n{\"closed\":0,\"places\":33,\"version\":1}";
-
-// Version 2, at which the lift is closed.
-const SECOND: &str =
-    "HTTP/1.1 200 OK\r\ncontent-type: application/json\r\ncontent-length: 36\r\n\r\n{\"closed\":1,\"places\":33,\"version\":2}";
-
-// The lift was closed.
-const CLOSED: &str =
-    "HTTP/1.1 200 OK\r\ncontent-type: application/json\r\ncontent-length: 91\r\n\r\n{\"changed\":true,\"closed\":true,\"feature\":\"00000000-0000-4000-8000-000000000301\",\"version\":2}";
-
-// It stood so.
-const AS_ASKED: &str =
-    "HTTP/1.1 200 OK\r\ncontent-type: application/json\r\ncontent-length: 92\r\n\r\n{\"changed\":false,\"closed\":true,\"feature\":\"00000000-0000-4000-8000-000000000301\",\"version\":2}";
 
 // It was closed for wheelchairs.
 const CLOSED_FOR_SOME: &str =
@@ -213,7 +194,7 @@ const ROWS: [Row; 16] = [
         input: &[CLOSURE, LIFT, VERSION, CLOSURE, LIFT],
         fill: 0,
         failing_write: 0,
-        written: &[CLOSED, SECOND, AS_ASKED],
+        written: &[LIFT_CLOSED, CLOSED_LIFT, AS_ASKED],
         end: End::Done,
     },
     // A closure for some.

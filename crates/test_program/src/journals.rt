@@ -5,10 +5,7 @@ pub(crate) mod contents;
 pub(crate) mod outside;
 mod stops;
 
-use crate::hostile::texts::{
-    AS_ASKED, CLOSED_LIFT, CLOSURE, FIRST, JOURNAL_FAULT, LIFT_CLOSED, LIFT_REOPENED,
-    REOPENED_LIFT, REOPENING, VERSION,
-};
+use crate::hostile::texts::{CLOSURE, JOURNAL_FAULT, LIFT_REOPENED, REOPENED_LIFT, REOPENING};
 use contents::{BEGUN, CLOSED, NOTHING, Parts, REOPENED, bytes_of};
 use outside::{BEHIND, Ended, NONE, Plan, Reads, holds, judge, run_planned, session};
 use std::alloc::Global;
@@ -16,6 +13,7 @@ use std::process::Abort;
 use std::sync::Wait;
 use std::test::Fail;
 use std::thread::Threads;
+use test_station::{AS_ASKED, CLOSED_LIFT, FIRST, LIFT_CLOSED, VERSION};
 
 /// What the journal has, which reads of files fail, what is sent and written, and what the journal then has.
 type Session = (

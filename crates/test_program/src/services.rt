@@ -5,14 +5,14 @@ mod kept;
 mod talks;
 
 use crate::hostile::outside::{folders, owned, run_without_disks, stream};
-use crate::hostile::texts::{CLOSURE, FIRST, LIFT_CLOSED, VERSION};
+use crate::hostile::texts::CLOSURE;
 use std::alloc::{AllocError, Global};
 use std::process::Abort;
 use std::sync::Wait;
 use std::test::Fail;
 use std::thread::Threads;
 use talks::{Client, Part, Talks};
-use test_station::{Change, station_files};
+use test_station::{Change, FIRST, LIFT_CLOSED, VERSION, station_files};
 use venue_ports::Doors;
 use venue_program::Outcome;
 

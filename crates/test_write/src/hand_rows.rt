@@ -1,6 +1,7 @@
 //! Rows by hand, one or two of every kind.
 
 use std::alloc::{AllocError, Global};
+use test_station::no_rows;
 use venue_types::{
     AmenityRow, AnchorRow, BuildingRow, DetailRow, FeatureId, Features, FixtureRow, FootprintRow,
     Kind, KioskRow, Label, LevelRow, Line, List, OccupantRow, OpeningRow, OutOfMemory, Part,
@@ -238,27 +239,6 @@ fn detail() -> DetailRow {
     DetailRow {
         id: id(0x501),
         level: Some(id(0x10)),
-    }
-}
-
-fn no_rows(alloc: Global) -> Features {
-    Features {
-        addresses: List::new(alloc),
-        amenities: List::new(alloc),
-        anchors: List::new(alloc),
-        buildings: List::new(alloc),
-        details: List::new(alloc),
-        fixtures: List::new(alloc),
-        footprints: List::new(alloc),
-        geofences: List::new(alloc),
-        kiosks: List::new(alloc),
-        levels: List::new(alloc),
-        occupants: List::new(alloc),
-        openings: List::new(alloc),
-        relationships: List::new(alloc),
-        sections: List::new(alloc),
-        units: List::new(alloc),
-        venues: List::new(alloc),
     }
 }
 

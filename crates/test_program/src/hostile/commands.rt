@@ -1,15 +1,15 @@
 //! The program, while the disk or the console fails.
 
 use super::outside::{Ended, file, joined, run_without_doors};
-use super::texts::{
-    CLOSURE, FIRST, FOLDER_FAULT, LIFT_CLOSED, NEW_FOLDER, PUBLICATION, PUBLISHED, VERSION,
-};
+use super::texts::{CLOSURE, FOLDER_FAULT, NEW_FOLDER, PUBLICATION, PUBLISHED};
 use std::alloc::Global;
 use std::process::Abort;
 use std::sync::Wait;
 use std::test::Fail;
 use std::thread::Threads;
-use test_station::{Change, EVERY, Edit, GONE, MANIFEST, SETTINGS, station_files};
+use test_station::{
+    Change, EVERY, Edit, FIRST, GONE, LIFT_CLOSED, MANIFEST, SETTINGS, VERSION, station_files,
+};
 use venue_ports::MemoryFile;
 
 const CHECK: [&str; 3] = ["check", "base", "station"];

@@ -4,12 +4,12 @@ ghost use Rattle.std.specs.Prelude.{◌≡◌};
 ghost use Rattle.std.specs.Arc.{arc_value};
 
 use super::outside::{base, folders, joined, stream, venue_of};
-use super::texts::{CLOSED_LIFT, CLOSURE, FIRST, VERSION};
+use super::texts::CLOSURE;
 use std::alloc::Global;
 use std::process::Abort;
 use std::sync::Arc;
 use std::test::Fail;
-use test_station::station_settings;
+use test_station::{CLOSED_LIFT, FIRST, VERSION, station_settings};
 use venue_ports::{MemoryFolders, MemoryStream};
 use venue_program::{Alone, End, Unopened, Venue, serve_session};
 use venue_types::Settings;

@@ -6,16 +6,14 @@ ghost use Rattle.venue_program.specs.Making.{shelf_of};
 ghost use Rattle.venue_program.specs.Copied.{entries_in, book_in};
 
 use super::outside::{base, folders, joined, stream, venue_of};
-use super::texts::{
-    CLOSED_LIFT, CLOSURE, FIRST, FOLDER_FAULT, NEW_FOLDER, PUBLICATION, PUBLISHED, VERSION,
-};
+use super::texts::{CLOSURE, FOLDER_FAULT, NEW_FOLDER, PUBLICATION, PUBLISHED};
 use std::alloc::Global;
 use std::marker::Brand;
 use std::process::Abort;
 use std::sync::ledger::Blank;
 use std::sync::{Arc, Wait};
 use std::test::Fail;
-use test_station::{Change as Edits, folder_files, station_settings};
+use test_station::{CLOSED_LIFT, Change as Edits, FIRST, VERSION, folder_files, station_settings};
 use venue_ports::{Failed, Folders, MemoryStream, Stream};
 use venue_program::{
     Copies, End, Hall, HallName, Opened, Seat, close_hall, open_hall, opening_entries,

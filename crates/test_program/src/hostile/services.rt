@@ -5,13 +5,12 @@ ghost use Rattle.venue_ports.specs.Doors.{doors_ready, doors_accepted, doors_bin
 ghost use Rattle.venue_ports.specs.InMemory.{stream_left, stream_written, stream_starts, stream_faults};
 
 use super::outside::{Ended, doors, folders, joined, run_over, stream};
-use super::texts::{FIRST, VERSION};
 use std::alloc::Global;
 use std::process::Abort;
 use std::sync::{Mutex, Wait};
 use std::test::Fail;
 use std::thread::Threads;
-use test_station::{Change, station_files};
+use test_station::{Change, FIRST, VERSION, station_files};
 use venue_ports::{Doors, Failed, MemoryDoors, MemoryStream, Stream};
 
 // A connection in memory. What is written to it is heard.

@@ -1,19 +1,8 @@
 //! What is sent and written, byte for byte.
 
-/// The version asked for, 37 bytes.
-pub(crate) const VERSION: &str = "GET /v1/version HTTP/1.1\r\nhost: a\r\n\r\n";
-
 /// The lift closed: a head of 84 bytes and a body of 64.
 pub(crate) const CLOSURE: &str =
     "POST /v1/closures HTTP/1.1\r\nhost: a\r\nx-staff-key: desk-key-1\r\ncontent-length: 64\r\n\r\n{\"feature\":\"00000000-0000-4000-8000-000000000301\",\"closed\":true}";
-
-/// The lift was closed, as version 2.
-pub(crate) const LIFT_CLOSED: &str =
-    "HTTP/1.1 200 OK\r\ncontent-type: application/json\r\ncontent-length: 91\r\n\r\n{\"changed\":true,\"closed\":true,\"feature\":\"00000000-0000-4000-8000-000000000301\",\"version\":2}";
-
-/// It stood so.
-pub(crate) const AS_ASKED: &str =
-    "HTTP/1.1 200 OK\r\ncontent-type: application/json\r\ncontent-length: 92\r\n\r\n{\"changed\":false,\"closed\":true,\"feature\":\"00000000-0000-4000-8000-000000000301\",\"version\":2}";
 
 /// The lift opened again: a body of 65 bytes.
 pub(crate) const REOPENING: &str =
@@ -26,14 +15,6 @@ pub(crate) const LIFT_REOPENED: &str =
 /// The station published.
 pub(super) const PUBLICATION: &str =
     "POST /v1/publish HTTP/1.1\r\nhost: a\r\nx-staff-key: desk-key-1\r\ncontent-length: 20\r\n\r\n{\"folder\":\"station\"}";
-
-/// Version 1, at which nothing is closed.
-pub(crate) const FIRST: &str =
-    "HTTP/1.1 200 OK\r\ncontent-type: application/json\r\ncontent-length: 36\r\n\r\n{\"closed\":0,\"places\":33,\"version\":1}";
-
-/// Version 2, at which the lift is closed.
-pub(crate) const CLOSED_LIFT: &str =
-    "HTTP/1.1 200 OK\r\ncontent-type: application/json\r\ncontent-length: 36\r\n\r\n{\"closed\":1,\"places\":33,\"version\":2}";
 
 /// Version 3, at which the lift is open again.
 pub(crate) const REOPENED_LIFT: &str =

@@ -2,13 +2,12 @@
 
 use super::contents::{CLOSED, CLOSING, DAMAGED, NOTHING, OPENING, Parts, bytes_of};
 use super::outside::{BEHIND, Ended, NONE, Plan, Reads, SOUND, holds, run_planned, session};
-use crate::hostile::texts::VERSION;
 use std::alloc::Global;
 use std::process::Abort;
 use std::sync::Wait;
 use std::test::Fail;
 use std::thread::Threads;
-use test_station::{EVERY, Edit, GONE, SETTINGS, UNIT};
+use test_station::{EVERY, Edit, GONE, SETTINGS, UNIT, VERSION};
 
 // Worker 1 closes the lift for a third profile.
 const FOR_A_THIRD: [u8; 21] = [

@@ -2,7 +2,7 @@
 
 use super::talks::Talks;
 use super::{ADDRESS, Spoken, clients};
-use crate::hostile::texts::{CLOSURE, LIFT_CLOSED, VERSION};
+use crate::hostile::texts::CLOSURE;
 use crate::journals::contents::{BEGUN, CLOSED, DAMAGED, NOTHING, OPENING, Parts, bytes_of};
 use crate::journals::outside::{
     BEHIND, Ended, NONE, Plan, Reads, holds, judge, run_over, run_planned, session,
@@ -12,6 +12,7 @@ use std::process::Abort;
 use std::sync::Wait;
 use std::test::Fail;
 use std::thread::Threads;
+use test_station::{LIFT_CLOSED, VERSION};
 
 // Two workers, and two connections.
 const BY_TWO: [&str; 7] = ["serve", "base", "station", ADDRESS, "2", "2", "log"];
