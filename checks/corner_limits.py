@@ -9,9 +9,8 @@ import os
 import shutil
 import subprocess
 import sys
-import tempfile
 
-from rooms import TOP, Venue, box, ell, in_metres, set_up
+from rooms import Venue, box, ell, in_metres, judge_rows, set_up
 
 FILE = "finding {} unit.geojson 0 0"
 
@@ -89,16 +88,4 @@ def differences(program, base, row):
     shutil.rmtree(os.path.join(base, "folder"))
 
 
-def main():
-    program = [sys.argv[1]] if len(sys.argv) > 1 else [os.path.join(TOP, "venue")]
-    found = []
-    for row in ROWS:
-        with tempfile.TemporaryDirectory() as base:
-            found += differences(program, base, row)
-    for line in found:
-        print(line, file=sys.stderr)
-    print(f"corner_limits: {len(ROWS)} venues, {len(found)} differences")
-    return 1 if found else 0
-
-
-sys.exit(main())
+sys.exit(judge_rows("corner_limits", ROWS, "venues", differences))

@@ -2,6 +2,8 @@
 import json
 import os
 import shutil
+import sys
+import tempfile
 
 TOP = os.path.join(os.path.dirname(os.path.abspath(__file__)), "..")
 NAME = "00000000-0000-4000-8000-{:0>12}"
@@ -85,3 +87,17 @@ ELL = in_metres([(0, 0), (40, 0), (40, 10), (10, 10), (10, 40), (0, 40)])
 def ell(category="walkway", anchored=True, **more):
     venue = Venue(100 * METRE, 60 * METRE).room([ELL], category=category, **more)
     return venue.anchor(*in_metres([(35, 5), (5, 35)])) if anchored else venue
+
+
+def judge_rows(title, rows, counted, differences):
+    """The status of a script that judges rows, each over a base of its own: 1 where there is a difference. The program is named on the command line,
+    or it is the launcher."""
+    program = [sys.argv[1]] if len(sys.argv) > 1 else [os.path.join(TOP, "venue")]
+    found = []
+    for row in rows:
+        with tempfile.TemporaryDirectory() as base:
+            found += differences(program, base, row)
+    for line in found:
+        print(line, file=sys.stderr)
+    print(f"{title}: {len(rows)} {counted}, {len(found)} differences")
+    return 1 if found else 0

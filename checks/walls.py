@@ -11,9 +11,8 @@ import os
 import shutil
 import subprocess
 import sys
-import tempfile
 
-from rooms import NAME, TOP, Kept, Venue, box, ell, in_metres, set_up
+from rooms import NAME, TOP, Kept, Venue, box, ell, in_metres, judge_rows, set_up
 
 sys.path.append(os.path.join(TOP, "examples"))
 from route_reply import check, features_of, verdict
@@ -140,16 +139,4 @@ def differences(program, base, row):
     shutil.rmtree(os.path.join(base, "folder"))
 
 
-def main():
-    program = [sys.argv[1]] if len(sys.argv) > 1 else [os.path.join(TOP, "venue")]
-    found = []
-    for row in ROWS:
-        with tempfile.TemporaryDirectory() as base:
-            found += differences(program, base, row)
-    for line in found:
-        print(line, file=sys.stderr)
-    print(f"walls: {len(ROWS)} ways, {len(found)} differences")
-    return 1 if found else 0
-
-
-sys.exit(main())
+sys.exit(judge_rows("walls", ROWS, "ways", differences))
